@@ -3,3 +3,7 @@ pub mod Digits
 pub mod Utf8
 pub mod Texts
 pub mod TokenLemmas
+pub mod LineLemmas
+pub mod PushLemmas
+pub mod ListLemmas
+pub mod SchemaLineLemmas

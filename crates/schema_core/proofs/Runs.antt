@@ -33,3 +33,6 @@ pub prefix_len-found : (p : ℕ → Bool) (xs : List ℕ) (n m r : ℕ) (found :
 prefix_len-found p xs n m r found cut first given =
     let shorter : take m xs ≡ take n xs = rw (cut, min_comm (length xs) n) (take_min n xs) in
     given ∙ rw (first, shorter) (unwrap_or-position p (take n xs))
+
+pub unwrap_or-position_or_len : (p : ℕ → Bool) (xs : List ℕ) (found : Option ℕ) (r : ℕ) → found ≡ position p xs → r ≡ unwrap_or found (length xs) → r ≡ position_or_len p xs
+unwrap_or-position_or_len p xs found r first given = given ∙ ap (λ (o : Option ℕ). unwrap_or o (length xs)) first ∙ chosen _ _ (prefix_len-le (λ x. not (p x)) xs)

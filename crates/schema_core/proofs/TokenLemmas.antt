@@ -221,3 +221,11 @@ token_at-Follows (b ∷ bytes) rest token utf8 e =
         ]
       ]
     ]
+
+-- ---- what the loop over a line knows
+
+pub is_nil : {X : Type 0} {front behind : List X} {b : Bool} → front ≡ behind → b ≡ eqb (length front) 0 → b ≡ true → length behind ≡ 0
+is_nil same test ended = rw (← same) (eqb-true _ 0 (sym test ∙ ended))
+
+pub is_some : {X : Type 0} {front behind : List X} {b : Bool} → front ≡ behind → b ≡ eqb (length front) 0 → b ≡ false → 0 < length behind
+is_some same test more = rw (← same) (grind (arith, nat_tests))

@@ -1,15 +1,15 @@
 -- UTF-8 bytes cut and joined at a byte below 128.
 use Rattle.std.proofs.Common.{◌≡◌, ℕ, zero, suc, ◌+◌, ◌<◌, ◌≤◌, Bool, true, false, cond, List, [], ◌∷◌, ◌++◌, length, get_or, take, drop, refl, ap, sym, ◌∙◌, subst, append_assoc, arith, length-append, add-one, lit<}
 use Rattle.std.specs.List.{prefix_len}
-use Rattle.std.specs.Str.{IsUtf8, IsAscii}
+use Rattle.std.specs.Str.{IsUtf8, IsAscii, is_utf8}
 use Rattle.std.specs.Char.{is_ascii_digit}
-use Rattle.std.specs.Prelude.{Result, Ok, Err, MatchResult, IsOk}
-use Rattle.std.proofs.lemmas.Bool.{cond_both}
+use Rattle.std.specs.Prelude.{Result, Ok, Err, MatchResult, IsOk, is_ok}
+use Rattle.std.proofs.lemmas.Bool.{cond_both, false_from_ne_true}
 use Rattle.std.proofs.lemmas.Bool.Decides.{nat_tests}
 use Rattle.schema_core.specs.Names.{is_name_byte}
 use Rattle.std.proofs.lemmas.Grind.{common_steps}
 use Rattle.std.proofs.lemmas.List.{append-nil}
-use Rattle.std.proofs.lemmas.Str.{IsUtf8-append, IsUtf8-take, IsUtf8-drop, IsUtf8-nil, IsCharBoundary-before_ascii, IsCharBoundary-after_ascii, IsUtf8-from_ascii}
+use Rattle.std.proofs.lemmas.Str.{IsUtf8-append, IsUtf8-take, IsUtf8-drop, IsUtf8-nil, IsCharBoundary-before_ascii, IsCharBoundary-after_ascii, IsUtf8-from_ascii, is_utf8-from_IsUtf8, IsUtf8-from_is_utf8}
 
 ascii_at : (front rest : List ℕ) (b : ℕ) → b < 128 → get_or (front ++ b ∷ rest) (length front) 0 < 128
 ascii_at [] rest b small = small
@@ -76,3 +76,7 @@ is_ascii_digit-ascii b e = grind (arith, nat_tests)
 pub IsOk-from_utf8 : {T E : Type 0} (P : T → Type 0) (Q : E → Type 0) (bytes : List ℕ) (r : Result T E) → MatchResult r P (λ e. ¬ (IsUtf8 bytes) × Q e) → IsUtf8 bytes → IsOk r
 IsOk-from_utf8 P Q bytes (Ok x) h utf8 = refl
 IsOk-from_utf8 P Q bytes (Err e) h utf8 = absurd (h.0 utf8)
+
+pub is_utf8-from_utf8 : {T E : Type 0} (P : T → Type 0) (Q : E → Type 0) (bytes : List ℕ) (r : Result T E) (b : Bool) → MatchResult r (λ s. P s × IsUtf8 bytes) (λ e. ¬ (IsUtf8 bytes) × Q e) → b ≡ is_ok r → b ≡ is_utf8 bytes
+is_utf8-from_utf8 P Q bytes (Ok x) b h e = e ∙ sym (is_utf8-from_IsUtf8 bytes h.1)
+is_utf8-from_utf8 P Q bytes (Err x) b h e = e ∙ sym (false_from_ne_true (is_utf8 bytes) (λ t. h.0 (IsUtf8-from_is_utf8 bytes t)))

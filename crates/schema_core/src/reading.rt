@@ -3,7 +3,7 @@
 ghost use Rattle.std.specs.Prelude.{false, ◌≡◌, ◌<◌, ◌≤◌, ◌&&◌, ◌||◌, ◌==◌, ◌≢◌, [], ◌∷◌, ℕ, List, IfSome, IfNone, IfOk, IsTrue, Option, Some, None, length, take, drop, position, not};
 ghost use Rattle.std.specs.Option.{option_map};
 ghost use Rattle.std.specs.Char.{is_ascii_alphabetic, is_ascii_digit};
-ghost use Rattle.std.specs.Str.{IsUtf8};
+ghost use Rattle.std.specs.Str.{IsUtf8, is_utf8};
 ghost use Rattle.std.specs.Str.Parse.{digits_value, AllDigits};
 ghost use Rattle.schema_core.specs.Names.{is_name_byte};
 ghost use Rattle.schema_core.specs.Tokens.{is_blank, after_blanks, begins_blank, is_passed, escaped, with_byte, text_from, one_mark, two_marks, mark_at, name_len, digits_len, quoted_token, token_at, is_word, tokens_from, line_tokens};
@@ -17,6 +17,12 @@ use std::alloc::{AllocError, Global};
 const NAME_BYTES: usize = 64;
 
 const DIGITS: usize = 12;
+
+fn is_utf8(bytes: &[u8]) -> bool
+    ensures { result ≡ is_utf8 bytes.now }
+{
+    str::from_utf8(bytes).is_ok()
+}
 
 fn is_blank(byte: u8) -> bool
     ensures { result ≡ is_blank byte }
@@ -310,12 +316,13 @@ fn tokens_of(alloc: Global, line: &[u8]) -> Result<LineTokens, AllocError>
     }
 }
 
+#[tactic(auto, unfolding(crate::specs::Tokens::line_tokens))]
 /// What a line without its end is. A line that isn't UTF-8 is that first of all, also where it begins like a
 /// comment.
 pub fn read_tokens(alloc: Global, line: &[u8]) -> Result<LineTokens, AllocError>
     ensures { IfOk result (λ found. found ≡ line_tokens line.now) }
 {
-    if str::from_utf8(line).is_err() {
+    if !is_utf8(line) {
         Ok(LineTokens::NotUtf8)
     } else if is_passed(line) {
         Ok(LineTokens::Passed)
