@@ -7,3 +7,7 @@ pub mod LineLemmas
 pub mod PushLemmas
 pub mod ListLemmas
 pub mod SchemaLineLemmas
+pub mod SchemaFileLemmas
+pub mod DistinctLemmas
+pub mod GoodTokens
+pub mod ValidSchemas

@@ -18,7 +18,7 @@ prefix_len-not_not : (p : ℕ → Bool) (xs : List ℕ) → prefix_len (λ x. no
 prefix_len-not_not p [] = refl
 prefix_len-not_not p (x ∷ xs) = next_len (not (not (p x))) (p x) _ _ (not_not (p x)) (prefix_len-not_not p xs)
 
-prefix_len-le : (p : ℕ → Bool) (xs : List ℕ) → prefix_len p xs ≤ length xs
+pub prefix_len-le : (p : ℕ → Bool) (xs : List ℕ) → prefix_len p xs ≤ length xs
 prefix_len-le p [] = omega arith
 prefix_len-le p (x ∷ xs) = elim (p x) as (λ b. cond b (1 + prefix_len p xs) 0 ≤ length (x ∷ xs)) [ true ↦ omega (arith, prefix_len-le p xs) | false ↦ omega arith ]
 

@@ -126,7 +126,7 @@ Left-token line rest read after_word token after left some found apart shorter u
 
 -- ---- the token at the front
 
-token_at-nil : ◌≡◌ {A = Option (Token × List ℕ)} (token_at []) None
+pub token_at-nil : ◌≡◌ {A = Option (Token × List ℕ)} (token_at []) None
 unfolding token_at
 token_at-nil = refl
 
@@ -158,7 +158,7 @@ pub record Follows (bytes rest : List ℕ) : Type 0 where
   pub shorter : length rest < length bytes
   pub utf8 : IsUtf8 rest
 
-mark_or-some : (mark : Option Mark) (left : List ℕ) (other : Option (Token × List ℕ)) (token : Token) (rest : List ℕ) → mark_or mark left other ≡ Some (token, rest)
+pub mark_or-some : (mark : Option Mark) (left : List ℕ) (other : Option (Token × List ℕ)) (token : Token) (rest : List ℕ) → mark_or mark left other ≡ Some (token, rest)
     → ((m : Mark) × (mark ≡ Some m) × (left ≡ rest)) ⊎ ((mark ≡ None) × (other ≡ Some (token, rest)))
 mark_or-some None left other token rest e = inr (refl, e)
 mark_or-some (Some m) left other token rest e = inl (m, refl, (some_pair_parts (Sign m) token left rest e).1)
@@ -192,13 +192,13 @@ run-shorter p n b bytes first =
     let len : prefix_len p (take (suc n) (b ∷ bytes)) ≡ 1 + prefix_len p (take n bytes) = cond-true (p b) _ _ first in
     rw len (omega (arith, length-drop (1 + prefix_len p (take n bytes)) (b ∷ bytes)))
 
-quoted_token-some : (o : Option (List ℕ × List ℕ)) (token : Token) (rest : List ℕ) → quoted_token o ≡ Some (token, rest) → (text : List ℕ) × (o ≡ Some (text, rest)) × (token ≡ Quoted text)
+pub quoted_token-some : (o : Option (List ℕ × List ℕ)) (token : Token) (rest : List ℕ) → quoted_token o ≡ Some (token, rest) → (text : List ℕ) × (o ≡ Some (text, rest)) × (token ≡ Quoted text)
 quoted_token-some None token rest e = absurd (none-some _ e)
 quoted_token-some (Some found) token rest e =
     let parts = some_pair_parts (Quoted found.0) token found.1 rest e in
     (found.0, ap (λ (r : List ℕ). Some (found.0, r)) parts.1, sym parts.0)
 
-letter-is_name_byte : (b : ℕ) → is_ascii_alphabetic b ≡ true → is_name_byte b ≡ true
+pub letter-is_name_byte : (b : ℕ) → is_ascii_alphabetic b ≡ true → is_name_byte b ≡ true
 letter-is_name_byte b e = grind (arith, nat_tests)
 
 pub token_at-Follows : (bytes rest : List ℕ) (token : Token) → IsUtf8 bytes → token_at bytes ≡ Some (token, rest) → Follows bytes rest

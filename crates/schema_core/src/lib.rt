@@ -16,7 +16,7 @@ pub mod text;
 pub mod tokens;
 
 pub use limits::{Limit, Limits};
-pub use lines::line_end;
+pub use lines::{line_end, split_line};
 pub use list::List;
 pub use quoting::push_quoted;
 pub use reading::read_tokens;

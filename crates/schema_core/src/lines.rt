@@ -54,3 +54,13 @@ pub fn line_end(bytes: &[u8], from: usize) -> (usize, usize)
     let (len, next) = first_line(&bytes[from..]);
     (from + len, from + next)
 }
+
+/// The first line without its end, and the bytes from the next line on.
+pub fn split_line(bytes: &[u8]) -> (&[u8], &[u8])
+    requires { 0 < length bytes.now }
+    ensures line { lines bytes.now ≡ result.0.now ∷ lines result.1.now }
+    ensures shorter { length result.1.now < length bytes.now }
+{
+    let (len, next) = first_line(bytes);
+    (&bytes[..len], &bytes[next..])
+}

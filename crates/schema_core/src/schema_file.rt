@@ -5,12 +5,12 @@ ghost use Rattle.schema_core.specs.Limits.{AreLimits};
 ghost use Rattle.schema_core.specs.Schemas.{IsValidSchema};
 ghost use Rattle.schema_core.specs.Lines.{lines};
 ghost use Rattle.schema_core.specs.Tokens.{line_tokens};
-ghost use Rattle.schema_core.specs.Drafts.{Steps};
+ghost use Rattle.schema_core.specs.Drafts.{Steps, fault_at};
 ghost use Rattle.schema_core.specs.SchemaFiles.{begins_attr, counts_as_attr, attr_follows, read_line, reads, IsUnlessMemory};
 
 use crate::draft::{Draft, Refusal};
 use crate::limits::Limits;
-use crate::lines::line_end;
+use crate::lines::split_line;
 use crate::list::List;
 use crate::reading::read_tokens;
 use crate::schema::{Schema, SchemaCause, SchemaFault};
@@ -46,12 +46,11 @@ fn attr_follows(alloc: Global, bytes: &[u8]) -> Result<bool, AllocError>
 {
     let mut rest = bytes;
     while !rest.is_empty() {
-        let (end, next) = line_end(rest, 0);
-        let line = read_tokens(alloc, &rest[..end])?;
-        if let Some(counts) = counts_as_attr(&line) {
+        let (line, behind) = split_line(rest);
+        if let Some(counts) = counts_as_attr(&read_tokens(alloc, line)?) {
             return Ok(counts);
         }
-        rest = &rest[next..];
+        rest = behind;
     }
     Ok(false)
 }
@@ -78,6 +77,15 @@ fn read_line(
     }
 }
 
+fn fault_at(line: usize, refusal: Refusal) -> SchemaFault
+    ensures { result ≡ fault_at line refusal }
+{
+    match refusal {
+        Refusal::Memory => SchemaFault::Memory,
+        Refusal::Cause(cause) => SchemaFault::At { line, cause },
+    }
+}
+
 /// The schema that the bytes spell, or the first faulty line with the first cause that it has, in the order of
 /// the variants of `SchemaCause`.
 pub fn parse_schema(alloc: Global, bytes: &[u8], limits: &Limits) -> Result<Schema, SchemaFault>
@@ -89,18 +97,12 @@ pub fn parse_schema(alloc: Global, bytes: &[u8], limits: &Limits) -> Result<Sche
     let mut rest = bytes;
     let mut number = 1;
     while !rest.is_empty() {
-        let (end, next) = line_end(rest, 0);
-        match read_line(alloc, limits, draft, &rest[..end], &rest[next..]) {
+        let (line, behind) = split_line(rest);
+        match read_line(alloc, limits, draft, line, behind) {
             Ok(further) => draft = further,
-            Err(Refusal::Cause(cause)) => {
-                return Err(SchemaFault::At {
-                    line: number,
-                    cause,
-                });
-            }
-            Err(Refusal::Memory) => return Err(SchemaFault::Memory),
+            Err(refusal) => return Err(fault_at(number, refusal)),
         }
-        rest = &rest[next..];
+        rest = behind;
         number += 1;
     }
     match draft.finish() {
