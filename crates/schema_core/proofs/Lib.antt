@@ -11,3 +11,7 @@ pub mod SchemaFileLemmas
 pub mod DistinctLemmas
 pub mod GoodTokens
 pub mod ValidSchemas
+pub mod SpelledTexts
+pub mod PrintLemmas
+pub mod SpelledLines
+pub mod RoundTrip

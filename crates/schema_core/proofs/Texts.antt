@@ -67,11 +67,11 @@ text_from-at_quote b text bytes all after quote parts so_far = sym (ap (with_fro
 
 -- ---- texts are UTF-8
 
-with_byte-some : (b : ℕ) (o : Option (List ℕ × List ℕ)) (text rest : List ℕ) → with_byte b o ≡ Some (text, rest) → (tail : List ℕ) × (o ≡ Some (tail, rest)) × (b ∷ tail ≡ text)
+pub with_byte-some : (b : ℕ) (o : Option (List ℕ × List ℕ)) (text rest : List ℕ) → with_byte b o ≡ Some (text, rest) → (tail : List ℕ) × (o ≡ Some (tail, rest)) × (b ∷ tail ≡ text)
 with_byte-some b None text rest e = absurd (none-some _ e)
 with_byte-some b (Some found) text rest e = let parts = some_pair_parts (b ∷ found.0) text found.1 rest e in (found.0, ap (λ (r : List ℕ). Some (found.0, r)) parts.1, parts.0)
 
-with_escaped-some : (m : Option ℕ) (o : Option (List ℕ × List ℕ)) (text rest : List ℕ) → with_escaped m o ≡ Some (text, rest) → (b : ℕ) × (m ≡ Some b) × (tail : List ℕ) × (o ≡ Some (tail, rest)) × (b ∷ tail ≡ text)
+pub with_escaped-some : (m : Option ℕ) (o : Option (List ℕ × List ℕ)) (text rest : List ℕ) → with_escaped m o ≡ Some (text, rest) → (b : ℕ) × (m ≡ Some b) × (tail : List ℕ) × (o ≡ Some (tail, rest)) × (b ∷ tail ≡ text)
 with_escaped-some None o text rest e = absurd (none-some _ e)
 with_escaped-some (Some b) o text rest e = let found = with_byte-some b o text rest e in (b, refl, found.0, found.1, found.2)
 
@@ -82,11 +82,11 @@ pub text_from-at_end : (text bytes all : List ℕ) → bytes ≡ [] → with_fro
 unfolding text_from
 text_from-at_end text bytes all ended so_far = sym (ap (λ (b : List ℕ). with_front text (text_from b)) ended) ∙ so_far
 
-text_from-nil : ◌≡◌ {A = Option (List ℕ × List ℕ)} (text_from []) None
+pub text_from-nil : ◌≡◌ {A = Option (List ℕ × List ℕ)} (text_from []) None
 unfolding text_from
 text_from-nil = refl
 
-text_from-lone : (b : ℕ) → b ≢ 39 → text_from (b ∷ []) ≡ None
+pub text_from-lone : (b : ℕ) → b ≢ 39 → text_from (b ∷ []) ≡ None
 unfolding text_from
 text_from-lone b quote = rw (ne_eqb b 39 quote) refl
 

@@ -64,7 +64,7 @@ IsUtf8-after_blanks (b ∷ bytes) utf8 =
 -- ---- how the line ends, or goes on
 
 -- Where only blanks are left, these are all tokens.
-tokens_from-end : (room : ℕ) (after_word : Bool) (rest : List ℕ) → length (after_blanks rest) ≡ 0 → tokens_from room after_word rest ≡ Tokens []
+pub tokens_from-end : (room : ℕ) (after_word : Bool) (rest : List ℕ) → length (after_blanks rest) ≡ 0 → tokens_from room after_word rest ≡ Tokens []
 unfolding tokens_from
 tokens_from-end zero after_word rest ended = refl
 tokens_from-end (suc room) after_word rest ended = cond-true (eqb (length (after_blanks rest)) 0) _ _ (eq-eqb _ 0 ended)
@@ -77,7 +77,7 @@ tokens_from-none (suc room) after_word rest some enough none =
     cond-false (eqb (length (after_blanks rest)) 0) _ _ (ne_eqb _ 0 (omega arith)) ∙ rw none refl
 
 -- Where one is at the front, the rest follows it, unless it is a word right behind a word.
-tokens_from-token : (room : ℕ) (after_word : Bool) (rest : List ℕ) (token : Token) (left : List ℕ) → 0 < length (after_blanks rest) → token_at (after_blanks rest) ≡ Some (token, left)
+pub tokens_from-token : (room : ℕ) (after_word : Bool) (rest : List ℕ) (token : Token) (left : List ℕ) → 0 < length (after_blanks rest) → token_at (after_blanks rest) ≡ Some (token, left)
     → tokens_from (suc room) after_word rest ≡ and_then (after_word && not (begins_blank rest)) (Some (token, left)) (tokens_from room)
 unfolding tokens_from
 tokens_from-token room after_word rest token left some found =
@@ -86,7 +86,7 @@ tokens_from-token room after_word rest token left some found =
 and_then-touching : (touches : Bool) (token : Token) (left : List ℕ) (rest : Bool → List ℕ → LineTokens) → (touches && is_word token) ≡ true → and_then touches (Some (token, left)) rest ≡ BadTokens []
 and_then-touching touches token left rest e = cond-true (touches && is_word token) _ _ e
 
-and_then-apart : (touches : Bool) (token : Token) (left : List ℕ) (rest : Bool → List ℕ → LineTokens) → (touches && is_word token) ≡ false → and_then touches (Some (token, left)) rest ≡ with_token token (rest (is_word token) left)
+pub and_then-apart : (touches : Bool) (token : Token) (left : List ℕ) (rest : Bool → List ℕ → LineTokens) → (touches && is_word token) ≡ false → and_then touches (Some (token, left)) rest ≡ with_token token (rest (is_word token) left)
 and_then-apart touches token left rest e = cond-false (touches && is_word token) _ _ e
 
 pub Left-end : (line rest : List ℕ) (read : List Token) (after_word : Bool) → Left line read after_word rest → length (after_blanks rest) ≡ 0 → Tokens read ≡ tokens_from (length line) false line

@@ -7,4 +7,7 @@ pub mod TokenLists
 pub mod SchemaLines
 pub mod SchemaFiles
 pub mod Drafts
+pub mod Spelling
+pub mod SchemaText
 pub mod Appending
+pub mod OneSpelling

@@ -3,6 +3,7 @@
 ghost use Rattle.std.specs.Prelude.{◌≡◌, ◌++◌, OnOk, OnErr};
 ghost use Rattle.schema_core.specs.Tokens.{escape_of, piece, quoted};
 ghost use Rattle.schema_core.specs.Appending.{AppendsPart};
+ghost use Rattle.schema_core.specs.OneSpelling.{HasOneSpelling};
 
 use std::alloc::AllocError;
 
@@ -37,6 +38,7 @@ fn push_piece(out: &mut Vec<u8>, byte: u8) -> Result<(), AllocError>
 pub fn push_quoted(out: &mut Vec<u8>, text: &str) -> Result<(), AllocError>
     ensures ok { OnOk result (out.new.items ≡ out.old.items ++ quoted text.now) }
     ensures err { OnErr result (AppendsPart out.old.items out.new.items (quoted text.now)) }
+    ensures one_spelling { HasOneSpelling text.now }
 {
     out.push(b'\'')?;
     for byte in text.as_bytes() {
