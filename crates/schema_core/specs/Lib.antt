@@ -1,0 +1,13 @@
+pub mod Limits
+pub mod Names
+pub mod Schemas
+pub mod Lines
+pub mod Tokens
+pub mod TokenLists
+pub mod SchemaLines
+pub mod SchemaFiles
+pub mod Drafts
+pub mod Spelling
+pub mod SchemaText
+pub mod Appending
+pub mod OneSpelling

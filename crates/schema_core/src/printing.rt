@@ -1,0 +1,107 @@
+//! The canonical text of a schema.
+
+ghost use Rattle.std.specs.Prelude.{◌≡◌, ◌∷◌, [], ◌++◌, IfOk, OnOk, Ok, codes};
+ghost use Rattle.schema_core.specs.Limits.{standard};
+ghost use Rattle.schema_core.specs.Schemas.{IsValidSchema};
+ghost use Rattle.schema_core.specs.Spelling.{others_text, file_text};
+ghost use Rattle.schema_core.specs.SchemaText.{value_tokens, domain_tokens, attr_text, head_text, table_lines, file_lines, canonical};
+ghost use Rattle.schema_core.specs.SchemaFiles.{reads};
+
+use crate::quoting::push_quoted;
+use crate::schema::{Attr, Domain, Schema, Table};
+use crate::text::Text;
+use std::alloc::{AllocError, Global};
+
+fn push_values(out: &mut Vec<u8>, values: &[Text]) -> Result<(), AllocError>
+    ensures { OnOk result (out.new.items ≡ out.old.items ++ others_text (value_tokens values.now)) }
+{
+    for (i, value) in values.iter().enumerate() {
+        out.extend_from_slice(if i == 0 { b" " } else { b", " })?;
+        push_quoted(out, value.as_str())?;
+    }
+    Ok(())
+}
+
+fn push_domain(out: &mut Vec<u8>, domain: &Domain) -> Result<(), AllocError>
+    ensures { OnOk result (out.new.items ≡ out.old.items ++ others_text (domain_tokens domain.now)) }
+{
+    match domain {
+        Domain::AnyText => Ok(()),
+        Domain::Finite(values) => {
+            out.extend_from_slice(b" in")?;
+            push_values(out, values.as_slice())
+        }
+    }
+}
+
+fn push_attr(out: &mut Vec<u8>, attr: &Attr) -> Result<(), AllocError>
+    ensures { OnOk result (out.new.items ≡ out.old.items ++ (attr_text attr.now ++ 10 ∷ [])) }
+{
+    out.extend_from_slice(b"attr ")?;
+    out.extend_from_slice(attr.name.as_str().as_bytes())?;
+    push_domain(out, &attr.domain)?;
+    out.push(b'\n')?;
+    Ok(())
+}
+
+fn push_head(out: &mut Vec<u8>, table: &Table) -> Result<(), AllocError>
+    ensures { OnOk result (out.new.items ≡ out.old.items ++ (head_text table.now ++ 10 ∷ [])) }
+{
+    if table.master {
+        out.extend_from_slice(b"master ")?;
+    } else {
+        out.extend_from_slice(b"table ")?;
+    }
+    out.extend_from_slice(table.name.as_str().as_bytes())?;
+    out.push(b' ')?;
+    push_quoted(out, table.file.as_str())?;
+    out.push(b'\n')?;
+    Ok(())
+}
+
+fn push_table(out: &mut Vec<u8>, table: &Table) -> Result<(), AllocError>
+    ensures { OnOk result (out.new.items ≡ out.old.items ++ file_text (table_lines table.now)) }
+{
+    push_head(out, table)?;
+    for attr in table.attrs.as_slice() {
+        push_attr(out, attr)?;
+    }
+    Ok(())
+}
+
+fn push_rules(out: &mut Vec<u8>, file: &Option<Text>) -> Result<(), AllocError>
+    ensures { OnOk result (out.new.items ≡ out.old.items ++ file_text (file_lines (codes "rules") file.now)) }
+{
+    if let Some(file) = file {
+        out.extend_from_slice(b"rules ")?;
+        push_quoted(out, file.as_str())?;
+        out.push(b'\n')?;
+    }
+    Ok(())
+}
+
+fn push_script(out: &mut Vec<u8>, file: &Option<Text>) -> Result<(), AllocError>
+    ensures { OnOk result (out.new.items ≡ out.old.items ++ file_text (file_lines (codes "script") file.now)) }
+{
+    if let Some(file) = file {
+        out.extend_from_slice(b"script ")?;
+        push_quoted(out, file.as_str())?;
+        out.push(b'\n')?;
+    }
+    Ok(())
+}
+
+/// The canonical text of the schema.
+pub fn print_schema(alloc: Global, schema: &Schema) -> Result<Vec<u8>, AllocError>
+    requires { IsValidSchema schema.now }
+    ensures text { IfOk result (λ text. text.items ≡ canonical schema.now) }
+    ensures read_again { IfOk result (λ text. reads standard text.items ≡ Ok schema.now) }
+{
+    let mut out = Vec::new(alloc);
+    for table in schema.tables.as_slice() {
+        push_table(&mut out, table)?;
+    }
+    push_rules(&mut out, &schema.rules)?;
+    push_script(&mut out, &schema.script)?;
+    Ok(out)
+}
