@@ -1,5 +1,5 @@
 -- What moves of pairs leave at each place, and what look-ups say of the keys.
-use Rattle.std.proofs.Common.{◌≡◌, ◌≢◌, ℕ, zero, suc, ◌+◌, ◌-◌, ◌<◌, ◌≤◌, ◌⊎◌, Bool, true, false, cond, not, nat_lt, List, [], ◌∷◌, ◌++◌, map, length, get_or, set, take, swap, swap_remove, slice_get, position, Option, Some, None, refl, sym, ap, ◌∙◌, subst, inl, inr, arith, lt-ltb, true≢false, is_some, IfSome, IfNone}
+use Rattle.std.proofs.Common.{◌≡◌, ◌≢◌, ℕ, zero, suc, ◌+◌, ◌-◌, ◌<◌, ◌≤◌, ◌⊎◌, Bool, true, false, cond, not, nat_lt, List, [], ◌∷◌, ◌++◌, map, length, get_or, set, take, swap, swap_remove, slice_get, position, Option, Some, None, refl, sym, ap, ◌∙◌, subst, inl, inr, arith, lt-ltb, true≢false, is_some, IsSome, IfSome, IfNone, Result, Ok, Err, IfOk, OnOk, OnErr, length-append}
 use borrow.Author.Tests.{ltb-true}
 use Rattle.std.specs.List.{position_or_len, IsDistinct, AllByRecursion}
 use Rattle.std.specs.Map.{keys_of, lookup}
@@ -8,7 +8,7 @@ use Rattle.std.proofs.lemmas.Bool.{cases_lt, cases_eq}
 use Rattle.std.proofs.lemmas.List.{length-set, length-take-le, get_or-set_same, get_or-set_other, get_or-take}
 use Rattle.std.proofs.lemmas.List.Edits.{swapped_from_swap, length-swap}
 use Rattle.std.proofs.lemmas.Option.{cond_some, none-some, same_Some, slice_get-get_or, slice_get_past, slice_get_within}
-use Rattle.marked_map.specs.MarkedMap.{MarkedPairs, with_mark, without_mark, without_pair, KeepsOthers, IsMarked, IsUnmarked, HasKey, IsAbsent, AreDistinct}
+use Rattle.marked_map.specs.MarkedMap.{MarkedPairs, with_mark, without_mark, without_pair, KeepsOthers, IsMarked, IsUnmarked, HasKey, IsAbsent, AreDistinct, Enters}
 
 -- ---- a swap, place by place
 module _ {X : Type 0} where
@@ -250,3 +250,85 @@ module _ {K : Type 0} (t : K → Bool) where
 
     pub lookup-NonePasses : (es : List (K × V)) → lookup t es ≡ None → NonePasses (keys_of es)
     lookup-NonePasses es none = NonePasses-place (keys_of es) (omega (arith, lookup-place es none, length-keys es))
+
+    -- a key that is found is at its first place
+    lookup-Passes : (es : List (K × V)) (value : V) → lookup t es ≡ Some value → Passes (keys_of es) (position_or_len t (keys_of es))
+    lookup-Passes [] value some = absurd (none-some value some)
+    lookup-Passes (e ∷ es) value some = by (t e.0) refl (lookup-Passes es value)
+      where
+        by : (b : Bool) → t e.0 ≡ b → (lookup t es ≡ Some value → Passes (keys_of es) (position_or_len t (keys_of es))) → Passes (keys_of (e ∷ es)) (position_or_len t (keys_of (e ∷ es)))
+        by true h rest = rw (place-first e.0 (keys_of es) h) (e.0, refl, h)
+        by false h rest = rw (place-later e.0 (keys_of es) h) (rest (sym (ap (λ b. cond b (Some e.1) (lookup t es)) h) ∙ some))
+
+-- what entering a key does to the map, from what it does to the entries
+module _ {K V : Type 0} (same : K → K → Bool) (m : MarkedPairs K V) (key : K) (fresh : V) (place : ℕ) (new : List (K × V))
+    (first : place ≡ position_or_len (same key) (keys_of m.pairs))
+    (found : IsSome (lookup (same key) m.pairs) → new ≡ m.pairs)
+    (pushed : lookup (same key) m.pairs ≡ None → new ≡ m.pairs ++ (key, fresh) ∷ []) where
+  pub Enters-place : Enters same m key fresh place (record { pairs = new; marked = m.marked })
+  Enters-place = by (lookup (same key) m.pairs) refl
+    where
+      by : (answer : Option V) → lookup (same key) m.pairs ≡ answer → Enters same m key fresh place (record { pairs = new; marked = m.marked })
+      by (Some value) e =
+          inl (
+            subst (HasKey same m key) (sym first) (lookup-Passes (same key) m.pairs value e),
+            ap (λ (pairs : List (K × V)). record m { pairs = pairs }) (found (subst IsSome (sym e) refl)),
+          )
+      by None e =
+          inr (
+            lookup-NonePasses (same key) m.pairs e,
+            first ∙ lookup-place (same key) m.pairs e,
+            ap (λ (pairs : List (K × V)). record m { pairs = pairs }) (pushed e),
+          )
+
+-- an entered key stands in the map
+pub Enters-within : {K V : Type 0} (same : K → K → Bool) (old new : MarkedPairs K V) (key : K) (fresh : V) (place : ℕ) → Enters same old key fresh place new → place < length new.pairs
+Enters-within same old new key fresh place (inl h) =
+    omega (arith, slice_get_within (keys_of old.pairs) place h.0.0 h.0.1, length-keys (same key) old.pairs, ap (λ m. length m.pairs) h.1)
+Enters-within same old new key fresh place (inr h) =
+    omega (arith, h.1, ap (λ m. length m.pairs) h.2, length-append old.pairs ((key, fresh) ∷ []))
+
+-- ---- the same of a map that is seen by its parts, as the calls leave it
+module _ {K V : Type 0} (old : MarkedPairs K V) (place marked : ℕ) (before after : List (K × V)) where
+  -- after is before, with a pair moved
+  pub KeepsOthers-mark : record { pairs = before; marked = marked } ≡ old → place < length old.pairs → marked ≤ place → after ≡ swap before place marked
+      → KeepsOthers old place (record { pairs = after; marked = marked + 1 })
+  KeepsOthers-mark seen within unmarked moved =
+      let parts : MarkedPairs K V = record { pairs = before; marked = marked } in
+      let inside : place < length before = omega (arith, within, ap (λ m. length m.pairs) seen) in
+      let whole : KeepsOthers parts place (record { pairs = after; marked = marked + 1 }) = rw moved (KeepsOthers-with_mark parts place inside unmarked) in
+      subst (λ m. KeepsOthers m place (record { pairs = after; marked = marked + 1 })) seen whole
+
+  pub KeepsOthers-unmark : record { pairs = before; marked = marked } ≡ old → place < marked → marked ≤ length before → after ≡ swap before place (marked - 1)
+      → KeepsOthers old place (record { pairs = after; marked = marked - 1 })
+  KeepsOthers-unmark seen low fits moved =
+      let parts : MarkedPairs K V = record { pairs = before; marked = marked } in
+      let whole : KeepsOthers parts place (record { pairs = after; marked = marked - 1 }) = rw moved (KeepsOthers-without_mark parts place (omega arith) low fits) in
+      subst (λ m. KeepsOthers m place (record { pairs = after; marked = marked - 1 })) seen whole
+
+  pub KeepsOthers-remove : (taken : K × V) → record { pairs = before; marked = marked } ≡ old → place < length old.pairs → marked ≤ place → after ≡ swap_remove before place taken
+      → KeepsOthers old place (record { pairs = after; marked = marked })
+  KeepsOthers-remove taken seen within unmarked moved =
+      let parts : MarkedPairs K V = record { pairs = before; marked = marked } in
+      let inside : place < length before = omega (arith, within, ap (λ m. length m.pairs) seen) in
+      let whole : KeepsOthers parts place (record { pairs = after; marked = marked }) = rw moved (KeepsOthers-without_pair parts place inside taken unmarked) in
+      subst (λ m. KeepsOthers m place (record { pairs = after; marked = marked })) seen whole
+
+-- ---- the same of a key that was entered
+module _ {K V E : Type 0} (same : K → K → Bool) (old : MarkedPairs K V) (key : K) (fresh : V) (marked : ℕ) (before after : List (K × V))
+    (seen : record { pairs = before; marked = marked } ≡ old) where
+  pub Enters-answer : (answer : Result ℕ E) → IfOk answer (λ place. place ≡ position_or_len (same key) (keys_of before))
+      → OnOk answer (IsSome (lookup (same key) before) → after ≡ before) → OnOk answer (lookup (same key) before ≡ None → after ≡ before ++ (key, fresh) ∷ [])
+      → IfOk answer (λ place. Enters same old key fresh place (record { pairs = after; marked = marked }))
+  Enters-answer (Err e) first found pushed = tt
+  Enters-answer (Ok place) first found pushed =
+      let parts : MarkedPairs K V = record { pairs = before; marked = marked } in
+      subst (λ m. Enters same m key fresh place (record { pairs = after; marked = marked })) seen (Enters-place same parts key fresh place after first found pushed)
+
+  pub IsAbsent-answer : (answer : Result ℕ E) → OnErr answer (lookup (same key) before ≡ None) → OnErr answer (IsAbsent same old key)
+  IsAbsent-answer (Ok place) none = tt
+  IsAbsent-answer (Err e) none = subst (λ m. IsAbsent same m key) seen (lookup-NonePasses (same key) before none)
+
+  pub within-answer : (answer : Result ℕ E) → IfOk answer (λ place. Enters same old key fresh place (record { pairs = after; marked = marked })) → IfOk answer (λ place. place < length after)
+  within-answer (Err e) entered = tt
+  within-answer (Ok place) entered = Enters-within same old (record { pairs = after; marked = marked }) key fresh place entered

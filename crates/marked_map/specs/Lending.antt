@@ -1,8 +1,7 @@
 -- What a map ends as, once a `&mut` to one of its values has ended.
 use Rattle.std.specs.Prelude.{ℕ}
 use Rattle.std.specs.Borrow.{Fml, RattleType, MutBor, Lends}
-use Rattle.std.specs.declared.cmp.PartialEq as eq
-use Rattle.std.specs.declared.hash.Hash as hash
+use Rattle.std.specs.HashMap.Lent.{HashMembers}
 use Rattle.indexmap.specs.IndexMap.{set_value_at}
 use Rattle.marked_map.specs.MarkedMap.{MarkedPairs}
 use Rattle.marked_map.specs.contracts.MarkedMap.{the_row}
@@ -12,5 +11,5 @@ abbrev pub with_value : {K V : Type 0} → MarkedPairs K V → ℕ → V → Mar
 with_value m place w = record m { pairs = set_value_at m.pairs place w }
 
 -- the map ends with the last value written through r at the place
-abbrev pub lends_value : (K V : RattleType) {g : eq.Ghosts K.Denot} {h : hash.Ghosts K.Denot} → MutBor (MarkedPairs K.Denot V.Denot) → ℕ → MutBor V.Denot → Fml
-lends_value K V {g} {h} m place r = Lends (the_row K V g h) V m r (with_value m.now place)
+abbrev pub lends_value : (K V : RattleType) → HashMembers K.Denot → MutBor (MarkedPairs K.Denot V.Denot) → ℕ → MutBor V.Denot → Fml
+lends_value K V key m place r = Lends (the_row K V (record { eq = key.eq }) (record { hash_input = key.hash_input })) V m r (with_value m.now place)

@@ -3,9 +3,10 @@
 // the same time however many pairs there are.
 #![tactic(auto)]
 
-ghost use Rattle.std.specs.Prelude.{◌≡◌, ◌+◌, ◌-◌, ◌<◌, ◌≤◌, [], length, slice_get, swap, swap_remove, Some, IfSome, IfNone, IfOk, OnErr};
+ghost use Rattle.std.specs.Prelude.{◌≡◌, ◌+◌, ◌-◌, ◌<◌, ◌≤◌, ◌++◌, [], ◌∷◌, length, slice_get, None, IfSome, IfNone, IfOk, OnOk, OnErr};
 ghost use Rattle.std.specs.Borrow.{sem};
 ghost use Rattle.std.specs.Map.{keys_of, values_of};
+ghost use Rattle.indexmap.specs.IndexMap.{get, insert_index, ContainsKey, IsUnique};
 ghost use Rattle.marked_map.specs.Lending.{lends_value};
 ghost use Rattle.marked_map.specs.MarkedMap.{AreDistinct, Enters, HasKey, IsAbsent, KeepsOthers, with_mark, without_mark, without_pair};
 
@@ -97,14 +98,7 @@ impl<K: Eq + Hash, V> MarkedMap<K, V> {
         ensures distinct { AreDistinct K.eq self.new }
     {
         steps.tick();
-        match self.map.entry(key)? {
-            Entry::Occupied(entry) => Ok(entry.index()),
-            Entry::Vacant(entry) => {
-                let place = entry.index();
-                entry.insert(fresh);
-                Ok(place)
-            }
-        }
+        find_or_push(&mut self.map, key, fresh)
     }
 
     /// The key at a place.
@@ -127,7 +121,7 @@ impl<K: Eq + Hash, V> MarkedMap<K, V> {
     /// The value at a place, to write.
     pub fn value_at_mut(&mut self, place: usize) -> &mut V
         requires { place < length self.old.pairs }
-        ensures* writes_back { sem 𝓛 (lends_value K.row V.row self.entry place result) }
+        ensures* writes_back { sem 𝓛 (lends_value K.row V.row K.Hash self.entry place result) }
         ensures value { slice_get (values_of self.old.pairs) place ≡ Some result.now }
     {
         &mut self.map[place]
@@ -148,6 +142,8 @@ impl<K: Eq + Hash, V> MarkedMap<K, V> {
         if place < self.marked {
             return place;
         }
+        // The length is what says that one more fits.
+        let _len = self.map.len();
         let first_unmarked = self.marked;
         self.map.swap_indices(place, first_unmarked);
         self.marked += 1;
@@ -189,5 +185,31 @@ impl<K: Eq + Hash, V> MarkedMap<K, V> {
     {
         let place = self.unmark_at(place);
         self.map.swap_remove_index(place).unwrap()
+    }
+}
+
+// The index of a key, which goes last, with the fresh value, where it is new. It hashes the key once.
+fn find_or_push<K: Eq + Hash + Drop, V: Drop>(
+    map: &mut IndexMap<K, V>,
+    key: K,
+    fresh: V,
+) -> Result<usize, AllocError>
+    ensures index { IfOk result (λ place. place ≡ insert_index K.eq map.old key) }
+    ensures found { OnOk result (ContainsKey K.eq map.old key → map.new.entries ≡ map.old.entries) }
+    ensures pushed { OnOk result (get K.eq map.old key ≡ None → map.new.entries ≡ map.old.entries ++ (key, fresh) ∷ []) }
+
+    // Only a new key can fail.
+    ensures absent { OnErr result (get K.eq map.old key ≡ None) }
+    ensures err { OnErr result (map.new.entries ≡ map.old.entries) }
+    ensures unique { IsUnique K.eq map.new }
+{
+    match map.entry(key) {
+        Err(_) => Err(AllocError),
+        Ok(Entry::Occupied(entry)) => Ok(entry.index()),
+        Ok(Entry::Vacant(entry)) => {
+            let place = entry.index();
+            entry.insert(fresh);
+            Ok(place)
+        }
     }
 }
