@@ -213,3 +213,6 @@ fn find_or_push<K: Eq + Hash + Drop, V: Drop>(
         }
     }
 }
+
+#[cfg(test)]
+mod tests;
