@@ -1,17 +1,18 @@
-// A hashed map whose marked keys come first, so that they can be gone through without the others. It
-// is a list of pairs with distinct keys; a key is looked up in one counted probe, and each call takes
-// the same time however many pairs there are.
+// A hashed map whose marked keys come first, so that they can be gone through without the others.
+// Contracts see a list of pairs with distinct keys. A key is looked up in one counted probe, and no call
+// goes over the pairs.
 #![tactic(auto)]
 
-ghost use Rattle.std.specs.Prelude.{◌≡◌, ◌+◌, ◌-◌, ◌<◌, ◌≤◌, ◌++◌, [], ◌∷◌, length, slice_get, None, IfSome, IfNone, IfOk, OnOk, OnErr};
+ghost use Rattle.std.specs.Prelude.{◌≡◌, ◌+◌, ◌-◌, ◌<◌, ◌≤◌, [], length, slice_get, IfSome, IfNone, IfOk, OnErr};
 ghost use Rattle.std.specs.Borrow.{sem};
 ghost use Rattle.std.specs.Map.{keys_of, values_of};
-ghost use Rattle.indexmap.specs.IndexMap.{get, insert_index, ContainsKey, IsUnique};
 ghost use Rattle.marked_map.specs.Lending.{lends_value};
 ghost use Rattle.marked_map.specs.MarkedMap.{AreDistinct, Enters, HasKey, IsAbsent, KeepsOthers, with_mark, without_mark, without_pair};
 
+mod entry;
+
+use entry::find_or_push;
 use indexmap::IndexMap;
-use indexmap::map::Entry;
 use probe_steps::Steps;
 use std::alloc::{AllocError, Global};
 use std::hash::Hash;
@@ -97,8 +98,7 @@ impl<K: Eq + Hash, V> MarkedMap<K, V> {
         ensures probes { steps.new ≡ steps.old + 1 }
         ensures distinct { AreDistinct K.eq self.new }
     {
-        steps.tick();
-        find_or_push(&mut self.map, key, fresh)
+        find_or_push(&mut self.map, key, fresh, steps)
     }
 
     /// The key at a place.
@@ -185,32 +185,6 @@ impl<K: Eq + Hash, V> MarkedMap<K, V> {
     {
         let place = self.unmark_at(place);
         self.map.swap_remove_index(place).unwrap()
-    }
-}
-
-// The index of a key, which goes last, with the fresh value, where it is new. It hashes the key once.
-fn find_or_push<K: Eq + Hash + Drop, V: Drop>(
-    map: &mut IndexMap<K, V>,
-    key: K,
-    fresh: V,
-) -> Result<usize, AllocError>
-    ensures index { IfOk result (λ place. place ≡ insert_index K.eq map.old key) }
-    ensures found { OnOk result (ContainsKey K.eq map.old key → map.new.entries ≡ map.old.entries) }
-    ensures pushed { OnOk result (get K.eq map.old key ≡ None → map.new.entries ≡ map.old.entries ++ (key, fresh) ∷ []) }
-
-    // Only a new key can fail.
-    ensures absent { OnErr result (get K.eq map.old key ≡ None) }
-    ensures err { OnErr result (map.new.entries ≡ map.old.entries) }
-    ensures unique { IsUnique K.eq map.new }
-{
-    match map.entry(key) {
-        Err(_) => Err(AllocError),
-        Ok(Entry::Occupied(entry)) => Ok(entry.index()),
-        Ok(Entry::Vacant(entry)) => {
-            let place = entry.index();
-            entry.insert(fresh);
-            Ok(place)
-        }
     }
 }
 
