@@ -1,5 +1,5 @@
 -- What moves of pairs leave at each place, and what look-ups say of the keys.
-use Rattle.std.proofs.Common.{◌≡◌, ◌≢◌, ℕ, zero, suc, ◌+◌, ◌-◌, ◌<◌, ◌≤◌, ◌⊎◌, Bool, true, false, cond, not, nat_lt, List, [], ◌∷◌, ◌++◌, map, length, get_or, set, take, swap, swap_remove, slice_get, position, Option, Some, None, refl, sym, ap, ◌∙◌, subst, inl, inr, arith, lt-ltb, true≢false, is_some, IsSome, IfSome, IfNone, Result, Ok, Err, IfOk, OnOk, OnErr, length-append}
+use Rattle.std.proofs.Common.{◌≡◌, ◌≢◌, ℕ, zero, suc, ◌+◌, ◌-◌, ◌<◌, ◌≤◌, ◌⊎◌, Bool, true, false, cond, nat_lt, List, [], ◌∷◌, ◌++◌, length, get_or, set, swap, swap_remove, slice_get, position, Option, Some, None, refl, sym, ap, ◌∙◌, subst, inl, inr, arith, lt-ltb, true≢false, IsSome, IfSome, IfNone, Result, Ok, Err, IfOk, OnOk, OnErr, length-append}
 use borrow.Author.Tests.{ltb-true}
 use Rattle.std.specs.List.{position_or_len, IsDistinct, AllByRecursion}
 use Rattle.std.specs.Map.{keys_of, lookup}
@@ -8,7 +8,7 @@ use Rattle.std.proofs.lemmas.Bool.{cases_lt, cases_eq}
 use Rattle.std.proofs.lemmas.List.{length-set, length-take-le, get_or-set_same, get_or-set_other, get_or-take}
 use Rattle.std.proofs.lemmas.List.Edits.{swapped_from_swap, length-swap}
 use Rattle.std.proofs.lemmas.Option.{cond_some, none-some, same_Some, slice_get-get_or, slice_get_past, slice_get_within}
-use Rattle.marked_map.specs.MarkedMap.{MarkedPairs, with_mark, without_mark, without_pair, KeepsOthers, IsMarked, IsUnmarked, HasKey, IsAbsent, AreDistinct, Enters}
+use Rattle.marked_map.specs.MarkedMap.{MarkedPairs, with_mark, without_mark, without_pair, KeepsOthers, HasKey, IsAbsent, Enters}
 
 -- ---- a swap, place by place
 module _ {X : Type 0} where
