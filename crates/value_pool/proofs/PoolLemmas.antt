@@ -1,5 +1,5 @@
 -- What look-ups by equal bytes say of a list of texts. The texts are those of the items of a list, by f.
-use Rattle.std.proofs.Common.{◌≡◌, ℕ, zero, suc, ◌+◌, ◌<◌, ◌≤◌, ◌⊎◌, Bool, true, false, cond, not, nat_lt, List, [], ◌∷◌, ◌++◌, map, length, slice_get, position, Option, Some, None, refl, sym, ap, ◌∙◌, subst, inl, inr, arith, lt-ltb, le-ltb, true≢false, is_some, IfSome, IfNone}
+use Rattle.std.proofs.Common.{◌≡◌, ℕ, zero, suc, ◌<◌, ◌≤◌, Bool, true, false, cond, nat_lt, List, [], ◌∷◌, ◌++◌, map, length, slice_get, position, Option, Some, None, refl, sym, ap, ◌∙◌, subst, arith, lt-ltb, true≢false, IfSome, IfNone}
 use Rattle.std.specs.Cmp.Lexicographic.{bytes_decides}
 use Rattle.std.specs.List.{list_any, position_or_len, IsDistinct, AllByRecursion}
 use Rattle.std.specs.Bool.{Decides}
@@ -10,7 +10,7 @@ use Rattle.std.proofs.lemmas.Option.{cond_some, none-some, same_Some, slice_get-
 use Rattle.std.proofs.lemmas.List.{map-append}
 use Rattle.std.specs.Option.{option_map}
 use native.Mathlib.Decide.{dec_lt}
-use Rattle.value_pool.specs.Pool.{HasId, IsNew, AreDistinct, KeepsIds, Interns}
+use Rattle.value_pool.specs.Pool.{HasId, IsNew, AreDistinct, KeepsIds}
 
 module _ {K : Type 0} (f : K → List ℕ) where
   -- no item from here on has the text of the item before it
