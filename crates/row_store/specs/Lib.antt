@@ -1,0 +1,3 @@
+pub mod Tuple
+pub mod Store
+pub mod Slots
