@@ -1,2 +1,3 @@
 pub mod SlotRows
 pub mod RowsKept
+pub mod Walk

@@ -1,3 +1,4 @@
 pub mod Tuple
 pub mod Store
 pub mod Slots
+pub mod Rows

@@ -1,6 +1,8 @@
 //! The rows of a table by their ids. Tuples are shared, so that a log of changes can keep old ones.
 #![tactic(auto)]
 
+mod rows;
 mod store;
 
+pub use rows::Rows;
 pub use store::{RowId, RowStore, Tuple};

@@ -5,6 +5,7 @@ ghost use Rattle.std.specs.FinMap as map;
 ghost use Rattle.row_store.specs.Tuple.{ids_of, ids_behind};
 ghost use Rattle.row_store.specs.Slots.{rows_in};
 
+use crate::rows::Rows;
 use std::alloc::{AllocError, Global};
 use std::marker::Model;
 use std::rc::RcSlice;
@@ -40,6 +41,7 @@ impl Model for RowStore {
 }
 
 impl RowStore {
+    ghost use Rattle.row_store.specs.Rows.{rows_left};
     ghost use Rattle.row_store.specs.Store.{AllBelow};
 
     #[tactic(auto, using(crate::proofs::SlotRows::slot_rows))]
@@ -72,6 +74,13 @@ impl RowStore {
         ensures { ids_behind result ≡ map.get self.now.rows id }
     {
         tuple_at(&self.slots, id as usize)
+    }
+
+    /// The rows by rising ids. The walk looks at each id below the next one.
+    pub fn rows(&self) -> Rows<'_>
+        ensures { rows_left result ≡ map.entries self.now.rows }
+    {
+        Rows::over(&self.slots)
     }
 
     /// Makes room for one more row.
