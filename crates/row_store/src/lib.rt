@@ -3,6 +3,9 @@
 
 mod rows;
 mod store;
+mod watch;
+mod watches;
 
 pub use rows::Rows;
 pub use store::{RowId, RowStore, Tuple};
+pub use watch::Watch;
