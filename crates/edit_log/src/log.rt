@@ -25,7 +25,9 @@ impl Model for Log {
 }
 
 impl Log {
+    ghost use Rattle.std.specs.Borrow.{sem};
     ghost use Rattle.edit_log.specs.Trail.{last_of, first_of};
+    ghost use Rattle.edit_log.specs.Log.{EndsSo, MovesBack, MovesForward};
 
     pub fn new(alloc: Global) -> Self
         ensures past { result.past ≡ [] }
@@ -72,5 +74,27 @@ impl Log {
         ensures { option_copied result ≡ first_of self.now.undone }
     {
         self.changes.get(self.place)
+    }
+
+    /// Takes the last past change back: it is the next to be done again. Gives the change.
+    pub fn back(&mut self) -> Option<&Change>
+        ensures* after { sem 𝓛 (EndsSo self.entry (MovesBack (option_copied result) self.old)) }
+        ensures given { option_copied result ≡ last_of self.old.past }
+    {
+        let before = self.place.checked_sub(1)?;
+        self.place = before;
+        self.changes.get(before)
+    }
+
+    /// Makes the next undone change again: it is the last past one. Gives the change.
+    pub fn forward(&mut self) -> Option<&Change>
+        ensures* after { sem 𝓛 (EndsSo self.entry (MovesForward (option_copied result) self.old)) }
+        ensures given { option_copied result ≡ first_of self.old.undone }
+    {
+        if self.place == self.changes.len() {
+            return None;
+        }
+        self.place += 1;
+        self.changes.get(self.place - 1)
     }
 }
