@@ -9,3 +9,6 @@ mod watches;
 pub use rows::Rows;
 pub use store::{RowId, RowStore, Tuple};
 pub use watch::Watch;
+
+#[cfg(test)]
+mod tests;

@@ -1,0 +1,2 @@
+// A small watch and a long walk.
+mod column;
