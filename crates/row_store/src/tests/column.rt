@@ -1,6 +1,9 @@
 // A small watch: which rows of a table have which value at an attribute.
-ghost use Rattle.std.specs.Prelude.{◌≡◌, ◌&&◌, ◌==◌, ℕ, [], ◌∷◌, slice_index, if◌then◌else◌};
+ghost use Rattle.std.specs.Prelude.{◌≡◌, ◌&&◌, ◌==◌, ◌<◌, ℕ, length, [], ◌∷◌, slice_index, not, if◌then◌else◌};
 ghost use Rattle.std.specs.List.{list_any};
+ghost use Rattle.row_store.specs.Tuple.{ids_of};
+ghost use Rattle.std.proofs.Common.{arith};
+ghost use Rattle.std.proofs.lemmas.Bool.Decides.{nat_tests};
 
 use crate::{RowId, Tuple, Watch};
 use probe_steps::Steps;
@@ -26,6 +29,22 @@ impl Column {
             attribute,
             entries: Vec::new(alloc),
         }
+    }
+
+    fn value_of(&self, tuple: &Tuple) -> usize
+        requires { self.now.attribute < length (ids_of tuple.now) }
+        ensures { result ≡ slice_index (ids_of tuple.now) self.now.attribute }
+    {
+        tuple.as_slice()[self.attribute]
+    }
+
+    fn drop_entry(&mut self, value: usize, row: RowId)
+        ensures entries { (entry : ℕ × ℕ) → list_any (λ held. (held.0 == entry.0) && (held.1 == entry.1)) self.new.entries.items ≡
+            (not ((value == entry.0) && (row == entry.1)) && list_any (λ held. (held.0 == entry.0) && (held.1 == entry.1)) self.old.entries.items) }
+        ensures table { self.new.table ≡ self.old.table }
+        ensures attribute { self.new.attribute ≡ self.old.attribute }
+    {
+        self.entries.retain(|held| *held != (value, row));
     }
 
     /// How many rows have the value.
@@ -71,7 +90,7 @@ impl Watch for Column {
             return Ok(());
         }
         steps.tick();
-        let value = new.as_slice()[self.attribute];
+        let value = self.value_of(new);
         self.entries.push((value, row))?;
         Ok(())
     }
@@ -88,16 +107,16 @@ impl Watch for Column {
             return;
         }
         steps.tick();
-        let gone = old.as_slice()[self.attribute];
+        let gone = self.value_of(old);
         if let Some(tuple) = new {
-            if tuple.as_slice()[self.attribute] == gone {
+            if self.value_of(tuple) == gone {
                 return;
             }
         }
-        self.entries.retain(|e| e.0 != gone || e.1 != row);
+        self.drop_entry(gone, row);
     }
 
-    ghost names_row = { ? };
+    ghost names_row = { λ how table row ids entry given. (Prim.grind (arith, nat_tests), Prim.grind (arith, nat_tests)) };
 
-    ghost needed_exactly = { ? };
+    ghost needed_exactly = { λ how table. (λ unneeded row ids entry. Prim.grind (arith, nat_tests), λ none. Prim.grind (arith, nat_tests, none 0 [] (0, 0))) };
 }
