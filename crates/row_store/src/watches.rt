@@ -1,9 +1,10 @@
-// Many watches at once.
-ghost use Rattle.std.specs.Prelude.{All, OnOk, OnErr};
-ghost use Rattle.row_store.specs.Tuple.{ids_of, ids_behind};
+// Many watches at once: all of them take an edit, or none does.
+ghost use Rattle.std.specs.Prelude.{◌≡◌, ◌+◌, ◌≤◌, ◌<◌, All, OnOk, OnErr, sum_by, take, drop, length};
+ghost use Rattle.std.specs.List.{AllZip};
 ghost use Rattle.std.specs.Option.{ForSome};
+ghost use Rattle.row_store.specs.Tuple.{ids_of, ids_behind};
 ghost use Rattle.row_store.specs.Watch.{IsWide};
-ghost use Rattle.row_store.specs.Watches.{HoldsOfRow};
+ghost use Rattle.row_store.specs.Watches.{HoldsOfRow, HoldsOfBoth, HasAdded, HasRemoved, HoldsTheSame, probes_of};
 
 use crate::store::{RowId, Tuple};
 use crate::watch::Watch;
@@ -11,7 +12,7 @@ use probe_steps::Steps;
 use std::alloc::AllocError;
 use std::sync::ledger::Ledger;
 
-fn add_if_needed<W: Watch, L: Ledger>(
+fn add_where_needed<W: Watch, L: Ledger>(
     watch: &mut W,
     table: usize,
     row: RowId,
@@ -22,10 +23,52 @@ fn add_if_needed<W: Watch, L: Ledger>(
     requires present { HoldsOfRow ⟦<W as Watch>⟧ table row (ids_behind old) watch.old }
     requires wide_old { ForSome (ids_behind old) (IsWide (W.attributes (W.made watch.old) table)) }
     requires wide_new { IsWide (W.attributes (W.made watch.old) table) (ids_of new.now) }
+    ensures ok { OnOk result (HasAdded ⟦<W as Watch>⟧ table row (ids_of new.now) watch.old watch.new) }
+    ensures err { OnErr result (HoldsTheSame ⟦<W as Watch>⟧ watch.old watch.new) }
+    ensures probes { steps.new ≤ steps.old + probes_of ⟦<W as Watch>⟧ table watch.old }
 {
     if watch.needs(table) {
         watch.add(table, row, old, new, steps)
     } else {
         Ok(())
+    }
+}
+
+fn remove_where_needed<W: Watch, L: Ledger>(
+    watch: &mut W,
+    table: usize,
+    row: RowId,
+    old: &Tuple,
+    new: Option<&Tuple>,
+    steps: &mut Steps<L>,
+)
+    requires present { HoldsOfBoth ⟦<W as Watch>⟧ table row (ids_of old.now) (ids_behind new) watch.old }
+    requires wide_old { IsWide (W.attributes (W.made watch.old) table) (ids_of old.now) }
+    requires wide_new { ForSome (ids_behind new) (IsWide (W.attributes (W.made watch.old) table)) }
+    ensures removed { HasRemoved ⟦<W as Watch>⟧ table row (ids_of old.now) (ids_behind new.entry) watch.old watch.new }
+    ensures probes { steps.new ≤ steps.old + probes_of ⟦<W as Watch>⟧ table watch.old }
+{
+    if watch.needs(table) {
+        watch.remove(table, row, old, new, steps);
+    }
+}
+
+/// Takes away what the row gave with the old tuple and doesn't give with the new one, in each watch.
+pub fn remove_from_all<W: Watch, L: Ledger>(
+    watches: &mut [W],
+    table: usize,
+    row: RowId,
+    old: &Tuple,
+    new: Option<&Tuple>,
+    steps: &mut Steps<L>,
+)
+    requires present { All (HoldsOfBoth ⟦<W as Watch>⟧ table row (ids_of old.now) (ids_behind new)) watches.old }
+    requires wide_old { All (λ watch. IsWide (W.attributes (W.made watch) table) (ids_of old.now)) watches.old }
+    requires wide_new { ForSome (ids_behind new) (λ ids. All (λ watch. IsWide (W.attributes (W.made watch) table) ids) watches.old) }
+    ensures removed { AllZip (HasRemoved ⟦<W as Watch>⟧ table row (ids_of old.now) (ids_behind new.entry)) watches.old watches.new }
+    ensures probes { steps.new ≤ steps.old + sum_by (probes_of ⟦<W as Watch>⟧ table) watches.old }
+{
+    for watch in watches.iter_mut() {
+        remove_where_needed(watch, table, row, old, new, steps);
     }
 }
