@@ -2,3 +2,4 @@ pub mod SlotRows
 pub mod RowsKept
 pub mod Walk
 pub mod Zips
+pub mod TakenBack

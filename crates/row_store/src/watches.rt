@@ -1,5 +1,5 @@
 // Many watches at once: all of them take an edit, or none does.
-ghost use Rattle.std.specs.Prelude.{◌≡◌, ◌+◌, ◌≤◌, ◌<◌, All, OnOk, OnErr, sum_by, take, drop, length};
+ghost use Rattle.std.specs.Prelude.{◌≡◌, ◌+◌, ◌*◌, ◌≤◌, All, OnOk, OnErr, sum_by, take, drop, length};
 ghost use Rattle.std.specs.List.{AllZip};
 ghost use Rattle.std.specs.Option.{ForSome};
 ghost use Rattle.row_store.specs.Tuple.{ids_of, ids_behind};
@@ -71,4 +71,55 @@ pub fn remove_from_all<W: Watch, L: Ledger>(
     for watch in watches.iter_mut() {
         remove_where_needed(watch, table, row, old, new, steps);
     }
+}
+
+// Adds in one watch after the other, as long as there is memory. Gives how many took the entries.
+fn add_until_refused<W: Watch, L: Ledger>(
+    watches: &mut [W],
+    table: usize,
+    row: RowId,
+    old: Option<&Tuple>,
+    new: &Tuple,
+    steps: &mut Steps<L>,
+) -> usize
+    requires present { All (HoldsOfRow ⟦<W as Watch>⟧ table row (ids_behind old)) watches.old }
+    requires wide_old { ForSome (ids_behind old) (λ ids. All (λ watch. IsWide (W.attributes (W.made watch) table) ids) watches.old) }
+    requires wide_new { All (λ watch. IsWide (W.attributes (W.made watch) table) (ids_of new.now)) watches.old }
+    ensures within { result ≤ length watches.old }
+    ensures added { AllZip (HasAdded ⟦<W as Watch>⟧ table row (ids_of new.now)) (take result watches.old) (take result watches.new) }
+    ensures others { AllZip (HoldsTheSame ⟦<W as Watch>⟧) (drop result watches.old) (drop result watches.new) }
+    ensures probes { steps.new ≤ steps.old + sum_by (probes_of ⟦<W as Watch>⟧ table) watches.old }
+{
+    for (place, watch) in watches.iter_mut().enumerate() {
+        if add_where_needed(watch, table, row, old, new, steps).is_err() {
+            return place;
+        }
+    }
+    watches.len()
+}
+
+/// Adds what the row gives with the new tuple in each watch, or in none of them where memory was refused.
+pub fn add_to_all<W: Watch, L: Ledger>(
+    watches: &mut [W],
+    table: usize,
+    row: RowId,
+    old: Option<&Tuple>,
+    new: &Tuple,
+    steps: &mut Steps<L>,
+) -> Result<(), AllocError>
+    requires present { All (HoldsOfRow ⟦<W as Watch>⟧ table row (ids_behind old)) watches.old }
+    requires wide_old { ForSome (ids_behind old) (λ ids. All (λ watch. IsWide (W.attributes (W.made watch) table) ids) watches.old) }
+    requires wide_new { All (λ watch. IsWide (W.attributes (W.made watch) table) (ids_of new.now)) watches.old }
+    ensures ok { OnOk result (AllZip (HasAdded ⟦<W as Watch>⟧ table row (ids_of new.now)) watches.old watches.new) }
+    ensures err { OnErr result (AllZip (HoldsTheSame ⟦<W as Watch>⟧) watches.old watches.new) }
+    ensures probes { OnOk result (steps.new ≤ steps.old + sum_by (probes_of ⟦<W as Watch>⟧ table) watches.old) }
+    ensures probes_twice { steps.new ≤ steps.old + 2 * sum_by (probes_of ⟦<W as Watch>⟧ table) watches.old }
+{
+    let added = add_until_refused(watches, table, row, old, new, steps);
+    if added == watches.len() {
+        return Ok(());
+    }
+    let (front, _) = watches.split_at_mut(added);
+    remove_from_all(front, table, row, new, old, steps);
+    Err(AllocError)
 }
