@@ -3,3 +3,4 @@ pub mod RowsKept
 pub mod Walk
 pub mod Zips
 pub mod TakenBack
+pub mod InStep

@@ -1,5 +1,5 @@
 -- Watches, each seen by the ghost members of its type.
-use Rattle.std.specs.Prelude.{◌≡◌, ℕ, Bool, ◌||◌, List, Option, if◌then◌else◌}
+use Rattle.std.specs.Prelude.{◌≡◌, ℕ, Bool, ◌||◌, ◌&&◌, ◌==◌, List, Option, if◌then◌else◌}
 use Rattle.row_store.specs.Watch.{entries_of, AddsEntries, RemovesEntries}
 use Rattle.row_store.specs.declared.watch.Watch.{Ghosts}
 
@@ -33,3 +33,11 @@ module _ {Self : Type 0} (watch : Ghosts Self) where
   -- the most probes of a call for a row of the table, where the call is left out for a table that isn't needed
   abbrev pub probes_of : ℕ → Self → ℕ
   probes_of table w = if watch.needed (watch.made w) table then watch.cost (watch.made w) else 0
+
+  -- the watch holds exactly what the rows give, where `rows table row` is the row's tuple, or None where there is no such row
+  abbrev pub IsInStep : (ℕ → ℕ → Option (List ℕ)) → Self → Type 0
+  IsInStep rows w = (table row : ℕ) → HoldsOfRow watch table row (rows table row) w
+
+-- the rows after one of them got another tuple, or was put or taken away
+abbrev pub with_row : (ℕ → ℕ → Option (List ℕ)) → ℕ → ℕ → Option (List ℕ) → ℕ → ℕ → Option (List ℕ)
+with_row rows table row ids t r = if (t == table) && (r == row) then ids else rows t r
