@@ -65,8 +65,7 @@ impl Log {
     pub fn last(&self) -> Option<&Change>
         ensures { option_copied result ≡ last_of self.now.past }
     {
-        let before = self.place.checked_sub(1)?;
-        self.changes.get(before)
+        self.changes.get(self.place.checked_sub(1)?)
     }
 
     /// The change that comes next when one is done again.
@@ -94,7 +93,8 @@ impl Log {
         if self.place == self.changes.len() {
             return None;
         }
-        self.place += 1;
-        self.changes.get(self.place - 1)
+        let next = self.place;
+        self.place = next + 1;
+        self.changes.get(next)
     }
 }

@@ -37,7 +37,10 @@ fn walks_like_two_lists(rt: HostRuntime) -> Result<(), Fail> {
     let mut past = Vec::<RowId>::new(rt.alloc());
     let mut undone = Vec::<RowId>::new(rt.alloc());
     // p pushes a change, b goes back, f goes forward
-    for (at, step) in b"bfppbpbbbfffpppbbfbpfbbbbbbbffffpbfbfpbbpf".iter().enumerate() {
+    for (at, step) in b"bfppbpbbbfffpppbbfbpfbbbbbbbffffpbfbfpbbpf"
+        .iter()
+        .enumerate()
+    {
         let row = at as RowId;
         match step {
             b'p' => {
@@ -62,8 +65,16 @@ fn walks_like_two_lists(rt: HostRuntime) -> Result<(), Fail> {
             }
         }
         assert_eq!(rt; row_of(log.last()), past.last().copied(), "last after {at}");
-        assert_eq!(rt; row_of(log.next()), undone.last().copied(), "next after {at}");
-        assert_eq!(rt; looks_back(&mut log), !past.is_empty(), "looks back after {at}");
+        assert_eq!(rt;
+            row_of(log.next()),
+            undone.last().copied(),
+            "next after {at}"
+        );
+        assert_eq!(rt;
+            looks_back(&mut log),
+            !past.is_empty(),
+            "looks back after {at}"
+        );
     }
     Ok(())
 }

@@ -42,8 +42,8 @@ module _ {Self : Type 0} (watch : Ghosts Self) (table row : ℕ) where
       let both = held entry of_table of_row in
       rw removed.made (removed.entries entry
       ∙ elim (watch.gives (watch.made before) table row old entry)
-          as (λ b. watch.holds before entry ≡ (b || entries_of (watch.gives (watch.made before) table row) new entry) →
-              cond b (entries_of (watch.gives (watch.made before) table row) new entry) (watch.holds before entry) ≡ entries_of (watch.gives (watch.made before) table row) new entry) [
+      as (λ b. watch.holds before entry ≡ (b || entries_of (watch.gives (watch.made before) table row) new entry) →
+      cond b (entries_of (watch.gives (watch.made before) table row) new entry) (watch.holds before entry) ≡ entries_of (watch.gives (watch.made before) table row) new entry) [
         | true ↦ λ _. refl
         | false ↦ λ is. is
       ] both)
@@ -75,7 +75,7 @@ module _ {Self : Type 0} (watch : Ghosts Self) (table row : ℕ) where
       let of_table = rw made at is_table in
       let of_row = rw made at is_row in
       elim ((t == table) && (r == row))
-          as (λ b. ((t == table) && (r == row)) ≡ b → watch.holds after entry ≡ entries_of (watch.gives (watch.made after) t r) (cond b new (rows t r)) entry) [
+      as (λ b. ((t == table) && (r == row)) ≡ b → watch.holds after entry ≡ entries_of (watch.gives (watch.made after) t r) (cond b new (rows t r)) entry) [
         | true ↦ λ same.
             let t_is : t ≡ table = grind (arith, nat_tests) in
             let r_is : r ≡ row = grind (arith, nat_tests) in
@@ -84,6 +84,6 @@ module _ {Self : Type 0} (watch : Ghosts Self) (table row : ℕ) where
             ∙ ap (λ n. entries_of (watch.gives (watch.made after) t n) new entry) (sym r_is)
         | false ↦ λ apart.
             let other : (watch.table_of (watch.made before) entry ≡ table) × (watch.row_of (watch.made before) entry ≡ row) → ⊥ =
-                λ named. are_apart t table r row apart (sym of_table ∙ named.0) (sym of_row ∙ named.1) in
+            λ named. are_apart t table r row apart (sym of_table ∙ named.0) (sym of_row ∙ named.1) in
             rw made (others entry other ∙ in_step t r entry of_table of_row)
       ] refl

@@ -1,10 +1,10 @@
 -- What an edit of the rows does to their number, and to the ids below the next one.
-use Rattle.std.proofs.Common.{◌≡◌, ◌≢◌, ℕ, ◌+◌, ◌-◌, ◌<◌, ◌≤◌, Bool, true, false, cond, List, Option, Some, None, refl, sym, ap, ◌∙◌, arith}
+use Rattle.std.proofs.Common.{◌≡◌, ◌≢◌, ℕ, ◌+◌, ◌-◌, ◌<◌, ◌≤◌, Bool, true, false, cond, List, Option, Some, None, inl, inr, refl, sym, ap, ◌∙◌, arith}
 use Rattle.std.specs.Prelude.{IsSome, is_some}
 use Rattle.std.specs.Ordering.{nat_cmp}
 use Rattle.std.specs.Cmp.{nat_cmp_total}
 use Rattle.std.proofs.lemmas.Bool.Decides.{nat_tests}
-use Rattle.std.proofs.lemmas.Grind.{common_steps}
+use Rattle.std.proofs.lemmas.Bool.{cases_lt}
 use Rattle.std.specs.FinMap as map
 use Rattle.row_store.specs.Store.{Rows, AllBelow}
 
@@ -30,5 +30,12 @@ module _ (rows : Rows) (id : ℕ) (ids : List ℕ) where
 
   pub below_fewer : (next : ℕ) → AllBelow rows next → AllBelow (map.remove rows id) next
   below_fewer next below q past = grind (arith, nat_tests, below q past, map.get-remove nat_cmp_total rows id q)
+
+-- where the newest row goes, its id may be given again
+pub below_newest : (rows : Rows) (id next : ℕ) → next ≡ id + 1 → AllBelow rows next → AllBelow (map.remove rows id) id
+below_newest rows id next is below q past = elim (cases_lt q next) [
+  | inl early ↦ let same : q ≡ id = omega arith in grind (arith, nat_tests, map.get-remove nat_cmp_total rows id q)
+  | inr late ↦ grind (arith, nat_tests, below q late, map.get-remove nat_cmp_total rows id q)
+]
 
 pub ruleset rows_kept = (len_more, len_same, len_fewer, below_more, below_fewer)

@@ -31,8 +31,8 @@ module _ {Self : Type 0} (watch : Ghosts Self) (table row : ℕ) (old : Option (
     entries = λ entry.
         let left = rw added.made at removed.entries entry in
         left ∙ elim (watch.gives (watch.made before) table row new entry)
-            as (λ b. watch.gives (watch.made before) table row new entry ≡ b →
-                cond b (entries_of (watch.gives (watch.made before) table row) old entry) (watch.holds between entry) ≡ watch.holds before entry) [
+        as (λ b. watch.gives (watch.made before) table row new entry ≡ b →
+        cond b (entries_of (watch.gives (watch.made before) table row) old entry) (watch.holds between entry) ≡ watch.holds before entry) [
           | true ↦ λ given. let named = names (watch.made before) table row new entry given in sym (present entry named.0 named.1)
           | false ↦ λ not_given. added.entries entry ∙ ap (λ b. watch.holds before entry || b) not_given ∙ or_false (watch.holds before entry)
         ] refl;

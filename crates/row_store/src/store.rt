@@ -9,11 +9,12 @@ use crate::rows::Rows;
 use std::alloc::{AllocError, Global};
 use std::marker::Model;
 use std::rc::RcSlice;
+use value_pool::ValueId;
 
 pub type RowId = u64;
 
 /// One value id an attribute, in the order of the table's attributes.
-pub type Tuple = RcSlice<usize>;
+pub type Tuple = RcSlice<ValueId>;
 
 /// Rows by id. The next id lies above the ids of all rows, and only `put` and `set_next` move it, so
 /// the id of a row that was taken isn't given again by itself.
@@ -106,7 +107,7 @@ impl RowStore {
         ensures spare { self.new.spare + 1 ≡ self.old.spare }
     {
         let id = self.next;
-        fill_slot(&mut self.slots, id as usize, tuple);
+        fill_slot(&mut self.slots, self.next as usize, tuple);
         self.count += 1;
         self.next = id + 1;
         id

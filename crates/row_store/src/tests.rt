@@ -1,2 +1,3 @@
-// A small watch and a long walk.
+// A long walk beside a plain list, a small watch, and an edit that reaches watches and store.
 mod column;
+mod walk;

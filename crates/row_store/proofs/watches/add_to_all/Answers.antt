@@ -15,8 +15,8 @@ pub remove_from_all-requires-clause-present : goal.remove_from_all-requires-clau
 remove_from_all-requires-clause-present g c =
     let added = c.add_until_refused-added.result in
     let held = all_through (HoldsOfRow g.W.Watch c.args.table c.args.row (ids_behind c.args.old)) (HoldsOfBoth g.W.Watch c.args.table c.args.row (ids_of c.args.new.now) (ids_behind c.args.old)) _
-        (both_held g.W.Watch c.args.table c.args.row (ids_behind c.args.old) (ids_of c.args.new.now))
-        (take added c.args.watches.now) _ (All-take (HoldsOfRow g.W.Watch c.args.table c.args.row (ids_behind c.args.old)) added c.args.watches.now c.requires.present) c.add_until_refused-added.ensures.added in
+    (both_held g.W.Watch c.args.table c.args.row (ids_behind c.args.old) (ids_of c.args.new.now))
+    (take added c.args.watches.now) _ (All-take (HoldsOfRow g.W.Watch c.args.table c.args.row (ids_behind c.args.old)) added c.args.watches.now c.requires.present) c.add_until_refused-added.ensures.added in
     subst (All (HoldsOfBoth g.W.Watch c.args.table c.args.row (ids_of c.args.new.now) (ids_behind c.args.old))) (sym c.split_at_mut-front.ensures.front) held
 
 pub remove_from_all-requires-clause-wide_old : goal.remove_from_all-requires-clause-wide_old
@@ -24,8 +24,8 @@ remove_from_all-requires-clause-wide_old g c =
     let added = c.add_until_refused-added.result in
     let IsWideFor : g.row.W.Denot → Type 0 = λ watch. IsWide (g.W.Watch.attributes (g.W.Watch.made watch) c.args.table) (ids_of c.args.new.now) in
     let wide = all_through IsWideFor IsWideFor _
-        (λ before after wide step. subst (λ made. IsWide (g.W.Watch.attributes made c.args.table) (ids_of c.args.new.now)) (sym step.made) wide)
-        (take added c.args.watches.now) _ (All-take IsWideFor added c.args.watches.now c.requires.wide_new) c.add_until_refused-added.ensures.added in
+    (λ before after wide step. subst (λ made. IsWide (g.W.Watch.attributes made c.args.table) (ids_of c.args.new.now)) (sym step.made) wide)
+    (take added c.args.watches.now) _ (All-take IsWideFor added c.args.watches.now c.requires.wide_new) c.add_until_refused-added.ensures.added in
     subst (All IsWideFor) (sym c.split_at_mut-front.ensures.front) wide
 
 pub remove_from_all-requires-clause-wide_new : goal.remove_from_all-requires-clause-wide_new
@@ -33,8 +33,8 @@ remove_from_all-requires-clause-wide_new g c ids is =
     let added = c.add_until_refused-added.result in
     let IsWideFor : g.row.W.Denot → Type 0 = λ watch. IsWide (g.W.Watch.attributes (g.W.Watch.made watch) c.args.table) ids in
     let wide = all_through IsWideFor IsWideFor _
-        (λ before after wide step. subst (λ made. IsWide (g.W.Watch.attributes made c.args.table) ids) (sym step.made) wide)
-        (take added c.args.watches.now) _ (All-take IsWideFor added c.args.watches.now (c.requires.wide_old ids is)) c.add_until_refused-added.ensures.added in
+    (λ before after wide step. subst (λ made. IsWide (g.W.Watch.attributes made c.args.table) ids) (sym step.made) wide)
+    (take added c.args.watches.now) _ (All-take IsWideFor added c.args.watches.now (c.requires.wide_old ids is)) c.add_until_refused-added.ensures.added in
     subst (All IsWideFor) (sym c.split_at_mut-front.ensures.front) wide
 
 -- what was added is taken back in front, and the others hold what they held
@@ -46,9 +46,9 @@ returns-clause-err g c =
     let Present : g.row.W.Denot → Type 0 = HoldsOfRow g.W.Watch c.args.table c.args.row (ids_behind c.args.old) in
     let removed = subst (λ xs. AllZip (HasRemoved g.W.Watch c.args.table c.args.row (ids_of c.args.new.now) (ids_behind c.args.old)) xs c.remove_from_all.new.watches) c.split_at_mut-front.ensures.front c.remove_from_all.ensures.removed in
     let front = zip_then Present _ _ (HoldsTheSame g.W.Watch)
-        (taken_back g.W.Watch c.args.table c.args.row (ids_behind c.args.old) (ids_of c.args.new.now) g.met.W.Watch.names_row)
-        (take added was) (take added between) c.remove_from_all.new.watches
-        (recursion_from_All Present _ (All-take Present added was c.requires.present)) c.add_until_refused-added.ensures.added removed in
+    (taken_back g.W.Watch c.args.table c.args.row (ids_behind c.args.old) (ids_of c.args.new.now) g.met.W.Watch.names_row)
+    (take added was) (take added between) c.remove_from_all.new.watches
+    (recursion_from_All Present _ (All-take Present added was c.requires.present)) c.add_until_refused-added.ensures.added removed in
     let back = subst (λ xs. AllZip (HoldsTheSame g.W.Watch) (drop added was) xs) (sym c.split_at_mut-front.ensures.back) c.add_until_refused-added.ensures.others in
     subst (λ xs. AllZip (HoldsTheSame g.W.Watch) xs (c.remove_from_all.new.watches ++ c.split_at_mut-front.result.1.now)) (take-append-drop added was)
     (zip_append _ (take added was) c.remove_from_all.new.watches (drop added was) c.split_at_mut-front.result.1.now front back)
