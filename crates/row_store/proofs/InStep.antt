@@ -5,7 +5,7 @@ use Rattle.std.specs.Prelude.{◌||◌, ◌&&◌, ◌==◌, ◌⊎◌}
 use Rattle.std.proofs.Common.{inl, inr}
 use Rattle.std.proofs.lemmas.Bool.Decides.{nat_tests}
 use Rattle.row_store.specs.Watch.{entries_of}
-use Rattle.row_store.specs.Watches.{HoldsOfRow, HoldsOfBoth, HasAdded, HasRemoved, IsInStep, with_row}
+use Rattle.row_store.specs.Watches.{HoldsOfRow, HoldsOfBoth, HasAdded, HasRemoved, HoldsTheSame, IsInStep, with_row}
 use Rattle.row_store.specs.declared.watch.Watch.{Ghosts}
 
 or_false : (a : Bool) → (a || false) ≡ a
@@ -87,3 +87,43 @@ module _ {Self : Type 0} (watch : Ghosts Self) (table row : ℕ) where
             λ named. are_apart t table r row apart (sym of_table ∙ named.0) (sym of_row ∙ named.1) in
             rw made (others entry other ∙ in_step t r entry of_table of_row)
       ] refl
+
+module _ {Self : Type 0} (watch : Ghosts Self) (rows : ℕ → ℕ → Option (List ℕ)) where
+  -- what holds the same entries is in step with the same rows
+  pub still_in_step : (before after : Self) → HoldsTheSame watch before after → IsInStep watch rows before → IsInStep watch rows after
+  still_in_step before after same in_step t r entry is_table is_row =
+      let of_table = rw same.made at is_table in
+      let of_row = rw same.made at is_row in
+      rw same.made (same.entries entry ∙ in_step t r entry of_table of_row)
+
+  -- rows that are alike have the same watches in step
+  pub in_step_alike : (others : ℕ → ℕ → Option (List ℕ)) → ((t r : ℕ) → rows t r ≡ others t r) → (w : Self) → IsInStep watch rows w → IsInStep watch others w
+  in_step_alike others alike w in_step t r entry is_table is_row =
+      in_step t r entry is_table is_row ∙ ap (λ ids. entries_of (watch.gives (watch.made w) t r) ids entry) (alike t r)
+
+  module _ (names : (how : watch.Made) (t r : ℕ) (ids : List ℕ) (entry : watch.Entry) → watch.gives how t r ids entry ≡ true → (watch.table_of how entry ≡ t) × (watch.row_of how entry ≡ r))
+      (table row : ℕ) where
+    pub in_step_inserted : (new : List ℕ) → rows table row ≡ None → (before after : Self) → IsInStep watch rows before → HasAdded watch table row new before after
+        → IsInStep watch (with_row rows table row (Some new)) after
+    in_step_inserted new absent before after in_step added =
+        in_step_after watch table row rows (Some new) before after added.made in_step
+        (new_row_held watch table row new before after (subst (λ ids. HoldsOfRow watch table row ids before) absent (in_step table row)) added)
+        (others_kept_adding watch table row names new before after added)
+
+    pub in_step_changed : (old new : List ℕ) → rows table row ≡ Some old → (before between after : Self) → IsInStep watch rows before
+        → HasAdded watch table row new before between → HasRemoved watch table row old (Some new) between after
+        → IsInStep watch (with_row rows table row (Some new)) after
+    in_step_changed old new there before between after in_step added removed =
+        in_step_after watch table row rows (Some new) before after (removed.made ∙ added.made) in_step
+        (left_row_held watch table row old (Some new) between after
+         (changed_row_held watch table row old new before between (subst (λ ids. HoldsOfRow watch table row ids before) there (in_step table row)) added) removed)
+        (λ entry other. others_kept_removing watch table row names old (Some new) between after removed entry (rw added.made other)
+         ∙ others_kept_adding watch table row names new before between added entry other)
+
+    pub in_step_deleted : (old : List ℕ) → rows table row ≡ Some old → (before after : Self) → IsInStep watch rows before → HasRemoved watch table row old None before after
+        → IsInStep watch (with_row rows table row None) after
+    in_step_deleted old there before after in_step removed =
+        in_step_after watch table row rows None before after removed.made in_step
+        (left_row_held watch table row old None before after
+         (going_row_held watch table row old before (subst (λ ids. HoldsOfRow watch table row ids before) there (in_step table row))) removed)
+        (others_kept_removing watch table row names old None before after removed)
