@@ -116,14 +116,14 @@ module _ {Self : Type 0} (watch : Ghosts Self) (rows : ℕ → ℕ → Option (L
     in_step_changed old new there before between after in_step added removed =
         in_step_after watch table row rows (Some new) before after (removed.made ∙ added.made) in_step
         (left_row_held watch table row old (Some new) between after
-         (changed_row_held watch table row old new before between (subst (λ ids. HoldsOfRow watch table row ids before) there (in_step table row)) added) removed)
+        (changed_row_held watch table row old new before between (subst (λ ids. HoldsOfRow watch table row ids before) there (in_step table row)) added) removed)
         (λ entry other. others_kept_removing watch table row names old (Some new) between after removed entry (rw added.made other)
-         ∙ others_kept_adding watch table row names new before between added entry other)
+        ∙ others_kept_adding watch table row names new before between added entry other)
 
     pub in_step_deleted : (old : List ℕ) → rows table row ≡ Some old → (before after : Self) → IsInStep watch rows before → HasRemoved watch table row old None before after
         → IsInStep watch (with_row rows table row None) after
     in_step_deleted old there before after in_step removed =
         in_step_after watch table row rows None before after removed.made in_step
         (left_row_held watch table row old None before after
-         (going_row_held watch table row old before (subst (λ ids. HoldsOfRow watch table row ids before) there (in_step table row))) removed)
+        (going_row_held watch table row old before (subst (λ ids. HoldsOfRow watch table row ids before) there (in_step table row))) removed)
         (others_kept_removing watch table row names old None before after removed)

@@ -4,3 +4,4 @@ pub mod Walk
 pub mod Zips
 pub mod TakenBack
 pub mod InStep
+pub mod OneTable
