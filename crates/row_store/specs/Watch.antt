@@ -1,5 +1,5 @@
 -- Sets of entries that are kept in step with rows. A set of entries is a test of an entry.
-use Rattle.std.specs.Prelude.{◌≡◌, ℕ, ◌<◌, Bool, true, false, ◌||◌, ◌&&◌, ◌==◌, cond, List, length, Option, Some, None, All}
+use Rattle.std.specs.Prelude.{◌≡◌, ℕ, ◌<◌, Bool, false, ◌||◌, cond, List, length, Option, Some, None, All}
 
 module _ {Entry : Type 0} where
   -- what a row gives, or nothing where there is no row

@@ -1,5 +1,5 @@
 -- Watches, each seen by the ghost members of its type.
-use Rattle.std.specs.Prelude.{◌≡◌, ℕ, Bool, ◌||◌, ◌&&◌, ◌==◌, List, Option, if◌then◌else◌}
+use Rattle.std.specs.Prelude.{◌≡◌, ℕ, ◌||◌, ◌&&◌, ◌==◌, List, Option, if◌then◌else◌}
 use Rattle.row_store.specs.Watch.{entries_of, AddsEntries, RemovesEntries}
 use Rattle.row_store.specs.declared.watch.Watch.{Ghosts}
 

@@ -1,12 +1,12 @@
-use Rattle.std.proofs.Common.{◌≡◌, cond, ◌+◌, ◌<◌, ◌++◌, List, ℕ, length, get_or, take, drop, refl, sym, ap, subst, ◌∙◌, arith}
-use Rattle.std.specs.Prelude.{All, sum_by, Some}
+use Rattle.std.proofs.Common.{cond, ◌++◌, take, drop, sym, ap, subst, ◌∙◌, arith}
+use Rattle.std.specs.Prelude.{All, sum_by}
 use Rattle.std.specs.List.{AllZip}
 use Rattle.std.proofs.lemmas.List.{take-append-drop}
 use Rattle.std.proofs.lemmas.List.Elements.{All-take, recursion_from_All}
 use Rattle.std.proofs.lemmas.List.Sums.{sum_by-take-le}
 use Rattle.row_store.specs.Tuple.{ids_of, ids_behind}
 use Rattle.row_store.specs.Watch.{IsWide}
-use Rattle.row_store.specs.Watches.{HoldsOfRow, HoldsOfBoth, HasAdded, HasRemoved, HoldsTheSame, probes_of}
+use Rattle.row_store.specs.Watches.{HoldsOfRow, HoldsOfBoth, HasRemoved, HoldsTheSame, probes_of}
 use Rattle.row_store.proofs.Zips.{all_through, zip_then, zip_append, sum_kept}
 use Rattle.row_store.proofs.TakenBack.{both_held, taken_back}
 use Rattle.row_store.proofs.watches.add_to_all.Goals as goal

@@ -1,10 +1,9 @@
-use Rattle.std.proofs.Common.{◌≡◌, ◌+◌, ◌<◌, ◌∷◌, length, get_or, set, drop, refl, sym, ap, subst, ◌∙◌, arith}
-use Rattle.std.specs.Prelude.{Bool, true, false, All, sum_by, Some, Result, Ok, Err, is_err, OnOk, OnErr}
-use Rattle.std.specs.List.{AllZip}
+use Rattle.std.proofs.Common.{◌≡◌, refl, sym, ap, subst, ◌∙◌, arith}
+use Rattle.std.specs.Prelude.{true, false, Result, Ok, Err, is_err, OnOk, OnErr}
 use Rattle.std.proofs.lemmas.List.Sums.{sum_by_more, sum_by_more_le}
 use Rattle.row_store.specs.Tuple.{ids_of, ids_behind}
 use Rattle.row_store.specs.Watch.{IsWide}
-use Rattle.row_store.specs.Watches.{HoldsOfRow, HasAdded, HoldsTheSame, probes_of}
+use Rattle.row_store.specs.Watches.{HoldsOfRow, HoldsTheSame, probes_of}
 use Rattle.row_store.proofs.Zips.{item_ahead, ahead_more, zip_more, zip_rest}
 use Rattle.row_store.proofs.watches.add_until_refused.Goals as goal
 

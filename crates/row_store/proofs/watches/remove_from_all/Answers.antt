@@ -1,10 +1,10 @@
-use Rattle.std.proofs.Common.{◌≡◌, ◌<◌, length, get_or, refl, sym, ap, subst, ◌∙◌, arith}
-use Rattle.std.specs.Prelude.{All, sum_by, Some}
+use Rattle.std.proofs.Common.{refl, sym, ap, subst, arith}
+use Rattle.std.specs.Prelude.{sum_by}
 use Rattle.std.proofs.lemmas.List.{take_all}
 use Rattle.std.proofs.lemmas.List.Sums.{sum_by_more}
 use Rattle.row_store.specs.Tuple.{ids_of, ids_behind}
 use Rattle.row_store.specs.Watch.{IsWide}
-use Rattle.row_store.specs.Watches.{HoldsOfBoth, HasRemoved, probes_of}
+use Rattle.row_store.specs.Watches.{HoldsOfBoth, probes_of}
 use Rattle.row_store.proofs.Zips.{item_ahead, ahead_more, zip_more, zip_whole}
 use Rattle.row_store.proofs.watches.remove_from_all.Goals as goal
 
