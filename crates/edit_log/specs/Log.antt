@@ -1,8 +1,7 @@
 -- Going back and forward in a log.
-use Rattle.std.specs.Prelude.{◌≡◌, ℕ, ◌+◌, ◌-◌, [], ◌∷◌, ◌++◌, Option, None, Some, ⊤}
+use Rattle.std.specs.Prelude.{◌≡◌, ◌+◌, ◌-◌, [], ◌∷◌, ◌++◌, Option, None, Some, ⊤}
 use Rattle.std.specs.Borrow.{MutBor, Fml, follows_so}
 use mathlib.Core.Option.{none}
-use Rattle.edit_log.specs.Trail.{Trail}
 use Rattle.edit_log.specs.declared.change.Change.{Change}
 use Rattle.edit_log.specs.declared.log.Log.{Log}
 use Rattle.edit_log.specs.contracts.log.Log.{the_row}
