@@ -14,7 +14,7 @@ pub record Store : Type 0 where
   pub next : ℕ
   pub spare : ℕ
 
--- no row has an id that the next id doesn't lie above
+-- the next id lies above the id of each row
 abbrev pub AllBelow : Rows → ℕ → Type 0
 AllBelow rows next = (id : ℕ) → next ≤ id → map.get rows id ≡ None
 

@@ -1,4 +1,6 @@
-//! The rows of a table by their ids. Tuples are shared, so that a log of changes can keep old ones.
+//! The rows of a table by their ids, and what it means to be kept in step with them (`Watch`). A row is put,
+//! changed and taken away without memory once there is room, so that an edit that was accepted can't fail
+//! any more. Tuples are shared, so that a log of changes keeps old ones at no cost.
 #![tactic(auto)]
 
 mod rows;
