@@ -1,0 +1,7 @@
+pub mod SlotRows
+pub mod RowsKept
+pub mod Walk
+pub mod Zips
+pub mod TakenBack
+pub mod InStep
+pub mod OneTable
