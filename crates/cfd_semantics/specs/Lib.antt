@@ -1,0 +1,4 @@
+pub mod Pattern
+pub mod Tuple
+pub mod Violation
+pub mod Satisfaction
