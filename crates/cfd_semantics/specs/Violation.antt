@@ -3,6 +3,7 @@ use Rattle.std.specs.Prelude.{ℕ, ◌+◌, ◌<◌, Bool, ◌&&◌, not, cond, 
 use Rattle.std.specs.List.{filter_map}
 use Rattle.std.specs.Option.{option_map, option_map_or}
 use Rattle.cfd_semantics.specs.declared.pattern.TableauRow.{TableauRow}
+use Rattle.cfd_semantics.specs.declared.scan.Violation.{Violation}
 use Rattle.cfd_semantics.specs.Pattern.{matches, all_match}
 use Rattle.cfd_semantics.specs.Tuple.{value_at, values_at, same_values}
 
@@ -50,3 +51,17 @@ violation_of eq tableau_row all e =
 -- The violations of a tableau row, in the order of the rows.
 abbrev pub violations : {V : Type 0} → (V → V → Bool) → TableauRow V → List (Entry V) → List (ℕ × Option ℕ)
 violations eq tableau_row all = filter_map (violation_of eq tableau_row all) all
+
+-- The violations of a tableau row, with its number.
+abbrev pub numbered : ℕ → List (ℕ × Option ℕ) → List Violation
+numbered k found = map (λ one. record { tableau_row = k; row = one.0; partner = one.1 }) found
+
+-- The violations of a dependency: those of its tableau rows in order, each with the number of its tableau row, which
+-- begin at `first`.
+abbrev pub violations_from : {V : Type 0} → (V → V → Bool) → ℕ → List (TableauRow V) → List (Entry V) → List Violation
+violations_from eq first [] all = []
+violations_from eq first (tableau_row ∷ rest) all =
+    numbered first (violations eq tableau_row all) ++ violations_from eq (first + 1) rest all
+
+abbrev pub dependency_violations : {V : Type 0} → (V → V → Bool) → List (TableauRow V) → List (Entry V) → List Violation
+dependency_violations eq tableau all = violations_from eq 0 tableau all

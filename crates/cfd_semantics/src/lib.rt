@@ -8,5 +8,5 @@ mod scan;
 mod tuple;
 
 pub use pattern::{Pattern, TableauRow};
-pub use scan::violations;
+pub use scan::{Violation, dependency_violations, violations};
 pub use tuple::Row;

@@ -1,14 +1,58 @@
 //! The violations of a dependency X -> A, found by comparing every row with every row.
 
-ghost use Rattle.std.specs.Prelude.{◌≡◌, min, All, IfOk};
+ghost use Rattle.std.specs.Prelude.{◌≡◌, ◌↔◌, ◌++◌, [], map, min, All, IfOk, OnOk};
 ghost use Rattle.std.specs.Option.{option_map_or};
 ghost use Rattle.cfd_semantics.specs.Tuple.{HasSides};
-ghost use Rattle.cfd_semantics.specs.Violation.{entry_of, entries, is_single, is_pair, least_partner, violation_of, violations};
+ghost use Rattle.cfd_semantics.specs.Violation.{entry_of, entries, is_single, is_pair, least_partner, violation_of, violations, numbered, dependency_violations};
+ghost use Rattle.cfd_semantics.specs.Satisfaction.{Satisfies};
 
 use crate::pattern::TableauRow;
 use crate::tuple::{Row, matches_at, same_at};
 use schema_core::List;
 use std::alloc::{AllocError, Global};
+
+/// A violation of a dependency: the number of the tableau row, the row, and its partner where it has one.
+#[derive(Clone, Copy, PartialEq, Eq, Debug)]
+pub struct Violation {
+    pub tableau_row: usize,
+    pub row: u64,
+    pub partner: Option<u64>,
+}
+
+/// The violations of a dependency X -> A: those of its tableau rows, one tableau row after the other.
+pub fn dependency_violations<V: Eq>(
+    alloc: Global,
+    rows: &[Row<V>],
+    x: &[usize],
+    a: usize,
+    tableau: &[TableauRow<V>],
+) -> Result<List<Violation>, AllocError>
+    requires { All (λ row. HasSides x.now a row.1) rows.now }
+    ensures list { IfOk result (λ found. (missing : V)
+        → found ≡ dependency_violations V.eq tableau.now (entries missing x.now a rows.now)) }
+    ensures law { IfOk result (λ found. (missing : V)
+        → (found ≡ [] ↔ Satisfies V.eq missing x.now a tableau.now (map (λ row. row.1) rows.now))) }
+{
+    let mut all = List::new(alloc);
+    for (k, tableau_row) in tableau.iter().enumerate() {
+        let found = violations(alloc, rows, x, a, tableau_row)?;
+        push_numbered(&mut all, k, found.as_slice())?;
+    }
+    Ok(all)
+}
+
+fn push_numbered(all: &mut List<Violation>, tableau_row: usize, found: &[(u64, Option<u64>)]) -> Result<(), AllocError>
+    ensures { OnOk result (all.new ≡ all.old ++ numbered tableau_row found.now) }
+{
+    for (row, partner) in found {
+        all.push(Violation {
+            tableau_row,
+            row: *row,
+            partner: *partner,
+        })?;
+    }
+    Ok(())
+}
 
 /// The violations of one tableau row, in the order of the rows: a row with its least partner, or by itself where its A
 /// value doesn't match.
