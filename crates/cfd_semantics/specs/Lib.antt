@@ -2,3 +2,4 @@ pub mod Pattern
 pub mod Tuple
 pub mod Violation
 pub mod Satisfaction
+pub mod Renaming
