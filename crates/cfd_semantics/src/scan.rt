@@ -118,7 +118,7 @@ fn is_pair<V: PartialEq>(
     let cells = tableau_row.x.as_slice();
     let tuple = row.1.as_slice();
     let beside = other.1.as_slice();
-    same_at(x, tuple, beside)
+    same_at(x, tuple, x, beside)
         && matches_at(cells, x, tuple)
         && matches_at(cells, x, beside)
         && tableau_row.a.matches(&tuple[a])
