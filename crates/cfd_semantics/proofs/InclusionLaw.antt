@@ -15,13 +15,15 @@ found_by_any : {X : Type 0} (p : X → Bool) (xs : List X) → list_any p xs ≡
 found_by_any p [] h = absurd (cc)
 found_by_any p (x ∷ xs) h = elim (one_true (p x) (list_any p xs) h) [
   | inl is ↦ (x, contains-here x xs, is)
-  | inr later ↦ let found = found_by_any p xs later in (found.0, contains-there found.0 x xs found.1, found.2) ]
+  | inr later ↦ let found = found_by_any p xs later in (found.0, contains-there found.0 x xs found.1, found.2)
+]
 
 any_from_found : {X : Type 0} (p : X → Bool) (xs : List X) (x : X) → Contains xs x → p x ≡ true → list_any p xs ≡ true
 any_from_found p [] x member h = absurd (contains_nothing x member)
 any_from_found p (y ∷ ys) x member h = elim (contains_cases x y ys member) [
   | inl is ↦ rw (is, h) refl
-  | inr later ↦ rw (any_from_found p ys x later h) (or-true (p y)) ]
+  | inr later ↦ rw (any_from_found p ys x later h) (or-true (p y))
+]
   where
     or-true : (b : Bool) → (b || true) ≡ true
     or-true true = refl
@@ -48,8 +50,9 @@ none_of_each eq k [] lefts rights h t member = absurd (contains_nothing t member
 none_of_each eq k (first ∷ rest) lefts rights h t member =
     let parts = append-empty (numbered_orphans k (orphans eq first lefts rights)) (orphans_from eq (k + 1) rest lefts rights) h in
     elim (contains_cases t first rest member) [
-    | inl is ↦ rw (← is) (map-empty _ (filter (is_orphan eq first rights) lefts) (map-empty _ (orphans eq first lefts rights) parts.0))
-    | inr later ↦ none_of_each eq (k + 1) rest lefts rights parts.1 t later ]
+      | inl is ↦ rw (← is) (map-empty _ (filter (is_orphan eq first rights) lefts) (map-empty _ (orphans eq first lefts rights) parts.0))
+      | inr later ↦ none_of_each eq (k + 1) rest lefts rights parts.1 t later
+    ]
 
 none_of_all : {V : Type 0} (eq : V → V → Bool) (k : ℕ) (tableau : List (InclusionRow V)) (lefts rights : List (SideEntry V)) → ((t : InclusionRow V) → Contains tableau t → filter (is_orphan eq t rights) lefts ≡ []) → orphans_from eq k tableau lefts rights ≡ []
 none_of_all eq k [] lefts rights h = refl
@@ -86,14 +89,15 @@ unfolding IsAnswered
 orphans_are_none_where_included {V} eq missing x xp y yp tableau lefts rights =
     let left_of = side_entry_of missing x xp in
     let right_of = side_entry_of missing y yp in
-    let tuple_of = λ (row : ℕ × List V). row.1 in
-    ((λ empty t tuple member inside has.
-        let row = contains_from_map tuple_of lefts tuple inside in
-        let passes = none_pass_from_empty (is_orphan eq t (map right_of rights)) (map left_of lefts) (none_of_each eq 0 tableau (map left_of lefts) (map right_of rights) empty t member) (left_of row.0) (contains-map left_of lefts row.0 row.1) in
-        subst (λ u. same_values eq t.xp (values_at missing u xp) ≡ true → IsAnswered eq missing x y yp t rights u) row.2
-        (λ has. answered_tuple eq missing x xp y yp t rights row.0 (answered (same_values eq t.xp (values_at missing row.0.1 xp)) (list_any (answers eq t (left_of row.0)) (map right_of rights)) passes has)) has),
-     (λ included. none_of_all eq 0 tableau (map left_of lefts) (map right_of rights) (λ t member.
-        empty_from_none_pass (is_orphan eq t (map right_of rights)) (map left_of lefts) (λ left here.
+    let tuple_of = λ (row : ℕ × List V). row.1 in (
+      (λ empty t tuple member inside has.
+          let row = contains_from_map tuple_of lefts tuple inside in
+          let passes = none_pass_from_empty (is_orphan eq t (map right_of rights)) (map left_of lefts) (none_of_each eq 0 tableau (map left_of lefts) (map right_of rights) empty t member) (left_of row.0) (contains-map left_of lefts row.0 row.1) in
+          subst (λ u. same_values eq t.xp (values_at missing u xp) ≡ true → IsAnswered eq missing x y yp t rights u) row.2
+          (λ has. answered_tuple eq missing x xp y yp t rights row.0 (answered (same_values eq t.xp (values_at missing row.0.1 xp)) (list_any (answers eq t (left_of row.0)) (map right_of rights)) passes has)) has),
+      (λ included. none_of_all eq 0 tableau (map left_of lefts) (map right_of rights) (λ t member.
+          empty_from_none_pass (is_orphan eq t (map right_of rights)) (map left_of lefts) (λ left here.
           let row = contains_from_map left_of lefts left here in
           subst (λ l. is_orphan eq t (map right_of rights) l ≡ false) row.2
-          (no_orphan (same_values eq t.xp (values_at missing row.0.1 xp)) (list_any (answers eq t (left_of row.0)) (map right_of rights)) (λ has. any_from_answered eq missing x xp y yp t rights row.0 (included t row.0.1 member (contains-map tuple_of lefts row.0 row.1) has)))))))
+          (no_orphan (same_values eq t.xp (values_at missing row.0.1 xp)) (list_any (answers eq t (left_of row.0)) (map right_of rights)) (λ has. any_from_answered eq missing x xp y yp t rights row.0 (included t row.0.1 member (contains-map tuple_of lefts row.0 row.1) has)))))),
+    )

@@ -2,6 +2,7 @@
 use Rattle.std.specs.Prelude.{ℕ, ◌+◌, Bool, ◌&&◌, not, List, [], ◌∷◌, ◌++◌, map}
 use Rattle.std.specs.List.{filter, list_any}
 use Rattle.cfd_semantics.specs.declared.inclusion.InclusionRow.{InclusionRow}
+use Rattle.cfd_semantics.specs.declared.inclusion.Side.{Side}
 use Rattle.cfd_semantics.specs.declared.orphan.Orphan.{Orphan}
 use Rattle.cfd_semantics.specs.Tuple.{values_at, same_values}
 
@@ -16,6 +17,10 @@ side_entry_of missing key pattern row = record { key = values_at missing row.1 k
 
 abbrev pub side_entries : {V : Type 0} → V → List ℕ → List ℕ → List (ℕ × List V) → List (SideEntry V)
 side_entries missing key pattern rows = map (side_entry_of missing key pattern) rows
+
+-- The entries of one side of an inclusion.
+abbrev pub entries_of : {V : Type 0} → V → Side V → List (SideEntry V)
+entries_of missing side = side_entries missing side.key.now side.pattern.now side.rows.now
 
 -- A right row answers a left one: it has the same key, and the constants of Yp.
 abbrev pub answers : {V : Type 0} → (V → V → Bool) → InclusionRow V → SideEntry V → SideEntry V → Bool

@@ -1,5 +1,8 @@
 //! The parts of an inclusion R1[X; Xp] in R2[Y; Yp], a conditional inclusion dependency.
 
+ghost use Rattle.std.specs.Prelude.{All};
+ghost use Rattle.cfd_semantics.specs.Tuple.{HasKeyAndPattern};
+
 use crate::tuple::Row;
 use schema_core::List;
 
@@ -16,4 +19,5 @@ pub struct Side<'a, V> {
     pub rows: &'a [Row<V>],
     pub key: &'a [usize],
     pub pattern: &'a [usize],
+    ghost has_attributes: { All (λ row. HasKeyAndPattern key.now pattern.now row.1) rows.now },
 }

@@ -1,9 +1,9 @@
 //! The orphans of an inclusion, found by comparing every left row with every right row.
 
-ghost use Rattle.std.specs.Prelude.{◌≡◌, ◌↔◌, ◌++◌, [], map, not, All, IfOk, OnOk};
+ghost use Rattle.std.specs.Prelude.{◌≡◌, ◌↔◌, ◌++◌, [], map, IfOk, OnOk};
 ghost use Rattle.std.specs.List.{list_any};
 ghost use Rattle.cfd_semantics.specs.Tuple.{HasKeyAndPattern};
-ghost use Rattle.cfd_semantics.specs.Orphan.{side_entry_of, side_entries, answers, is_orphan, orphans, numbered_orphans, inclusion_orphans};
+ghost use Rattle.cfd_semantics.specs.Orphan.{side_entry_of, entries_of, answers, is_orphan, orphans, numbered_orphans, inclusion_orphans};
 ghost use Rattle.cfd_semantics.specs.Satisfaction.{IsIncluded};
 
 use crate::inclusion::{InclusionRow, Side};
@@ -25,11 +25,8 @@ pub fn inclusion_orphans<V: PartialEq>(
     right: &Side<'_, V>,
     tableau: &[InclusionRow<V>],
 ) -> Result<List<Orphan>, AllocError>
-    requires left { All (λ row. HasKeyAndPattern left.now.key.now left.now.pattern.now row.1) left.now.rows.now }
-    requires right { All (λ row. HasKeyAndPattern right.now.key.now right.now.pattern.now row.1) right.now.rows.now }
     ensures list { IfOk result (λ found. (missing : V) → found ≡ inclusion_orphans V.eq tableau.now
-        (side_entries missing left.now.key.now left.now.pattern.now left.now.rows.now)
-        (side_entries missing right.now.key.now right.now.pattern.now right.now.rows.now)) }
+        (entries_of missing left.now) (entries_of missing right.now)) }
     ensures law { IfOk result (λ found. (missing : V) → (found ≡ [] ↔ IsIncluded V.eq missing
         left.now.key.now left.now.pattern.now right.now.key.now right.now.pattern.now tableau.now
         (map (λ row. row.1) left.now.rows.now) (map (λ row. row.1) right.now.rows.now))) }
@@ -42,7 +39,11 @@ pub fn inclusion_orphans<V: PartialEq>(
     Ok(all)
 }
 
-fn push_numbered(all: &mut List<Orphan>, tableau_row: usize, found: &[u64]) -> Result<(), AllocError>
+fn push_numbered(
+    all: &mut List<Orphan>,
+    tableau_row: usize,
+    found: &[u64],
+) -> Result<(), AllocError>
     ensures { OnOk result (all.new ≡ all.old ++ numbered_orphans tableau_row found.now) }
 {
     for row in found {
@@ -61,11 +62,8 @@ pub fn orphans<V: PartialEq>(
     right: &Side<'_, V>,
     tableau_row: &InclusionRow<V>,
 ) -> Result<List<u64>, AllocError>
-    requires left { All (λ row. HasKeyAndPattern left.now.key.now left.now.pattern.now row.1) left.now.rows.now }
-    requires right { All (λ row. HasKeyAndPattern right.now.key.now right.now.pattern.now row.1) right.now.rows.now }
     ensures { IfOk result (λ found. (missing : V) → found ≡ orphans V.eq tableau_row.now
-        (side_entries missing left.now.key.now left.now.pattern.now left.now.rows.now)
-        (side_entries missing right.now.key.now right.now.pattern.now right.now.rows.now)) }
+        (entries_of missing left.now) (entries_of missing right.now)) }
 {
     let mut found = List::new(alloc);
     for row in left.rows {
@@ -76,15 +74,20 @@ pub fn orphans<V: PartialEq>(
     Ok(found)
 }
 
-fn is_orphan<V: PartialEq>(left: &Side<'_, V>, right: &Side<'_, V>, tableau_row: &InclusionRow<V>, row: &Row<V>) -> bool
-    requires row { HasKeyAndPattern left.now.key.now left.now.pattern.now row.now.1 }
-    requires right { All (λ other. HasKeyAndPattern right.now.key.now right.now.pattern.now other.1) right.now.rows.now }
+fn is_orphan<V: PartialEq>(
+    left: &Side<'_, V>,
+    right: &Side<'_, V>,
+    tableau_row: &InclusionRow<V>,
+    row: &Row<V>,
+) -> bool
+    requires { HasKeyAndPattern left.now.key.now left.now.pattern.now row.now.1 }
     ensures { (missing : V) → result ≡ is_orphan V.eq tableau_row.now
-        (side_entries missing right.now.key.now right.now.pattern.now right.now.rows.now)
+        (entries_of missing right.now)
         (side_entry_of missing left.now.key.now left.now.pattern.now row.now) }
 {
     let tuple = row.1.as_slice();
-    has_at(tableau_row.xp.as_slice(), left.pattern, tuple) && !is_answered(left, right, tableau_row, row)
+    has_at(tableau_row.xp.as_slice(), left.pattern, tuple)
+        && !is_answered(left, right, tableau_row, row)
 }
 
 // Whether some right row answers the left one.
@@ -94,11 +97,10 @@ fn is_answered<V: PartialEq>(
     tableau_row: &InclusionRow<V>,
     row: &Row<V>,
 ) -> bool
-    requires row { HasKeyAndPattern left.now.key.now left.now.pattern.now row.now.1 }
-    requires right { All (λ other. HasKeyAndPattern right.now.key.now right.now.pattern.now other.1) right.now.rows.now }
+    requires { HasKeyAndPattern left.now.key.now left.now.pattern.now row.now.1 }
     ensures { (missing : V) → result ≡ list_any
         (answers V.eq tableau_row.now (side_entry_of missing left.now.key.now left.now.pattern.now row.now))
-        (side_entries missing right.now.key.now right.now.pattern.now right.now.rows.now) }
+        (entries_of missing right.now) }
 {
     for other in right.rows {
         if answers(left, right, tableau_row, row, other) {
@@ -123,5 +125,6 @@ fn answers<V: PartialEq>(
 {
     let tuple = row.1.as_slice();
     let beside = other.1.as_slice();
-    same_at(left.key, tuple, right.key, beside) && has_at(tableau_row.yp.as_slice(), right.pattern, beside)
+    same_at(left.key, tuple, right.key, beside)
+        && has_at(tableau_row.yp.as_slice(), right.pattern, beside)
 }

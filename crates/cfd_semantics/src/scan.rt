@@ -41,7 +41,11 @@ pub fn dependency_violations<V: Eq>(
     Ok(all)
 }
 
-fn push_numbered(all: &mut List<Violation>, tableau_row: usize, found: &[(u64, Option<u64>)]) -> Result<(), AllocError>
+fn push_numbered(
+    all: &mut List<Violation>,
+    tableau_row: usize,
+    found: &[(u64, Option<u64>)],
+) -> Result<(), AllocError>
     ensures { OnOk result (all.new ≡ all.old ++ numbered tableau_row found.now) }
 {
     for (row, partner) in found {
