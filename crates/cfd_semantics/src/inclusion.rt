@@ -15,6 +15,7 @@ pub struct InclusionRow<V> {
 
 /// One side of an inclusion: the rows of its table, the attributes whose values are to be included, and those that have
 /// constants.
+#[derive(Drop)]
 pub struct Side<'a, V> {
     pub rows: &'a [Row<V>],
     pub key: &'a [usize],

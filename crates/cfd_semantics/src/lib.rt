@@ -14,3 +14,6 @@ pub use orphan::{Orphan, inclusion_orphans, orphans};
 pub use pattern::{Pattern, TableauRow};
 pub use scan::{Violation, dependency_violations, violations};
 pub use tuple::Row;
+
+#[cfg(test)]
+mod tests;
