@@ -54,6 +54,23 @@ impl<T> List<T> {
     {
         self.items.as_slice()
     }
+
+    /// The items themselves, with the room that they stand in.
+    pub fn into_vec(self) -> Vec<T>
+        ensures { result.items ≡ self }
+    {
+        self.items
+    }
+}
+
+impl<T> From<Vec<T>> for List<T> {
+    ghost use Rattle.std.specs.Prelude.{◌≡◌};
+
+    ghost from_gives = { λ v l. l ≡ v.items };
+
+    fn from(items: Vec<T>) -> List<T> {
+        List { items }
+    }
 }
 
 impl<T: Clone> Clone for List<T> {
