@@ -1,13 +1,15 @@
-// A library with one function.
+//! The tables of a project and the edits that are made to them. A bench is a state, the rows of each
+//! table by rising ids, together with its rules and limits; an edit leads to the state that the
+//! definition `edited` gives, or is refused by the first cause that holds and changes nothing.
 #![tactic(auto)]
 
-ghost use Rattle.std.specs.Prelude.{◌≡◌};
-ghost use Rattle.bench_core.specs.Echo.{echo_of};
 
-// The `ensures` clause is the contract: what `echo` returns is `echo_of` of its argument, a definition
-// in `specs/Echo.antt`, which a caller's clause can cite too.
-pub fn echo(x: usize) -> usize
-    ensures { result ≡ echo_of x }
-{
-    x
-}
+pub mod bench;
+pub mod edit;
+mod room;
+pub mod rows;
+
+
+pub use bench::Bench;
+pub use edit::{Applied, Edit, EditFault, LoadFault};
+pub use rows::{RowId, TableRows};
