@@ -1,5 +1,5 @@
 -- Rule books: declarations without fault, and the dependencies that they stand for.
-use Rattle.std.specs.Prelude.{◌≡◌, ℕ, ◌<◌, ◌≤◌, List, length, take, All, sum_by, slice_index_or, Option, None}
+use Rattle.std.specs.Prelude.{◌≡◌, ℕ, ◌<◌, ◌≤◌, List, [], ◌∷◌, ◌++◌, length, take, All, sum_by, slice_index_or, Option, None}
 use Rattle.std.specs.List.{flat_map}
 use Rattle.schema_core.specs.Limits.{AreLimits}
 use Rattle.schema_core.specs.Schemas.{IsValidSchema}
@@ -8,15 +8,19 @@ use Rattle.schema_core.specs.declared.schema.Schema.{Schema}
 use Rattle.rule_model.specs.declared.decl.Decl.{Decl}
 use Rattle.rule_model.specs.declared.dep.Dep.{Dep}
 use Rattle.rule_model.specs.declared.fault.RuleFault.{RuleFault}
-use Rattle.rule_model.specs.Declarations.{IsWritten}
+use Rattle.rule_model.specs.Declarations.{row_count, IsWritten}
 use Rattle.rule_model.specs.Dependencies.{deps_of, IsValidDep}
-use Rattle.rule_model.specs.Faults.{fault_of, row_count}
+use Rattle.rule_model.specs.Faults.{fault_of}
 
 -- what a rule book holds: a schema, limits, and declarations in the order in which they joined
 pub record Book : Type 0 where
   pub schema : Schema
   pub limits : Limits
   pub decls : List Decl
+
+-- a book with one more declaration
+abbrev pub with_decl : Book → Decl → Book
+with_decl book decl = record { schema = book.schema; limits = book.limits; decls = book.decls ++ decl ∷ [] }
 
 -- the dependencies of a book: those of its declarations, in order
 unfoldable pub book_deps : Book → List Dep

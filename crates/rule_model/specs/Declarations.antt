@@ -13,6 +13,13 @@ use Rattle.rule_model.specs.declared.decl.Decl.TheVariants.{Cfd}
 abbrev pub name_of : Decl → List ℕ
 name_of (Cfd cfd) = cfd.name
 
+-- how many dependencies a declaration stands for, and how many tableau rows it has
+abbrev pub dep_count : Decl → ℕ
+dep_count (Cfd cfd) = length cfd.y
+
+abbrev pub row_count : Decl → ℕ
+row_count (Cfd cfd) = length cfd.rows
+
 -- the constant of a cell, or the members of its set
 abbrev pub constants_of : Pattern (List ℕ) → List (List ℕ)
 constants_of Any = []

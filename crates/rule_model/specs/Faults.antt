@@ -19,7 +19,7 @@ use Rattle.rule_model.specs.declared.fault.RuleFault.{RuleFault}
 use Rattle.rule_model.specs.declared.fault.RuleFault.TheVariants.{DuplicateRule, UnknownTable, UnknownAttr, RepeatedAttr, WidthMismatch, ConstantOutsideDomain, RepeatedConstant, TooMany}
 use Rattle.rule_model.specs.declared.fault.AddFault.{AddFault}
 use Rattle.rule_model.specs.declared.fault.AddFault.TheVariants.{Rule, Memory}
-use Rattle.rule_model.specs.Declarations.{name_of, constants_of, cells_of}
+use Rattle.rule_model.specs.Declarations.{name_of, constants_of, cells_of, dep_count, row_count}
 use Rattle.rule_model.specs.Dependencies.{table_number, attrs_at, place_of, attr_number, domain_at}
 
 -- ---- words
@@ -88,13 +88,6 @@ repeated_in_cell (name, cell) = option_map (λ value. RepeatedConstant name valu
 -- the first member, in reading order, that stands a second time in its set
 abbrev pub repeated_constant : CfdDecl → Option RuleFault
 repeated_constant cfd = first_in (λ row. first_in repeated_in_cell (cells_of cfd row)) cfd.rows
-
--- how many dependencies a declaration stands for, and how many tableau rows it has
-abbrev pub dep_count : Decl → ℕ
-dep_count (Cfd cfd) = length cfd.y
-
-abbrev pub row_count : Decl → ℕ
-row_count (Cfd cfd) = length cfd.rows
 
 -- more than the limit
 abbrev pub too_many : Limit → ℕ → ℕ → Option RuleFault

@@ -259,6 +259,7 @@ fn keeps_limit(limit: Limit, most: u64, so_far: u64, more: u64) -> Result<(), Ad
 }
 
 /// The numbers of a declaration's table and of its attributes.
+#[derive(Drop)]
 pub struct Numbers {
     pub table: usize,
     pub x: List<usize>,

@@ -1,7 +1,7 @@
 //! Declarations, as they are written: names are not looked up yet.
 
 ghost use Rattle.std.specs.Prelude.{◌≡◌};
-ghost use Rattle.rule_model.specs.Declarations.{name_of};
+ghost use Rattle.rule_model.specs.Declarations.{name_of, row_count};
 
 use cfd_semantics::Pattern;
 use schema_core::{List, Text, Texts};
@@ -38,6 +38,15 @@ impl Decl {
     {
         match self {
             Decl::Cfd(cfd) => &cfd.name,
+        }
+    }
+
+    /// How many tableau rows it has.
+    pub fn tableau_rows(&self) -> usize
+        ensures { result ≡ row_count self.now }
+    {
+        match self {
+            Decl::Cfd(cfd) => cfd.rows.as_slice().len(),
         }
     }
 }

@@ -1,6 +1,6 @@
 //! The dependencies that a declaration stands for, once its names are numbers.
 
-ghost use Rattle.std.specs.Prelude.{◌≡◌, ◌<◌, length, map, All, IfOk};
+ghost use Rattle.std.specs.Prelude.{◌≡◌, ◌<◌, length, map, take, All, IfOk, OnOk, ◌++◌};
 ghost use Rattle.rule_model.specs.Declarations.{IsAsWide};
 ghost use Rattle.rule_model.specs.Dependencies.{row_at, dep_at, deps_at};
 
@@ -81,22 +81,23 @@ fn dep(
     })
 }
 
-/// One dependency for each attribute of the right list, where `table`, `x` and `y` are the numbers of the
-/// declaration's names.
-pub fn number(
+/// Appends one dependency for each attribute of the right list, where `table`, `x` and `y` are the numbers of
+/// the declaration's names. After a refusal some of them may stand at the end.
+pub fn append_deps(
     alloc: Global,
     cfd: &CfdDecl,
     table: usize,
     x: &List<usize>,
     y: &[usize],
-) -> Result<List<Dep>, AllocError>
+    deps: &mut List<Dep>,
+) -> Result<(), AllocError>
     requires right { length y.now ≡ length cfd.now.y }
     requires wide { All (IsAsWide cfd.now) cfd.now.rows }
-    ensures { IfOk result (λ deps. deps ≡ deps_at cfd.now table x.now y.now) }
+    ensures ok { OnOk result (deps.new ≡ deps.old ++ deps_at cfd.now table x.now y.now) }
+    ensures front { take (length deps.old) deps.new ≡ deps.old }
 {
-    let mut deps = List::new(alloc);
     for place in 0..y.len() {
         deps.push(dep(alloc, cfd, table, x, y, place)?)?;
     }
-    Ok(deps)
+    Ok(())
 }
