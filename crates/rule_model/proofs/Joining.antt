@@ -29,7 +29,7 @@ use Rattle.rule_model.specs.declared.dep.Dep.{Dep}
 use Rattle.rule_model.specs.declared.fault.RuleFault.{RuleFault}
 use Rattle.rule_model.specs.declared.fault.RuleFault.TheVariants.{UnknownTable, TooMany}
 use Rattle.rule_model.specs.Declarations.{cells_of, dep_count, row_count, IsAsWide, IsWrittenCell, IsWrittenRow, IsWrittenCfd, IsWritten}
-use Rattle.rule_model.specs.Dependencies.{table_number, attrs_at, attr_number, domain_at, row_at, dep_at, deps_at, deps_of, IsCellOf, IsValidRow, IsValidDep}
+use Rattle.rule_model.specs.Dependencies.{table_number, attrs_at, attr_number, domain_at, row_at, dep_at, deps_at, deps_of, AreNumbersOf, IsCellOf, IsValidRow, IsValidDep}
 use Rattle.rule_model.specs.Faults.{or_else, first_of, first_in, outside_in_cell, outside_domain, repeated_in_cell, repeated_constant, width_mismatch, duplicate_rule, unknown_table, unknown_attr, repeated_attr, too_many, fault_in_names, fault_in_rows, fault_in_counts, fault_of_cfd, fault_of}
 use Rattle.rule_model.specs.Books.{Book, with_decl, book_deps, book_fault, AreFaultless, IsBook, IsKept}
 use Rattle.rule_model.proofs.Passing.{both_none, none_in, none_if, map_none, each_weaker, distinct_if_none}
@@ -133,6 +133,15 @@ deps_valid schema limits earlier (Cfd cfd) e written k d lt =
     subst (IsValidDep schema) (sym (get_or-map-range_with_len (dep_at cfd table x y) 0 (length y) k k d within (omega arith)))
       (dep_valid schema cfd k in_right (named_if_none schema earlier cfd a.0) b.0 written)
 
+-- the dependencies over the numbers of a declaration's names are those that it stands for
+pub deps_of_numbers : (schema : Schema) (cfd : CfdDecl) (table : ℕ) (x y : List ℕ) → AreNumbersOf schema cfd table x y → deps_at cfd table x y ≡ deps_of schema (Cfd cfd)
+unfolding deps_of
+deps_of_numbers schema cfd table x y numbers =
+    let of : ℕ → List (List ℕ) → List ℕ = λ t names. map (attr_number (attrs_at schema t)) names in
+    ap (λ (l : List ℕ). deps_at cfd table l y) numbers.x-is
+    ∙ ap (λ (l : List ℕ). deps_at cfd table (of table cfd.x) l) numbers.y-is
+    ∙ ap (λ (t : ℕ). deps_at cfd t (of t cfd.x) (of t cfd.y)) numbers.table-is
+
 -- ---- counts
 
 length-deps_of : (schema : Schema) (decl : Decl) → length (deps_of schema decl) ≡ dep_count decl
@@ -228,3 +237,7 @@ kept_empty schema limits valid within = record {
   deps-is = refl;
   tableau_rows-is = refl;
 }
+
+-- the book counts the dependencies that it holds
+pub counted : (book : Book) (deps : List Dep) (rows : ℕ) → IsKept book deps rows → length deps ≡ sum_by dep_count book.decls
+counted book deps rows kept = ap length kept.deps-is ∙ length-book_deps book

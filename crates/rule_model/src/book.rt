@@ -134,6 +134,7 @@ fn append(
 }
 
 /// Appends the declaration and its dependencies, both or neither.
+#[tactic(auto, unfolding(crate::specs::Faults::fault_of))]
 fn join(
     alloc: Global,
     schema: &Schema,
