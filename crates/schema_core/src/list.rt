@@ -1,6 +1,6 @@
 //! A list that grows at its end. Clauses see it as the list of its items.
 
-ghost use Rattle.std.specs.Prelude.{◌≡◌, ◌<◌, [], ◌∷◌, ◌++◌, length, slice_set, slice_get, OnOk, OnErr};
+ghost use Rattle.std.specs.Prelude.{◌≡◌, ◌<◌, [], ◌∷◌, ◌++◌, length, take, slice_set, slice_get, OnOk, OnErr};
 ghost use Rattle.std.specs.List.{AllZip};
 ghost use Rattle.std.specs.Cmp.Lexicographic.{pointwise, lists_equiv, lists_per};
 
@@ -47,6 +47,15 @@ impl<T> List<T> {
         ensures given { slice_get self.old place ≡ Some result }
     {
         std::mem::replace(&mut self.items[place], item)
+    }
+
+    /// Drops the items from that place on.
+    pub fn truncate(&mut self, length: usize)
+    where
+        T: Drop,
+        ensures { self.new ≡ take length self.old }
+    {
+        self.items.truncate(length);
     }
 
     pub fn as_slice(&self) -> &[T]
