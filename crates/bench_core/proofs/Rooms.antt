@@ -26,12 +26,12 @@ pub min-mul-min : (b w m : ℕ) → min (b * min w m) m ≡ min (b * w) m
 min-mul-min zero w m = simp zero-mul
 min-mul-min (suc b) w m =
     elim (cases_lt m w) [
-    | inl above ↦
-        let low : m ≤ suc b * m = le-mul_suc b m in
-        let high : w ≤ suc b * w = le-mul_suc b w in
-        let least : min w m ≡ m = omega arith in
-        rw least (omega arith)
-    | inr within ↦ let least : min w m ≡ w = omega arith in rw least
+      | inl above ↦
+          let low : m ≤ suc b * m = le-mul_suc b m in
+          let high : w ≤ suc b * w = le-mul_suc b w in
+          let least : min w m ≡ m = omega arith in
+          rw least (omega arith)
+      | inr within ↦ let least : min w m ≡ w = omega arith in rw least
     ]
 
 -- a sum that stops at m, at a summand that stops there

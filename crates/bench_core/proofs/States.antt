@@ -64,6 +64,6 @@ insertion schema limits tables n rows values bench lt is fits id =
       bench = record {
         allowed = bench.allowed;
         states = side_by_side-set _ schema.tables tables n rows (with_row rows values) bench.states (λ t t-is state.
-          state-with_row limits.cell_bytes limits.last_id t rows values (rw is state) (subst (λ attrs. IsRowOf attrs limits.cell_bytes values) (attrs_at-there schema n t t-is) fits) (omega arith));
+            state-with_row limits.cell_bytes limits.last_id t rows values (rw is state) (subst (λ attrs. IsRowOf attrs limits.cell_bytes values) (attrs_at-there schema n t t-is) fits) (omega arith));
       };
     }

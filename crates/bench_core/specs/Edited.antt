@@ -97,12 +97,12 @@ abbrev pub row_fault : BenchState → ℕ → List (List ℕ) → Option EditFau
 row_fault bench table values =
     let attrs = attrs_at bench.rules.schema table in
     first_of (
-      width_fault attrs values
-      ∷ length_fault bench.limits.cell_bytes values
-      ∷ domain_fault attrs values
-      ∷ rows_fault bench.limits (book_deps bench.rules) bench.tables table
-      ∷ ids_fault bench.limits bench.tables table
-      ∷ []
+    width_fault attrs values
+    ∷ length_fault bench.limits.cell_bytes values
+    ∷ domain_fault attrs values
+    ∷ rows_fault bench.limits (book_deps bench.rules) bench.tables table
+    ∷ ids_fault bench.limits bench.tables table
+    ∷ []
     )
 
 -- the same for a table that may not be there

@@ -1,6 +1,6 @@
 //! A bench: rules, limits, and the rows of each table.
 
-ghost use Rattle.std.specs.Prelude.{◌≡◌, ◌<◌, ◌≤◌, length, All, OnOk, OnErr, IfOk, IfErr, AllPairs, nat_le};
+ghost use Rattle.std.specs.Prelude.{◌≡◌, ◌-◌, ◌^◌, ◌<◌, ◌≤◌, [], ◌∷◌, ◌++◌, length, All, OnOk, OnErr, IfOk, IfErr, AllPairs, nat_le};
 ghost use Rattle.std.specs.List.{AllZip, HoldsAt, list_all};
 ghost use Rattle.std.specs.Bool.{OnTrue, OnFalse};
 ghost use Rattle.schema_core.specs.Limits.{AreLimits};
@@ -8,7 +8,7 @@ ghost use Rattle.schema_core.specs.Rows.{IsRowOf};
 ghost use Rattle.schema_core.specs.Schemas.{Admits};
 ghost use Rattle.rule_model.specs.Books.{book_deps};
 ghost use Rattle.rule_model.specs.Dependencies.{attrs_at};
-ghost use Rattle.bench_core.specs.State.{loaded_tables};
+ghost use Rattle.bench_core.specs.State.{loaded_table, loaded_tables};
 ghost use Rattle.bench_core.specs.Edited.{AreTables, IsLoadFault, IsOver, IsWithin, Finds, applied_by, domain_fault, edited, fault_of_edit, ids_fault, length_fault, inserted, loaded, next_id_at, rows_fault, width_fault};
 
 use crate::edit::{Applied, Edit, EditFault, LoadFault};
@@ -47,6 +47,19 @@ fn is_over(deps: &[Dep], tables: &[TableRows], limits: &Limits) -> bool
     count_rows(tables) > limits.rows || count_cells(deps, tables) > limits.index_cells
 }
 
+/// Loads one more table.
+fn add_table(
+    alloc: Global,
+    loaded: &mut Vec<TableRows>,
+    tuples: List<Texts>,
+) -> Result<(), AllocError>
+    requires { length tuples < 2 ^ 64 - 1 }
+    ensures { OnOk result (loaded.new.items ≡ loaded.old.items ++ loaded_table tuples ∷ []) }
+{
+    loaded.push(load_table(alloc, tuples)?)?;
+    Ok(())
+}
+
 /// Loads each table, unless they have too many rows or cells.
 fn load_tables(
     alloc: Global,
@@ -64,8 +77,7 @@ fn load_tables(
         if tuples.as_slice().len() as u64 > limits.rows {
             return Err(LoadFault::RowsFull { table });
         }
-        let rows = load_table(alloc, tuples)?;
-        loaded.push(rows).map_err(AllocError::from)?;
+        add_table(alloc, &mut loaded, tuples)?;
         if is_over(deps, &loaded, limits) {
             return Err(LoadFault::RowsFull { table });
         }
@@ -180,7 +192,11 @@ impl Bench {
         ensures unchanged { OnErr result (self.new ≡ self.old) }
     {
         match edit {
-            Edit::Insert { table, values } => match self.rules.schema().table_named(table.as_str()) {
+            Edit::Insert { table, values } => match self
+                .rules
+                .schema()
+                .table_named(table.as_str())
+            {
                 None => Err(EditFault::UnknownTable),
                 Some(place) => {
                     self.check_row(place, values)?;
@@ -197,11 +213,18 @@ impl Bench {
         ensures fits { OnOk result (IsRowOf (attrs_at self.now.rules.schema table) self.now.limits.cell_bytes values.now) }
         ensures id { OnOk result (next_id_at self.now.tables table ≤ self.now.limits.last_id) }
     {
-        let attrs = self.rules.schema().tables.as_slice()[table].attrs.as_slice();
+        let attrs = self.rules.schema().tables.as_slice()[table]
+            .attrs
+            .as_slice();
         check_width(attrs, values.as_slice())?;
         check_lengths(values.as_slice(), self.limits.cell_bytes)?;
         check_domains(attrs, values.as_slice())?;
-        check_room(self.rules.deps().as_slice(), &self.tables, table, &self.limits)?;
+        check_room(
+            self.rules.deps().as_slice(),
+            &self.tables,
+            table,
+            &self.limits,
+        )?;
         check_ids(&self.tables, table, &self.limits)
     }
 

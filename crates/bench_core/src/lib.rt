@@ -3,12 +3,10 @@
 //! definition `edited` gives, or is refused by the first cause that holds and changes nothing.
 #![tactic(auto)]
 
-
 pub mod bench;
 pub mod edit;
 mod room;
 pub mod rows;
-
 
 pub use bench::Bench;
 pub use edit::{Applied, Edit, EditFault, LoadFault};
