@@ -1,0 +1,16 @@
+//! What every other crate speaks of: texts, lists, limits, the tokens of a line, and schemas, with the
+//! reading and writing of schema files. A file is read by one definition: its lines, the tokens of each
+//! line, and what those tokens mean at their place.
+#![tactic(auto)]
+
+pub mod limits;
+pub mod list;
+pub mod schema;
+pub mod text;
+pub mod tokens;
+
+pub use limits::{Limit, Limits};
+pub use list::List;
+pub use schema::{Attr, Domain, Schema, SchemaCause, SchemaFault, Table};
+pub use text::{Text, Texts};
+pub use tokens::{LineTokens, Mark, Token};
