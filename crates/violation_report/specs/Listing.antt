@@ -36,6 +36,10 @@ lines_from tables first (dep ∷ deps) = dep_lines tables first dep ++ lines_fro
 abbrev pub listing : BenchState → List Line
 listing bench = lines_from bench.tables 0 (book_deps bench.rules)
 
+-- The rows of its table satisfy a dependency.
+abbrev pub IsSatisfied : List TableRows → Dep → Type 0
+IsSatisfied tables dep = Satisfies bytes_eq [] dep.x dep.a dep.rows (map (λ (row : Row). row.1) (rows_at tables dep.table))
+
 -- The rows of each table satisfy all its dependencies.
 abbrev pub AllSatisfied : BenchState → Type 0
-AllSatisfied bench = All (λ dep. Satisfies bytes_eq [] dep.x dep.a dep.rows (map (λ row. row.1) (rows_at bench.tables dep.table))) (book_deps bench.rules)
+AllSatisfied bench = All (IsSatisfied bench.tables) (book_deps bench.rules)

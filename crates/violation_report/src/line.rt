@@ -1,6 +1,6 @@
 //! The lines of the list, and their texts.
 
-ghost use Rattle.std.specs.Prelude.{◌≡◌, ◌++◌, ◌+◌, ◌<◌, ◌^◌, map, IfOk, OnOk, OnErr};
+ghost use Rattle.std.specs.Prelude.{◌≡◌, ◌++◌, ◌+◌, map, IfOk, OnOk, OnErr};
 ghost use Rattle.std.specs.List.{concat};
 ghost use Rattle.violation_report.specs.Text.{HasTableauRow, IsLineOf, attr_name, line_text, rule_name, table_name};
 
@@ -69,7 +69,7 @@ fn push_single(
             b"single ",
             rule.as_bytes(),
             b".",
-            number.format(k + 1).as_bytes(),
+            number.format(printed_number(rules, dep, k)).as_bytes(),
             b" ",
             attr.as_bytes(),
             b" ",
@@ -103,7 +103,7 @@ fn push_pair(
             b"pair ",
             rule.as_bytes(),
             b".",
-            number.format(k + 1).as_bytes(),
+            number.format(printed_number(rules, dep, k)).as_bytes(),
             b" ",
             attr.as_bytes(),
             b" ",
@@ -124,12 +124,21 @@ fn names_of(rules: &RuleBook, dep: usize, k: usize) -> (&str, &str, &str)
     ensures rule { result.0.now ≡ rule_name rules.now dep }
     ensures attr { result.1.now ≡ attr_name rules.now dep }
     ensures table { result.2.now ≡ table_name rules.now dep }
-    ensures number { k + 1 < 2 ^ 64 }
 {
     let rule = &rules.deps().as_slice()[dep];
     let table = &rules.schema().tables.as_slice()[rule.table];
     let attr = &table.attrs.as_slice()[rule.a];
     (rule.name.as_str(), attr.name.as_str(), table.name.as_str())
+}
+
+// The tableau row's number as it is printed, from 1.
+fn printed_number(rules: &RuleBook, dep: usize, k: usize) -> usize
+    requires { HasTableauRow rules.now dep k }
+    ensures { result ≡ k + 1 }
+{
+    let rows = rules.deps().as_slice()[dep].rows.as_slice();
+    prove!(k < rows.len());
+    k + 1
 }
 
 // Appends the pieces, all or none.
@@ -139,9 +148,12 @@ fn push_all(pieces: &[&[u8]], out: &mut Vec<u8>) -> Result<(), AllocError>
 {
     let before = out.len();
     for piece in pieces {
-        if let Err(fault) = out.extend_from_slice(piece) {
-            out.truncate(before);
-            return Err(fault);
+        match out.extend_from_slice(piece) {
+            Ok(()) => {}
+            Err(fault) => {
+                out.truncate(before);
+                return Err(fault);
+            }
         }
     }
     Ok(())

@@ -1,6 +1,6 @@
 //! The list of a bench.
 
-ghost use Rattle.std.specs.Prelude.{◌≡◌, ◌↔◌, ◌++◌, [], map, All, IfOk, OnOk};
+ghost use Rattle.std.specs.Prelude.{◌≡◌, ◌↔◌, ◌++◌, ◌<◌, [], length, All, IfOk, OnOk};
 ghost use Rattle.rule_model.specs.Dependencies.{IsValidDep};
 ghost use Rattle.violation_report.specs.Listing.{AllSatisfied, dep_lines, line_of, listing};
 ghost use Rattle.violation_report.specs.Text.{IsLineOf};
@@ -32,7 +32,8 @@ fn list_dep(
     dep: &Dep,
     lines: &mut List<Line>,
 ) -> Result<(), AllocError>
-    requires { IsValidDep bench.now.rules.schema dep.now }
+    requires valid { IsValidDep bench.now.rules.schema dep.now }
+    requires within { dep.now.table < length bench.now.tables }
     ensures { OnOk result (lines.new ≡ lines.old ++ dep_lines bench.now.tables number dep.now) }
 {
     let rows = bench.rows(dep.table);
