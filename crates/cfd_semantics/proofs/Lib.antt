@@ -3,3 +3,4 @@ pub mod Listing
 pub mod Law
 pub mod InclusionLaw
 pub mod Renamed
+pub mod RenamedInclusion

@@ -1,8 +1,8 @@
 -- A map that keeps the known values apart changes no test and no violation.
-use Rattle.std.proofs.Common.{◌≡◌, ℕ, ◌+◌, ◌<◌, Bool, true, false, cond, not, List, [], ◌∷◌, map, filter, length, get_or, Option, refl, ap}
+use Rattle.std.proofs.Common.{◌≡◌, ℕ, ◌+◌, ◌<◌, Bool, true, false, cond, not, List, [], ◌∷◌, map, filter, length, Option, refl, ap}
 use Rattle.std.specs.List.{All, list_any, filter_map}
 use Rattle.std.proofs.lemmas.List.{get_or-map}
-use Rattle.std.proofs.lemmas.List.Elements.{All-head, All-tail, All-nil, All-cons}
+use Rattle.std.proofs.lemmas.List.Elements.{All-head, All-tail, All-nil, All-cons, All-weaker}
 use Rattle.cfd_semantics.specs.declared.pattern.Pattern.{Pattern}
 use Rattle.cfd_semantics.specs.declared.pattern.Pattern.TheVariants.{Any, Is, In, NotIn}
 use Rattle.cfd_semantics.specs.declared.pattern.TableauRow.{TableauRow}
@@ -60,12 +60,9 @@ listed-same name h k [] same = refl
 listed-same name h k (e ∷ es) same =
     rw (All-head (λ e. k (renamed_entry name e) ≡ h e) e es same, listed-same name h k es (All-tail (λ e. k (renamed_entry name e) ≡ h e) e es same))
 
-All-then : {X : Type 0} (P Q : X → Type 0) (xs : List X) → ((x : X) → P x → Q x) → All P xs → All Q xs
-All-then P Q xs imply all = λ k d below. imply (get_or xs k d) (all k d below)
-
 pub least_partner-renamed : {V W : Type 0} {Known : V → Type 0} {name : V → W} {eq : V → V → Bool} {named_eq : W → W → Bool} (apart : KeepsApart Known name eq named_eq) (t : TableauRow V) (all : List (Entry V)) (e : Entry V) → HasKnownCells Known t → All (HasKnownValues Known) all → HasKnownValues Known e → least_partner named_eq (renamed_tableau_row name t) (map (renamed_entry name) all) (renamed_entry name e) ≡ least_partner eq t all e
 least_partner-renamed {Known = Known} {name} {eq} {named_eq} apart t all e cells values known =
-    ap least (rows-filtered name (is_pair eq t e) (is_pair named_eq (renamed_tableau_row name t) (renamed_entry name e)) all (All-then (HasKnownValues Known) _ all (λ other beside. is_pair-renamed apart t e other cells known beside) values))
+    ap least (rows-filtered name (is_pair eq t e) (is_pair named_eq (renamed_tableau_row name t) (renamed_entry name e)) all (All-weaker (HasKnownValues Known) _ (λ other beside. is_pair-renamed apart t e other cells known beside) all values))
 
 pub violation_of-renamed : {V W : Type 0} {Known : V → Type 0} {name : V → W} {eq : V → V → Bool} {named_eq : W → W → Bool} (apart : KeepsApart Known name eq named_eq) (t : TableauRow V) (all : List (Entry V)) (e : Entry V) → HasKnownCells Known t → All (HasKnownValues Known) all → HasKnownValues Known e → violation_of named_eq (renamed_tableau_row name t) (map (renamed_entry name) all) (renamed_entry name e) ≡ violation_of eq t all e
 violation_of-renamed apart t all e cells values known =
@@ -74,7 +71,7 @@ violation_of-renamed apart t all e cells values known =
 -- the violations of a tableau row stay the same
 pub violations-renamed : {V W : Type 0} {Known : V → Type 0} {name : V → W} {eq : V → V → Bool} {named_eq : W → W → Bool} (apart : KeepsApart Known name eq named_eq) (t : TableauRow V) (all : List (Entry V)) → HasKnownCells Known t → All (HasKnownValues Known) all → violations named_eq (renamed_tableau_row name t) (map (renamed_entry name) all) ≡ violations eq t all
 violations-renamed {Known = Known} {name} {eq} {named_eq} apart t all cells values =
-    listed-same name (violation_of eq t all) (violation_of named_eq (renamed_tableau_row name t) (map (renamed_entry name) all)) all (All-then (HasKnownValues Known) _ all (λ e known. violation_of-renamed apart t all e cells values known) values)
+    listed-same name (violation_of eq t all) (violation_of named_eq (renamed_tableau_row name t) (map (renamed_entry name) all)) all (All-weaker (HasKnownValues Known) _ (λ e known. violation_of-renamed apart t all e cells values known) all values)
 
 violations_from-renamed : {V W : Type 0} {Known : V → Type 0} {name : V → W} {eq : V → V → Bool} {named_eq : W → W → Bool} (apart : KeepsApart Known name eq named_eq) (first : ℕ) (tableau : List (TableauRow V)) (all : List (Entry V)) → All (HasKnownCells Known) tableau → All (HasKnownValues Known) all → violations_from named_eq first (map (renamed_tableau_row name) tableau) (map (renamed_entry name) all) ≡ violations_from eq first tableau all
 violations_from-renamed apart first [] all cells values = refl
@@ -87,7 +84,7 @@ dependency_violations-renamed apart tableau all cells values = violations_from-r
 
 -- ---- from the rows of a table
 
-values_at-renamed : {V W : Type 0} (name : V → W) (missing : V) (named_missing : W) (tuple : List V) (x : List ℕ) → HasAll x tuple → values_at named_missing (map name tuple) x ≡ map name (values_at missing tuple x)
+pub values_at-renamed : {V W : Type 0} (name : V → W) (missing : V) (named_missing : W) (tuple : List V) (x : List ℕ) → HasAll x tuple → values_at named_missing (map name tuple) x ≡ map name (values_at missing tuple x)
 values_at-renamed name missing named_missing tuple [] inside = refl
 values_at-renamed name missing named_missing tuple (attribute ∷ rest) inside =
     rw (get_or-map name tuple attribute missing named_missing (All-head (λ k. k < length tuple) attribute rest inside), values_at-renamed name missing named_missing tuple rest (All-tail (λ k. k < length tuple) attribute rest inside))
@@ -102,7 +99,7 @@ entries-renamed name missing named_missing x a [] sides = refl
 entries-renamed name missing named_missing x a (row ∷ rest) sides =
     rw (entry_of-renamed name missing named_missing x a row (All-head (λ row. HasSides x a row.1) row rest sides), entries-renamed name missing named_missing x a rest (All-tail (λ row. HasSides x a row.1) row rest sides))
 
-values_at-known : {V : Type 0} (Known : V → Type 0) (missing : V) (tuple : List V) (x : List ℕ) → All Known tuple → HasAll x tuple → All Known (values_at missing tuple x)
+pub values_at-known : {V : Type 0} (Known : V → Type 0) (missing : V) (tuple : List V) (x : List ℕ) → All Known tuple → HasAll x tuple → All Known (values_at missing tuple x)
 values_at-known Known missing tuple [] known inside = All-nil Known
 values_at-known Known missing tuple (attribute ∷ rest) known inside =
     All-cons Known (value_at missing tuple attribute) (values_at missing tuple rest) (known attribute missing (All-head (λ k. k < length tuple) attribute rest inside)) (values_at-known Known missing tuple rest known (All-tail (λ k. k < length tuple) attribute rest inside))

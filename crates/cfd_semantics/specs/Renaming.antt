@@ -5,7 +5,9 @@ use Rattle.std.specs.List.{All}
 use Rattle.cfd_semantics.specs.declared.pattern.Pattern.{Pattern}
 use Rattle.cfd_semantics.specs.declared.pattern.Pattern.TheVariants.{Any, Is, In, NotIn}
 use Rattle.cfd_semantics.specs.declared.pattern.TableauRow.{TableauRow}
+use Rattle.cfd_semantics.specs.declared.inclusion.InclusionRow.{InclusionRow}
 use Rattle.cfd_semantics.specs.Violation.{Entry}
+use Rattle.cfd_semantics.specs.Orphan.{SideEntry}
 
 -- Of the known values, two are equal after the map exactly where they are before it. With ids for texts, the known ids
 -- are those below the length of the pool.
@@ -41,3 +43,20 @@ pub record HasKnownCells {V : Type 0} (Known : V → Type 0) (t : TableauRow V) 
 pub record HasKnownValues {V : Type 0} (Known : V → Type 0) (e : Entry V) : Type 0 where
   pub x : All Known e.x
   pub a : Known e.a
+
+-- ---- inclusions
+
+abbrev pub renamed_inclusion_row : {V W : Type 0} → (V → W) → InclusionRow V → InclusionRow W
+renamed_inclusion_row name t = record { xp = map name t.xp; yp = map name t.yp }
+
+abbrev pub renamed_side_entry : {V W : Type 0} → (V → W) → SideEntry V → SideEntry W
+renamed_side_entry name e = record { key = map name e.key; pattern = map name e.pattern; row = e.row }
+
+-- Each constant of a tableau row, and each value of an entry, is known.
+pub record HasKnownConstants {V : Type 0} (Known : V → Type 0) (t : InclusionRow V) : Type 0 where
+  pub xp : All Known t.xp
+  pub yp : All Known t.yp
+
+pub record HasKnownSide {V : Type 0} (Known : V → Type 0) (e : SideEntry V) : Type 0 where
+  pub key : All Known e.key
+  pub pattern : All Known e.pattern

@@ -12,5 +12,7 @@ loop-row-preserved c =
     (rw (← c.row-item.is) (record { has_key = keys; has_pattern = patterns }))
 
 pub invariant_of-result : goal.invariant_of-result
-invariant_of-result c = record { has_attributes =
-    rw (take_all c.loop-row.row-index c.args.rows.now c.loop-row-test.false) at c.loop-row.invariant }
+invariant_of-result c = record {
+  has_attributes =
+      rw (take_all c.loop-row.row-index c.args.rows.now c.loop-row-test.false) at c.loop-row.invariant;
+}
