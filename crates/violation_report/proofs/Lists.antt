@@ -1,5 +1,5 @@
 -- Facts on the list of a bench: when it is empty, and that its lines are in range of the rules.
-use Rattle.std.proofs.Common.{◌≡◌, ℕ, ◌+◌, ◌<◌, ◌≤◌, ◌↔◌, Bool, List, [], ◌∷◌, ◌++◌, map, length, drop, get_or, Option, None, Some, refl, ap, ◌∙◌, inl, inr, arith}
+use Rattle.std.proofs.Common.{◌≡◌, ℕ, ◌+◌, ◌<◌, ◌↔◌, Bool, List, [], ◌∷◌, map, length, drop, get_or, Option, None, Some, refl, ap, ◌∙◌, inl, inr, arith}
 use Rattle.std.specs.List.{All, slice_get}
 use Rattle.std.specs.Str.{bytes_eq}
 use Rattle.std.proofs.lemmas.Bool.{cases_lt}
@@ -10,14 +10,12 @@ use Rattle.std.proofs.lemmas.List.Elements.{All-nil, All-cons, All-head, All-tai
 use Rattle.cfd_semantics.specs.declared.pattern.TableauRow.{TableauRow}
 use Rattle.cfd_semantics.specs.declared.scan.Violation.{Violation}
 use Rattle.cfd_semantics.specs.Violation.{Entry, entries, violations, numbered, violations_from, dependency_violations}
-use Rattle.cfd_semantics.specs.Satisfaction.{Satisfies}
 use Rattle.cfd_semantics.proofs.Law.{listing_is_empty_where_satisfied}
 use Rattle.cfd_semantics.proofs.Members.{append-empty, map-empty}
 use Rattle.rule_model.specs.declared.dep.Dep.{Dep}
 use Rattle.rule_model.specs.Books.{Book, book_deps}
 use Rattle.bench_core.specs.declared.rows.TableRows.{TableRows}
 use Rattle.bench_core.specs.Edited.{BenchState}
-use Rattle.violation_report.specs.declared.line.Line.{Line}
 use Rattle.violation_report.specs.Listing.{rows_at, line_of, dep_lines, lines_from, listing, AllSatisfied, IsSatisfied}
 use Rattle.violation_report.specs.Text.{IsLineOf, HasTableauRow}
 
@@ -25,19 +23,21 @@ use Rattle.violation_report.specs.Text.{IsLineOf, HasTableauRow}
 
 law_of_dep : (tables : List TableRows) (number : ℕ) (dep : Dep) → dep_lines tables number dep ≡ [] ↔ IsSatisfied tables dep
 law_of_dep tables number dep =
-    let law = listing_is_empty_where_satisfied nat_list_eq_equiv [] dep.x dep.a dep.rows (rows_at tables dep.table) in
-    ((λ empty. law.0 (map-empty (line_of number) (dependency_violations bytes_eq dep.rows (entries [] dep.x dep.a (rows_at tables dep.table))) empty)),
-     (λ satisfied. ap (map (line_of number)) (law.1 satisfied)))
+    let law = listing_is_empty_where_satisfied nat_list_eq_equiv [] dep.x dep.a dep.rows (rows_at tables dep.table) in (
+      (λ empty. law.0 (map-empty (line_of number) (dependency_violations bytes_eq dep.rows (entries [] dep.x dep.a (rows_at tables dep.table))) empty)),
+      (λ satisfied. ap (map (line_of number)) (law.1 satisfied)),
+    )
 
 law_from : (tables : List TableRows) (first : ℕ) (deps : List Dep) → lines_from tables first deps ≡ [] ↔ All (IsSatisfied tables) deps
 law_from tables first [] = ((λ empty. All-nil (IsSatisfied tables)), (λ all. refl))
 law_from tables first (dep ∷ deps) =
     let here = law_of_dep tables first dep in
-    let later = law_from tables (first + 1) deps in
-    ((λ empty.
-        let parts = append-empty (dep_lines tables first dep) (lines_from tables (first + 1) deps) empty in
-        All-cons (IsSatisfied tables) dep deps (here.0 parts.0) (later.0 parts.1)),
-     (λ all. rw (here.1 (All-head (IsSatisfied tables) dep deps all), later.1 (All-tail (IsSatisfied tables) dep deps all)) refl))
+    let later = law_from tables (first + 1) deps in (
+      (λ empty.
+          let parts = append-empty (dep_lines tables first dep) (lines_from tables (first + 1) deps) empty in
+          All-cons (IsSatisfied tables) dep deps (here.0 parts.0) (later.0 parts.1)),
+      (λ all. rw (here.1 (All-head (IsSatisfied tables) dep deps all), later.1 (All-tail (IsSatisfied tables) dep deps all)) refl),
+    )
 
 -- the list is empty exactly where the rows of each table satisfy all its dependencies
 pub listing_is_empty : (bench : BenchState) → listing bench ≡ [] ↔ AllSatisfied bench
@@ -61,8 +61,8 @@ dep_lines_in_range rules tables number dep here =
     let found = dependency_violations bytes_eq dep.rows (entries [] dep.x dep.a (rows_at tables dep.table)) in
     All-map (IsLineOf rules) (line_of number) found
     (All-weaker (λ (v : Violation). v.tableau_row < 0 + length dep.rows) (λ v. IsLineOf rules (line_of number v))
-      (λ v below. line_in_range rules number v.tableau_row v.row v.partner (rw here (omega (arith, below))))
-      found (numbers_in_range bytes_eq 0 dep.rows (entries [] dep.x dep.a (rows_at tables dep.table))))
+    (λ v below. line_in_range rules number v.tableau_row v.row v.partner (rw here (omega (arith, below))))
+    found (numbers_in_range bytes_eq 0 dep.rows (entries [] dep.x dep.a (rows_at tables dep.table))))
 
 -- what is left of a list from a place on begins with the element there
 at_rest : {X : Type 0} (xs : List X) (i : ℕ) (y : X) (ys : List X) → drop i xs ≡ y ∷ ys → (slice_get xs i ≡ Some y) × (drop (i + 1) xs ≡ ys)
@@ -71,7 +71,8 @@ at_rest xs i y ys rest = elim (cases_lt i (length xs)) [
       let step = drop_more xs i y within in
       let parts : (get_or xs i y ≡ y) × (drop (i + 1) xs ≡ ys) = (cc, cc) in
       (slice_get-get_or xs i y within ∙ ap (λ x. Some x) parts.0, parts.1)
-  | inr past ↦ let none = drop_all i xs past in absurd (cc) ]
+  | inr past ↦ let none = drop_all i xs past in absurd (cc)
+]
 
 lines_in_range : (rules : Book) (tables : List TableRows) (first : ℕ) (deps : List Dep) → drop first (book_deps rules) ≡ deps → All (IsLineOf rules) (lines_from tables first deps)
 lines_in_range rules tables first [] rest = All-nil (IsLineOf rules)

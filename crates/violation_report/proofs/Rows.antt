@@ -1,7 +1,6 @@
 -- The rows of a table have the attributes of its dependencies.
-use Rattle.std.proofs.Common.{◌≡◌, ℕ, ◌<◌, List, [], length, get_or, sym, ap, ◌∙◌}
-use Rattle.std.specs.List.{All, HoldsAt, slice_get}
-use Rattle.std.specs.Option.{option_map_or}
+use Rattle.std.proofs.Common.{◌≡◌, ℕ, ◌<◌, List, [], length, sym}
+use Rattle.std.specs.List.{All, HoldsAt}
 use Rattle.std.proofs.lemmas.List.Elements.{All-weaker}
 use Rattle.std.proofs.lemmas.Option.{slice_get-get_or}
 use Rattle.std.proofs.lemmas.Slice.Zip.{AllZip-long}
@@ -19,10 +18,10 @@ use Rattle.violation_report.specs.Listing.{rows_at}
 -- a row of a table has the attributes of each valid dependency of that table
 pub sides_of_rows : (schema : Schema) (dep : Dep) (bytes : ℕ) (rows : List Row) → IsValidDep schema dep → All (λ (row : Row). IsRowOf (attrs_at schema dep.table) bytes row.1) rows → All (λ (row : Row). HasSides dep.x dep.a row.1) rows
 sides_of_rows schema dep bytes rows valid fit = All-weaker (λ (row : Row). IsRowOf (attrs_at schema dep.table) bytes row.1) (λ (row : Row). HasSides dep.x dep.a row.1)
-  (λ row is.
+    (λ row is.
     let wide : length row.1 ≡ length (attrs_at schema dep.table) = AllZip-long (λ (attr : Attr) (text : List ℕ). Admits attr.domain text) (attrs_at schema dep.table) row.1 is.domains in
     record { left = rw wide valid.x; right = rw wide valid.a })
-  rows fit
+    rows fit
 
 -- the rows that a bench lends of a table are its rows in the list
 pub rows_at_lent : (tables : List TableRows) (table : ℕ) (rows : List Row) → table < length tables → HoldsAt (λ (t : TableRows). rows ≡ t.rows) tables table → rows_at tables table ≡ rows

@@ -2,7 +2,6 @@
 use Rattle.std.specs.Prelude.{ℕ, ◌+◌, ◌<◌, List, [], ◌∷◌, length, codes, decimal, IsSomeAnd}
 use Rattle.std.specs.List.{slice_get, concat}
 use Rattle.std.specs.Option.{option_map_or}
-use Rattle.schema_core.specs.declared.schema.Schema.{Schema}
 use Rattle.schema_core.specs.declared.schema.Table.{Table}
 use Rattle.schema_core.specs.declared.schema.Attr.{Attr}
 use Rattle.rule_model.specs.declared.dep.Dep.{Dep}

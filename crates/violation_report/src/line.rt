@@ -13,7 +13,11 @@ use std::alloc::{AllocError, Global};
 #[derive(Clone, Copy, PartialEq, Eq, Debug)]
 pub enum Line {
     /// The row matches the tableau row on the left side, and doesn't on the right side.
-    Single { dep: usize, k: usize, row: RowId },
+    Single {
+        dep: usize,
+        k: usize,
+        row: RowId,
+    },
     /// The row and its partner agree on the left side and differ on the right side, and both match the tableau row.
     Pair {
         dep: usize,
@@ -61,19 +65,19 @@ fn push_single(
     ensures ok { OnOk result (out.new.items ≡ out.old.items ++ line_text rules.now (Line.Single dep k row)) }
     ensures err { OnErr result (out.new.items ≡ out.old.items) }
 {
-    let (rule, attr, table) = names_of(rules, dep, k);
+    let head = head_of(rules, dep, k);
     let mut number = Buffer::new();
     let mut id = Buffer::new();
     push_all(
         &[
             b"single ",
-            rule.as_bytes(),
+            head.rule.as_bytes(),
             b".",
-            number.format(printed_number(rules, dep, k)).as_bytes(),
+            number.format(head.number).as_bytes(),
             b" ",
-            attr.as_bytes(),
+            head.attr.as_bytes(),
             b" ",
-            table.as_bytes(),
+            head.table.as_bytes(),
             b" ",
             id.format(row).as_bytes(),
             b"\n",
@@ -94,20 +98,20 @@ fn push_pair(
     ensures ok { OnOk result (out.new.items ≡ out.old.items ++ line_text rules.now (Line.Pair dep k row partner)) }
     ensures err { OnErr result (out.new.items ≡ out.old.items) }
 {
-    let (rule, attr, table) = names_of(rules, dep, k);
+    let head = head_of(rules, dep, k);
     let mut number = Buffer::new();
     let mut id = Buffer::new();
     let mut other = Buffer::new();
     push_all(
         &[
             b"pair ",
-            rule.as_bytes(),
+            head.rule.as_bytes(),
             b".",
-            number.format(printed_number(rules, dep, k)).as_bytes(),
+            number.format(head.number).as_bytes(),
             b" ",
-            attr.as_bytes(),
+            head.attr.as_bytes(),
             b" ",
-            table.as_bytes(),
+            head.table.as_bytes(),
             b" ",
             id.format(row).as_bytes(),
             b" ",
@@ -118,27 +122,32 @@ fn push_pair(
     )
 }
 
-// The names of a dependency's rule, of its right attribute and of its table.
-fn names_of(rules: &RuleBook, dep: usize, k: usize) -> (&str, &str, &str)
-    requires { HasTableauRow rules.now dep k }
-    ensures rule { result.0.now ≡ rule_name rules.now dep }
-    ensures attr { result.1.now ≡ attr_name rules.now dep }
-    ensures table { result.2.now ≡ table_name rules.now dep }
-{
-    let rule = &rules.deps().as_slice()[dep];
-    let table = &rules.schema().tables.as_slice()[rule.table];
-    let attr = &table.attrs.as_slice()[rule.a];
-    (rule.name.as_str(), attr.name.as_str(), table.name.as_str())
+// What a line tells of its dependency: the rule, the tableau row's number from 1, the right attribute and the table.
+#[derive(Drop)]
+struct Head<'a> {
+    rule: &'a str,
+    number: usize,
+    attr: &'a str,
+    table: &'a str,
 }
 
-// The tableau row's number as it is printed, from 1.
-fn printed_number(rules: &RuleBook, dep: usize, k: usize) -> usize
+fn head_of(rules: &RuleBook, dep: usize, k: usize) -> Head<'_>
     requires { HasTableauRow rules.now dep k }
-    ensures { result ≡ k + 1 }
+    ensures rule { result.rule.now ≡ rule_name rules.now dep }
+    ensures number { result.number ≡ k + 1 }
+    ensures attr { result.attr.now ≡ attr_name rules.now dep }
+    ensures table { result.table.now ≡ table_name rules.now dep }
 {
-    let rows = rules.deps().as_slice()[dep].rows.as_slice();
-    prove!(k < rows.len());
-    k + 1
+    let dep = &rules.deps().as_slice()[dep];
+    prove!(k < dep.rows.as_slice().len());
+    let table = &rules.schema().tables.as_slice()[dep.table];
+    let attr = &table.attrs.as_slice()[dep.a];
+    Head {
+        rule: dep.name.as_str(),
+        number: k + 1,
+        attr: attr.name.as_str(),
+        table: table.name.as_str(),
+    }
 }
 
 // Appends the pieces, all or none.

@@ -37,13 +37,7 @@ fn list_dep(
     ensures { OnOk result (lines.new ≡ lines.old ++ dep_lines bench.now.tables number dep.now) }
 {
     let rows = bench.rows(dep.table);
-    let found = dependency_violations(
-        alloc,
-        rows,
-        dep.x.as_slice(),
-        dep.a,
-        dep.rows.as_slice(),
-    )?;
+    let found = dependency_violations(alloc, rows, dep.x.as_slice(), dep.a, dep.rows.as_slice())?;
     for violation in found.as_slice() {
         lines.push(line_of(number, violation))?;
     }

@@ -1,9 +1,7 @@
 use Rattle.std.proofs.Common.{◌≡◌, ◌≤◌, length, ap, ◌∙◌}
-use Rattle.std.specs.List.{All}
 use Rattle.std.proofs.lemmas.List.{drop_all, append-nil}
 use Rattle.rule_model.specs.Books.{book_deps}
 use Rattle.violation_report.specs.Listing.{listing}
-use Rattle.violation_report.specs.Text.{IsLineOf}
 use Rattle.violation_report.proofs.Lists.{listing_is_empty, listing_in_range}
 use Rattle.violation_report.proofs.listing.list.Goals as goal
 

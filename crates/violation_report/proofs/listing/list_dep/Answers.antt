@@ -1,8 +1,8 @@
-use Rattle.std.proofs.Common.{◌≡◌, ◌++◌, [], map, ap, sym, ◌∙◌}
+use Rattle.std.proofs.Common.{◌≡◌, ◌++◌, [], map, ap, ◌∙◌}
 use Rattle.std.specs.Str.{bytes_eq}
 use Rattle.std.proofs.lemmas.List.{take_all}
 use Rattle.cfd_semantics.specs.Violation.{entries, dependency_violations}
-use Rattle.violation_report.specs.Listing.{rows_at, line_of, dep_lines}
+use Rattle.violation_report.specs.Listing.{rows_at, line_of}
 use Rattle.violation_report.proofs.Rows.{sides_of_rows, rows_at_lent}
 use Rattle.violation_report.proofs.listing.list_dep.Goals as goal
 
