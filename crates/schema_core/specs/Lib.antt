@@ -1,5 +1,6 @@
 pub mod Limits
 pub mod Names
+pub mod Rows
 pub mod Schemas
 pub mod Lines
 pub mod Tokens

@@ -1,0 +1,83 @@
+// Files off the shelf, within the limits on their bytes.
+ghost use Rattle.std.specs.Prelude.{◌≡◌, ◌+◌, ◌≤◌, ◌^◌, length, min, IfOk, IfSome};
+ghost use Rattle.shelf_io.specs.Rising.{Rose};
+ghost use Rattle.shelf_io.specs.Files.{file_at};
+ghost use Rattle.cfd_cli.specs.Fetching.{file_within, room_for, MeetsFile, IsReadFault, RefusesOnly};
+
+use crate::refusal::{Cause, Refusal};
+use schema_core::{Limits, Text};
+use shelf_io::{FetchFault, Shelf};
+use std::alloc::{AllocError, AllocFailed};
+
+/// Why a project isn't answered.
+#[derive(Debug, Drop)]
+pub enum Stop {
+    Refused(Refusal),
+    ReadFault,
+    Memory,
+}
+
+impl From<AllocError> for Stop {
+    ghost use Rattle.std.specs.Prelude.{◌≡◌};
+    ghost use Rattle.cfd_cli.specs.declared.fetching.Stop.TheVariants.{Memory};
+
+    ghost from_gives = { λ _ stop. stop ≡ Memory };
+
+    fn from(_: AllocError) -> Stop {
+        Stop::Memory
+    }
+}
+
+impl<T: Drop> From<AllocFailed<T>> for Stop {
+    ghost use Rattle.std.specs.Prelude.{◌≡◌};
+    ghost use Rattle.cfd_cli.specs.declared.fetching.Stop.TheVariants.{Memory};
+
+    ghost from_gives = { λ _ stop. stop ≡ Memory };
+
+    fn from(_: AllocFailed<T>) -> Stop {
+        Stop::Memory
+    }
+}
+
+/// Refuses a file or a word.
+pub fn refused(what: &Text, cause: Cause) -> Stop
+    ensures { RefusesOnly what.now cause result }
+{
+    match what.clone() {
+        Ok(what) => Stop::Refused(Refusal { what, cause }),
+        Err(_) => Stop::Memory,
+    }
+}
+
+/// The bytes of a file. `left` is how many bytes the files that are still to come may have together.
+pub fn fetch_file<S: Shelf>(
+    shelf: &mut S,
+    name: &Text,
+    limits: &Limits,
+    left: &mut u64,
+) -> Result<Vec<u8>, Stop>
+    requires { left.old ≤ 2 ^ 32 }
+
+    // Where the shelf tells what it holds, the answer is that of the held file.
+    ensures file { IfSome (S.holding shelf.old) (λ files.
+        MeetsFile (file_within (room_for limits.now left.old) (file_at files name.now)) name.now result) }
+    ensures spent { IfOk result (λ bytes. left.new + length bytes.items ≡ left.old) }
+    ensures left { left.new ≤ left.old }
+    ensures read_fault { IsReadFault result → Rose (S.faults shelf.old) (S.faults shelf.new) }
+
+    ensures faults { S.faults shelf.old ≤ S.faults shelf.new }
+    ensures calls { S.calls shelf.new ≤ S.calls shelf.old + 1 }
+    ensures holding { S.holding shelf.new ≡ S.holding shelf.old }
+{
+    let room = limits.file_bytes.min(*left);
+    match shelf.fetch(name.as_str(), room as usize + 1) {
+        Ok(bytes) if bytes.len() as u64 > room => Err(refused(name, Cause::TooLarge)),
+        Ok(bytes) => {
+            *left -= bytes.len() as u64;
+            Ok(bytes)
+        }
+        Err(FetchFault::Absent) => Err(refused(name, Cause::Absent)),
+        Err(FetchFault::Failed) => Err(Stop::ReadFault),
+        Err(FetchFault::Memory) => Err(Stop::Memory),
+    }
+}

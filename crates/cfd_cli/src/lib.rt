@@ -1,0 +1,13 @@
+//! The top call: reads a project off a shelf, answers its script on a sink, and says by a status how that went.
+//! What it writes is one of the outputs that `specs/Output.antt` allows.
+#![tactic(auto)]
+
+mod fetching;
+mod program;
+mod project;
+mod refusal;
+mod status;
+mod words;
+
+pub use program::{run, run_with};
+pub use status::Status;

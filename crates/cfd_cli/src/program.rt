@@ -1,0 +1,114 @@
+// The top call.
+ghost use Rattle.std.specs.Prelude.{◌≡◌, ◌+◌, ◌≤◌, ◌⊎◌};
+ghost use Rattle.schema_core.specs.Limits.{AreLimits};
+ghost use Rattle.shelf_io.specs.Rising.{Rose};
+ghost use Rattle.cfd_cli.specs.Output.{Output, Writes};
+ghost use Rattle.cfd_cli.specs.Words.{HasForm};
+
+use crate::fetching::Stop;
+use crate::project::read_project;
+use crate::refusal::refusal_line;
+use crate::status::Status;
+use crate::words::{Form, form_of, project_of};
+use schema_core::{Limits, Text, Texts};
+use shelf_io::{PutFailed, Shelf, Sink, write_out};
+use std::alloc::Global;
+
+const USAGE: &str =
+    "usage: run PROJECT | report PROJECT | consistent PROJECT TABLE BUDGET | implies PROJECT DEP BUDGET | check PROJECT CERT | generate N | cover PROJECT TABLE BUDGET | find PROJECT TABLE WIDTH SUPPORT | desk PROJECT EVENTS\n";
+
+/// Does what the words ask for, under the standard limits. The words are those after the program's name.
+pub fn run<S: Shelf, O: Sink>(alloc: Global, words: &Texts, shelf: &mut S, out: &mut O) -> Status
+    ensures written { Writes (Output words.now) (O.written out.old) (O.written out.new) result }
+    ensures read_fault { result ≡ Status.ReadFault → Rose (S.faults shelf.old) (S.faults shelf.new) }
+    ensures write_fault { result ≡ Status.WriteFault → Rose (O.faults out.old) (O.faults out.new) }
+    ensures usage { (HasForm words.now → ⊥) → (result ≡ Status.Usage) ⊎ (result ≡ Status.WriteFault) }
+    ensures no_fetch { (HasForm words.now → ⊥) → S.calls shelf.new ≡ S.calls shelf.old }
+    ensures fetches { S.calls shelf.new ≤ S.calls shelf.old + 67 }
+{
+    run_with(alloc, words, shelf, out, Limits::standard())
+}
+
+/// The same under other limits.
+pub fn run_with<S: Shelf, O: Sink>(
+    alloc: Global,
+    words: &Texts,
+    shelf: &mut S,
+    out: &mut O,
+    limits: Limits,
+) -> Status
+    requires { AreLimits limits }
+
+    // What was appended, by how the call ended.
+    ensures written { Writes (Output words.now) (O.written out.old) (O.written out.new) result }
+
+    // A fault is told only where the device counted one.
+    ensures read_fault { result ≡ Status.ReadFault → Rose (S.faults shelf.old) (S.faults shelf.new) }
+    ensures write_fault { result ≡ Status.WriteFault → Rose (O.faults out.old) (O.faults out.new) }
+
+    // Words without a form are answered by the usage line, and nothing is fetched for them.
+    ensures usage { (HasForm words.now → ⊥) → (result ≡ Status.Usage) ⊎ (result ≡ Status.WriteFault) }
+    ensures no_fetch { (HasForm words.now → ⊥) → S.calls shelf.new ≡ S.calls shelf.old }
+
+    // The schema, the rules, the script and 64 tables.
+    ensures fetches { S.calls shelf.new ≤ S.calls shelf.old + 67 }
+{
+    let words = words.as_slice();
+    match form_of(words) {
+        None => write_usage(words, out),
+        Some(Form::Run) => run_project(alloc, words, shelf, out, &limits),
+    }
+}
+
+fn write_usage<O: Sink>(words: &[Text], out: &mut O) -> Status
+    requires { HasForm words.now → ⊥ }
+    ensures written { Writes (Output words.now) (O.written out.old) (O.written out.new) result }
+    ensures write_fault { result ≡ Status.WriteFault → Rose (O.faults out.old) (O.faults out.new) }
+    ensures usage { (result ≡ Status.Usage) ⊎ (result ≡ Status.WriteFault) }
+{
+    match write_out(out, USAGE.as_bytes()) {
+        Ok(()) => Status::Usage,
+        Err(PutFailed) => Status::WriteFault,
+    }
+}
+
+fn run_project<S: Shelf, O: Sink>(
+    alloc: Global,
+    words: &[Text],
+    shelf: &mut S,
+    out: &mut O,
+    limits: &Limits,
+) -> Status
+    requires form { HasForm words.now }
+    requires limits { AreLimits limits.now }
+    ensures written { Writes (Output words.now) (O.written out.old) (O.written out.new) result }
+    ensures read_fault { result ≡ Status.ReadFault → Rose (S.faults shelf.old) (S.faults shelf.new) }
+    ensures write_fault { result ≡ Status.WriteFault → Rose (O.faults out.old) (O.faults out.new) }
+    ensures fetches { S.calls shelf.new ≤ S.calls shelf.old + 67 }
+{
+    match read_project(alloc, shelf, project_of(words), limits) {
+        Ok(_project) => Status::Clean,
+        Err(stop) => tell_stop(alloc, words, &stop, out),
+    }
+}
+
+// Writes the line of a refusal.
+fn tell_stop<O: Sink>(alloc: Global, words: &[Text], stop: &Stop, out: &mut O) -> Status
+    requires { HasForm words.now }
+    ensures written { Writes (Output words.now) (O.written out.old) (O.written out.new) result }
+    ensures read_fault { result ≡ Status.ReadFault → stop.now ≡ Stop.ReadFault }
+    ensures write_fault { result ≡ Status.WriteFault → Rose (O.faults out.old) (O.faults out.new) }
+{
+    let refusal = match stop {
+        Stop::Refused(refusal) => refusal,
+        Stop::ReadFault => return Status::ReadFault,
+        Stop::Memory => return Status::Memory,
+    };
+    let Ok(line) = refusal_line(alloc, refusal) else {
+        return Status::Memory;
+    };
+    match write_out(out, &line) {
+        Ok(()) => Status::Refused,
+        Err(PutFailed) => Status::WriteFault,
+    }
+}

@@ -1,0 +1,6 @@
+pub mod Members
+pub mod Listing
+pub mod Law
+pub mod InclusionLaw
+pub mod Renamed
+pub mod RenamedInclusion
