@@ -1,13 +1,6 @@
-// A library with one function.
+//! Rule files: their declarations, read in order into a rule book. One function reads one rule of the grammar,
+//! from tokens to a value and the tokens after it.
 #![tactic(auto)]
 
-ghost use Rattle.std.specs.Prelude.{◌≡◌};
-ghost use Rattle.rule_parser.specs.Echo.{echo_of};
-
-// The `ensures` clause is the contract: what `echo` returns is `echo_of` of its argument, a definition
-// in `specs/Echo.antt`, which a caller's clause can cite too.
-pub fn echo(x: usize) -> usize
-    ensures { result ≡ echo_of x }
-{
-    x
-}
+mod declarations;
+mod tokens;
