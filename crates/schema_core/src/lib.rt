@@ -4,13 +4,19 @@
 #![tactic(auto)]
 
 pub mod limits;
+pub mod lines;
 pub mod list;
+pub mod quoting;
+pub mod reading;
 pub mod schema;
 pub mod text;
 pub mod tokens;
 
 pub use limits::{Limit, Limits};
+pub use lines::line_end;
 pub use list::List;
+pub use quoting::push_quoted;
+pub use reading::read_tokens;
 pub use schema::{Attr, Domain, Schema, SchemaCause, SchemaFault, Table};
 pub use text::{Text, Texts};
 pub use tokens::{LineTokens, Mark, Token};
