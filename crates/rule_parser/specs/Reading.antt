@@ -1,0 +1,169 @@
+-- The lines of a rule file, read token by token from left to right. A line that is not read so is a bad line.
+use Rattle.std.specs.Prelude.{◌≡◌, ℕ, zero, suc, nat_eq, nat_le, Bool, true, false, ◌&&◌, ◌==◌, List, [], ◌∷◌, length, Option, Some, None, if◌then◌else◌, option_and_then, option_map, codes}
+use Rattle.std.specs.Option.{option_map_or}
+use Rattle.std.specs.Str.{bytes_eq}
+use Rattle.schema_core.specs.declared.tokens.Mark.{Mark}
+use Rattle.schema_core.specs.declared.tokens.Mark.TheVariants.{Colon, Comma, OpenBracket, CloseBracket, Semicolon, Equals, Differs, Arrow, Bars, Underscore, Dot, OpenBrace, CloseBrace}
+use Rattle.schema_core.specs.declared.tokens.Token.{Token}
+use Rattle.schema_core.specs.declared.tokens.Token.TheVariants as tokens
+use Rattle.cfd_semantics.specs.declared.pattern.Pattern.{Pattern}
+use Rattle.cfd_semantics.specs.declared.pattern.Pattern.TheVariants.{Any, Is, In, NotIn}
+use Rattle.rule_model.specs.declared.decl.CfdRow.{CfdRow}
+use Rattle.rule_model.specs.declared.decl.CfdDecl.{CfdDecl}
+use Rattle.rule_parser.specs.declared.tokens.Kind.{Kind}
+use Rattle.rule_parser.specs.declared.tokens.Kind.TheVariants as kinds
+
+infixl 10 ◌>>=◌
+abbrev pub ◌>>=◌ : {A B : Type 0} → Option A → (A → Option B) → Option B
+o >>= f = option_and_then f o
+
+-- ---- marks, words and texts
+
+-- marks by number, to compare them
+abbrev pub mark_number : Mark → ℕ
+mark_number Colon = 0
+mark_number Comma = 1
+mark_number OpenBracket = 2
+mark_number CloseBracket = 3
+mark_number Semicolon = 4
+mark_number Equals = 5
+mark_number Differs = 6
+mark_number Arrow = 7
+mark_number Bars = 8
+mark_number Underscore = 9
+mark_number Dot = 10
+mark_number OpenBrace = 11
+mark_number CloseBrace = 12
+
+abbrev pub same_mark : Mark → Mark → Bool
+same_mark left right = nat_eq (mark_number left) (mark_number right)
+
+-- what follows the mark at the front
+abbrev pub after_sign : Mark → List Token → Option (List Token)
+after_sign mark [] = None
+after_sign mark (tokens.Sign found ∷ rest) = if same_mark found mark then Some rest else None
+after_sign mark (tokens.Name name ∷ rest) = None
+after_sign mark (tokens.Number number ∷ rest) = None
+after_sign mark (tokens.Quoted text ∷ rest) = None
+
+-- what follows the word at the front
+abbrev pub after_word : List ℕ → List Token → Option (List Token)
+after_word word [] = None
+after_word word (tokens.Name name ∷ rest) = if bytes_eq name word then Some rest else None
+after_word word (tokens.Number number ∷ rest) = None
+after_word word (tokens.Quoted text ∷ rest) = None
+after_word word (tokens.Sign mark ∷ rest) = None
+
+-- the name at the front, or the value of at most 1,024 bytes, and what follows it
+abbrev pub text_at : Kind → List Token → Option (List ℕ × List Token)
+text_at kind [] = None
+text_at kinds.Name (tokens.Name name ∷ rest) = Some (name, rest)
+text_at kinds.Name (tokens.Number number ∷ rest) = None
+text_at kinds.Name (tokens.Quoted text ∷ rest) = None
+text_at kinds.Name (tokens.Sign mark ∷ rest) = None
+text_at kinds.Value (tokens.Name name ∷ rest) = None
+text_at kinds.Value (tokens.Number number ∷ rest) = None
+text_at kinds.Value (tokens.Quoted text ∷ rest) = if nat_le (length text) 1024 then Some (text, rest) else None
+text_at kinds.Value (tokens.Sign mark ∷ rest) = None
+
+-- ---- lists
+
+-- the item alone, or with the items behind the comma that follows it
+abbrev pub or_more : {X : Type 0} → X × List Token → Option (List Token) → (List Token → Option (List X × List Token)) → Option (List X × List Token)
+or_more found None items = Some (found.0 ∷ [], found.1)
+or_more found (Some behind) items = option_map (λ more. (found.0 ∷ more.0, more.1)) (items behind)
+
+-- one item or several with commas between them, at most `room`, and what follows the last
+unfoldable pub items_from : {X : Type 0} → (List Token → Option (X × List Token)) → ℕ → List Token → Option (List X × List Token)
+items_from item zero tokens = None
+items_from item (suc room) tokens = item tokens >>= λ found. or_more found (after_sign Comma found.1) (items_from item room)
+
+-- as many items as there are: an item takes at least a token
+unfoldable pub list_of : {X : Type 0} → (List Token → Option (X × List Token)) → List Token → Option (List X × List Token)
+list_of item tokens = items_from item (length tokens) tokens
+
+abbrev pub closed : {X : Type 0} → Mark → List X × List Token → Option (List X × List Token)
+closed mark list = option_map (λ rest. (list.0, rest)) (after_sign mark list.1)
+
+-- nothing before the mark, or a list, and then the mark
+abbrev pub or_list : {X : Type 0} → Option (List Token) → Option (List X × List Token) → Option (List X × List Token)
+or_list None list = list
+or_list (Some rest) list = Some ([], rest)
+
+unfoldable pub list_until : {X : Type 0} → (List Token → Option (X × List Token)) → Mark → List Token → Option (List X × List Token)
+list_until item mark tokens = or_list (after_sign mark tokens) (list_of item tokens >>= closed mark)
+
+abbrev pub texts_from : Kind → List Token → Option (List (List ℕ) × List Token)
+texts_from kind tokens = list_of (text_at kind) tokens
+
+abbrev pub texts_until : Kind → Mark → List Token → Option (List (List ℕ) × List Token)
+texts_until kind mark tokens = list_until (text_at kind) mark tokens
+
+-- ---- cells
+
+-- a set has at most 64 members
+abbrev pub few : List (List ℕ) × List Token → Option (List (List ℕ) × List Token)
+few set = if nat_le (length set.0) 64 then Some set else None
+
+-- a set in braces, and what follows it
+unfoldable pub set_at : List Token → Option (List (List ℕ) × List Token)
+set_at tokens = do
+  inside ← after_sign OpenBrace tokens
+  values ← texts_from kinds.Value inside
+  rest ← after_sign CloseBrace values.1
+  few (values.0, rest)
+
+-- a cell, and what follows it
+abbrev pub words_cell : List ℕ → List Token → Option (Pattern (List ℕ) × List Token)
+words_cell word rest =
+    if bytes_eq word (codes "in") then option_map (λ set. (In set.0, set.1)) (set_at rest)
+    else (if bytes_eq word (codes "not") then option_map (λ set. (NotIn set.0, set.1)) (set_at rest)
+    else None)
+
+unfoldable pub cell_at : List Token → Option (Pattern (List ℕ) × List Token)
+cell_at [] = None
+cell_at (tokens.Sign mark ∷ rest) = if same_mark mark Underscore then Some (Any, rest) else None
+cell_at (tokens.Quoted value ∷ rest) = if nat_le (length value) 1024 then Some (Is value, rest) else None
+cell_at (tokens.Name word ∷ rest) = words_cell word rest
+cell_at (tokens.Number number ∷ rest) = None
+
+-- ---- lines
+
+abbrev pub at_end : {X : Type 0} → X × List Token → Option X
+at_end found = if length found.1 == 0 then Some found.0 else None
+
+-- a tableau row: `row`, cells for the left list, `||`, and a cell or more for the right list
+unfoldable pub row_line : List Token → Option CfdRow
+row_line tokens = do
+  rest ← after_word (codes "row") tokens
+  x ← list_until cell_at Bars rest
+  y ← list_of cell_at x.1
+  at_end (record { x = x.0; y = y.0 }, y.1)
+
+-- the names of a declaration and of its table, and what follows the bracket that opens its left list
+abbrev pub cfd_names : List Token → Option (List ℕ × List ℕ × List Token)
+cfd_names tokens = do
+  rest ← after_word (codes "cfd") tokens
+  name ← text_at kinds.Name rest
+  table ← text_at kinds.Name name.1
+  rest ← after_sign Colon table.1
+  rest ← after_sign OpenBracket rest
+  Some (name.0, table.0, rest)
+
+-- what follows the arrow and the bracket that opens the right list
+abbrev pub after_arrow : List Token → Option (List Token)
+after_arrow tokens = after_sign Arrow tokens >>= after_sign OpenBracket
+
+-- a bracket closes, and nothing follows it
+abbrev pub closes : List Token → Bool
+closes tokens = option_map_or (λ rest. length rest == 0) (after_sign CloseBracket tokens) false
+
+-- the head of a conditional dependency: `cfd`, its name, its table, `:`, its left list in brackets, `->`, and its
+-- right list in brackets, of an attribute or more
+unfoldable pub cfd_head : List Token → Option CfdDecl
+cfd_head tokens = do
+  names ← cfd_names tokens
+  x ← texts_until kinds.Name CloseBracket names.2
+  right ← after_arrow x.1
+  y ← texts_from kinds.Name right
+  if closes y.1 then Some (record { name = names.0; table = names.1; x = x.0; y = y.0; rows = [] }) else None
