@@ -1,0 +1,4 @@
+pub mod RecordFacts
+pub mod FieldFacts
+pub mod HeaderFacts
+pub mod RowFacts
