@@ -2,3 +2,6 @@ pub mod RecordFacts
 pub mod FieldFacts
 pub mod HeaderFacts
 pub mod RowFacts
+pub mod ValidRows
+pub mod WrittenFacts
+pub mod ReadBack

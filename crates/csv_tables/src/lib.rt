@@ -8,6 +8,8 @@ mod fault;
 mod fields;
 mod reading;
 mod records;
+mod writing;
 
 pub use fault::TableFault;
 pub use reading::read_table;
+pub use writing::write_table;

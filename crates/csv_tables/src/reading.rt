@@ -1,10 +1,10 @@
 //! Reading a table file.
 
-ghost use Rattle.std.specs.Prelude.{◌≡◌, ◌≢◌, Some, None, Ok, Err, IfOk, IfErr, OnOk, map};
+ghost use Rattle.std.specs.Prelude.{◌≡◌, ◌≢◌, ◌≤◌, Some, None, Ok, Err, IfOk, IfErr, OnOk, All, length, map};
 ghost use Rattle.csv.specs.Records.{fields_of};
 ghost use Rattle.schema_core.specs.Limits.{AreLimits};
 ghost use Rattle.schema_core.specs.Schemas.{IsValidTable};
-ghost use Rattle.csv_tables.specs.TableFiles.{records_fault, row_of, table_of};
+ghost use Rattle.csv_tables.specs.TableFiles.{IsRowOf, records_fault, row_of, table_of};
 ghost use Rattle.csv_tables.specs.declared.fault.TableFault.TheVariants as fault;
 
 use crate::columns::Columns;
@@ -28,6 +28,10 @@ pub fn read_table(
 
     // Only want of memory may come in place of the first fault.
     ensures refused { IfErr result (λ f. f ≢ fault.Memory → table_of table.now limits.now bytes.now ≡ Err f) }
+
+    // What callers use of the rows most often follows from `rows`.
+    ensures valid { IfOk result (λ rows. All (IsRowOf table.now limits.now) rows) }
+    ensures few { IfOk result (λ rows. length rows ≤ limits.now.rows) }
 {
     let mut records = FileRecords::new(alloc, bytes);
     let mut header = ByteRecord::new(alloc);
@@ -50,6 +54,8 @@ fn read_rows(
     ensures rows { IfOk result (λ rows. rows ≡ map (row_of columns.now.table.now.attrs (fields_of columns.now.header)) records.entry) }
     ensures refused { IfErr result (λ f. f ≢ fault.Memory
         → records_fault columns.now.table.now limits.now (fields_of columns.now.header) 1 records.entry ≡ Some f) }
+    ensures valid { IfOk result (λ rows. All (IsRowOf columns.now.table.now limits.now) rows) }
+    ensures few { IfOk result (λ rows. length rows ≤ limits.now.rows) }
 {
     let mut rows = List::new(alloc);
     let mut fields = ByteRecord::new(alloc);
