@@ -5,3 +5,4 @@ pub mod RowFacts
 pub mod ValidRows
 pub mod WrittenFacts
 pub mod ReadBack
+pub mod OwnHeader

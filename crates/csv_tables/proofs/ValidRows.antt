@@ -1,11 +1,11 @@
 -- Rows without a fault are rows of the table.
-use Rattle.std.specs.Prelude.{◌||◌, ◌⊎◌, All, Contains, IsTrue, find, map, nat_lt, not, option_and_then, option_map, slice_get, unwrap_or, if◌then◌else◌}
-use Rattle.std.specs.List.{AllZip, list_all, list_any}
+use Rattle.std.specs.Prelude.{◌||◌, ◌⊎◌, All, Contains, map, nat_lt, not, option_and_then, slice_get, unwrap_or, if◌then◌else◌}
+use Rattle.std.specs.List.{AllZip, list_any}
 use Rattle.std.specs.Option.{option_or}
-use Rattle.std.specs.Str.{bytes_eq, is_utf8}
-use Rattle.std.proofs.Common.{◌≡◌, ◌==◌, ◌<◌, ◌≤◌, ◌+◌, ◌∷◌, ◌∙◌, [], ℕ, zero, suc, List, Bool, Option, Some, None, Result, Ok, Err, length, get_or, refl, sym, ap, subst, true, false, inl, inr, arith}
+use Rattle.std.specs.Str.{bytes_eq}
+use Rattle.std.proofs.Common.{◌≡◌, ◌≤◌, ◌+◌, ◌∷◌, [], ℕ, zero, suc, List, Bool, Option, Some, None, length, refl, true, false, inl, inr, arith}
 use Rattle.std.proofs.lemmas.Bool.{cases_Bool, cases_lt, eqb-true, false≢true, ltb-false}
-use Rattle.std.proofs.lemmas.List.{get_or_past, length-map}
+use Rattle.std.proofs.lemmas.List.{get_or_past}
 use Rattle.std.proofs.lemmas.Option.{unwrap_or-slice_get}
 use Rattle.std.proofs.lemmas.Slice.Eq.{bytes_eq-Decides}
 use Rattle.schema_core.specs.Schemas.{Admits, admits}
@@ -14,9 +14,7 @@ use Rattle.schema_core.specs.declared.schema.Attr.{Attr}
 use Rattle.schema_core.specs.declared.schema.Domain.{Domain}
 use Rattle.schema_core.specs.declared.schema.Domain.TheVariants.{AnyText, Finite}
 use Rattle.schema_core.specs.declared.schema.Table.{Table}
-use Rattle.csv_tables.specs.TableFiles.{IsRowOf, domain_fault, field_of, file_fault, file_rows, header_fault, record_fault, records_fault, row_of, rows_unless, table_of, text_fault}
-use Rattle.csv_tables.specs.declared.fault.TableFault.{TableFault}
-use Rattle.csv_tables.specs.declared.fault.TableFault.TheVariants as fault
+use Rattle.csv_tables.specs.TableFiles.{IsRowOf, domain_fault, field_of, record_fault, records_fault, row_of, text_fault}
 
 -- where neither of two faults is there, each is not
 pub neither : {X : Type 0} (a b : Option X) → option_or a b ≡ None → (a ≡ None) × (b ≡ None)

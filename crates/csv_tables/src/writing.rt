@@ -1,13 +1,15 @@
 //! Writing a table file.
 
-ghost use Rattle.std.specs.Prelude.{◌≡◌, IfOk, OnOk, [], length, true, All};
+ghost use Rattle.std.specs.Prelude.{◌≡◌, IfOk, OnOk, Ok, [], length, true, All};
 ghost use Rattle.std.specs.Io.KnownBytes.{Appends};
 ghost use Rattle.std.specs.List.{list_all};
 ghost use Rattle.std.specs.Str.{is_utf8};
 ghost use Rattle.csv.specs.Records.{fields_of, partial_of};
 ghost use Rattle.csv.specs.Writing.{default_writer, row_text, text_written};
 ghost use Rattle.schema_core.specs.Schemas.{IsValidTable, names_of_attrs};
-ghost use Rattle.csv_tables.specs.WrittenFiles.{StandsBetween, records_text, table_text};
+ghost use Rattle.schema_core.specs.declared.limits.Limits.{Limits};
+ghost use Rattle.csv_tables.specs.TableFiles.{table_of};
+ghost use Rattle.csv_tables.specs.WrittenFiles.{AreRowsOf, StandsBetween, records_text, table_text};
 
 use csv::{ByteRecord, Writer, WriterBuilder};
 use schema_core::{Attr, List, Table, Text, Texts};
@@ -20,6 +22,9 @@ pub fn write_table(alloc: Global, table: &Table, rows: &List<Texts>) -> Result<V
     requires table { IsValidTable table.now }
     requires width { All (λ row. length row ≡ length table.now.attrs) rows.now }
     ensures text { IfOk result (λ file. file.items ≡ table_text table.now.attrs rows.now) }
+
+    // `read_table` gives the rows again, under any limits that they are within.
+    ensures read_back { IfOk result (λ file. (limits : Limits) → AreRowsOf table.now limits rows.now → table_of table.now limits file.items ≡ Ok rows.now) }
 {
     let mut writer = WriterBuilder::new().from_writer(Vec::new(alloc));
     let header = header_record(alloc, table.attrs.as_slice())?;
@@ -65,7 +70,8 @@ fn write_record<W: Write + Drop>(
 
 // The names of the attributes.
 fn header_record(alloc: Global, attrs: &[Attr]) -> Result<ByteRecord, AllocError>
-    ensures { IfOk result (λ header. fields_of header ≡ names_of_attrs attrs.now) }
+    ensures names { IfOk result (λ header. fields_of header ≡ names_of_attrs attrs.now) }
+    ensures utf8 { OnOk result (list_all is_utf8 (names_of_attrs attrs.now) ≡ true) }
 {
     let mut header = ByteRecord::new(alloc);
     for attr in attrs {

@@ -1,4 +1,4 @@
-use Rattle.std.proofs.Common.{◌≡◌, ◌≤◌, ◌+◌, ◌∙◌, List, ℕ, length, map, refl, sym, arith}
+use Rattle.std.proofs.Common.{◌≤◌, ◌+◌, ◌∙◌, length, refl, arith}
 use Rattle.std.proofs.lemmas.List.{append-nil, length-map}
 use Rattle.csv.specs.Records.{fields_of}
 use Rattle.csv_tables.specs.TableFiles.{row_of}
