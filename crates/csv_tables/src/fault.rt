@@ -14,17 +14,17 @@ pub enum TableFault {
     NoHeader,
     #[error("record {at} is not UTF-8")]
     NotUtf8 { at: usize },
-    #[error("the table has no attribute {0:?}")]
+    #[error("the table has no attribute {:?}", .0.as_str())]
     HeaderColumn(Text),
-    #[error("the column {0:?} stands twice")]
+    #[error("the column {:?} stands twice", .0.as_str())]
     HeaderRepeats(Text),
-    #[error("the column {0:?} is missing")]
+    #[error("the column {:?} is missing", .0.as_str())]
     HeaderLacks(Text),
     #[error("record {at} has another number of fields than the header")]
     Width { at: usize },
     #[error("record {at} has a field that is too long")]
     TextTooLong { at: usize },
-    #[error("record {at} has a field outside the domain of {attr:?}")]
+    #[error("record {at} has a field outside the domain of {:?}", .attr.as_str())]
     NotInDomain { at: usize, attr: Text },
     #[error("record {at} is one row too many")]
     RowsFull { at: usize },

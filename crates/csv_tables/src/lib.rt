@@ -13,3 +13,6 @@ mod writing;
 pub use fault::TableFault;
 pub use reading::read_table;
 pub use writing::write_table;
+
+#[cfg(test)]
+mod tests;

@@ -3,7 +3,6 @@
 ghost use Rattle.std.specs.Prelude.{◌≡◌, ◌≢◌, ◌≤◌, Some, None, Ok, Err, IfOk, IfErr, OnOk, All, length, map};
 ghost use Rattle.csv.specs.Records.{fields_of};
 ghost use Rattle.schema_core.specs.Limits.{AreLimits};
-ghost use Rattle.schema_core.specs.Schemas.{IsValidTable};
 ghost use Rattle.csv_tables.specs.TableFiles.{IsRowOf, records_fault, row_of, table_of};
 ghost use Rattle.csv_tables.specs.declared.fault.TableFault.TheVariants as fault;
 
@@ -22,8 +21,7 @@ pub fn read_table(
     bytes: &[u8],
     limits: &Limits,
 ) -> Result<List<Texts>, TableFault>
-    requires table { IsValidTable table.now }
-    requires limits { AreLimits limits.now }
+    requires { AreLimits limits.now }
     ensures rows { IfOk result (λ rows. table_of table.now limits.now bytes.now ≡ Ok rows) }
 
     // Only want of memory may come in place of the first fault.

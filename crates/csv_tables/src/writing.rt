@@ -19,12 +19,11 @@ use std::io::Write;
 /// The file of a list of rows: the header, with the attributes in the order of the schema, and then the
 /// rows, as the crate `csv` writes them by default.
 pub fn write_table(alloc: Global, table: &Table, rows: &List<Texts>) -> Result<Vec<u8>, AllocError>
-    requires table { IsValidTable table.now }
-    requires width { All (λ row. length row ≡ length table.now.attrs) rows.now }
+    requires { All (λ row. length row ≡ length table.now.attrs) rows.now }
     ensures text { IfOk result (λ file. file.items ≡ table_text table.now.attrs rows.now) }
 
-    // `read_table` gives the rows again, under any limits that they are within.
-    ensures read_back { IfOk result (λ file. (limits : Limits) → AreRowsOf table.now limits rows.now → table_of table.now limits file.items ≡ Ok rows.now) }
+    // `read_table` gives the rows of a valid table again, under any limits that they are within.
+    ensures read_back { IfOk result (λ file. (limits : Limits) → IsValidTable table.now → AreRowsOf table.now limits rows.now → table_of table.now limits file.items ≡ Ok rows.now) }
 {
     let mut writer = WriterBuilder::new().from_writer(Vec::new(alloc));
     let header = header_record(alloc, table.attrs.as_slice())?;
