@@ -48,12 +48,6 @@ all-zip-at R (x ∷ xs) [] k d e h lt = absurd h
 all-zip-at R (x ∷ xs) (y ∷ ys) zero d e h lt = h.0
 all-zip-at R (x ∷ xs) (y ∷ ys) (suc k) d e h lt = all-zip-at R xs ys k d e h.1 (omega arith)
 
-pub length-all-zip : {A B : Type 0} (R : A → B → Type 0) (xs : List A) (ys : List B) → AllZip R xs ys → length ys ≡ length xs
-length-all-zip R [] [] h = refl
-length-all-zip R [] (y ∷ ys) h = absurd h
-length-all-zip R (x ∷ xs) [] h = absurd h
-length-all-zip R (x ∷ xs) (y ∷ ys) h = ap suc (length-all-zip R xs ys h.1)
-
 admits-from : (domain : Domain) (text : List ℕ) → Admits domain text → admits domain text ≡ true
 admits-from AnyText text h = refl
 admits-from (Finite values) text h = list_any_at (λ (v : List ℕ). bytes_eq v text) values h.0 text h.1 (rw h.2 (bytes_eq-own text))
@@ -119,7 +113,7 @@ module _ (table : Table) (distinct : AreDistinct (names_of_attrs table.attrs)) w
   -- a row of the table has no fault under this header
   module _ (limits : Limits) (at : ℕ) (fields : List (List ℕ)) (row : IsRowOf table limits fields) (utf8 : list_all is_utf8 fields ≡ true) (few : at ≤ limits.rows) where
     wide : length fields ≡ length (names_of_attrs table.attrs)
-    wide = length-all-zip _ table.attrs fields row.domains ∙ sym (length-map table.attrs (λ (a : Attr). a.name))
+    wide = row.width ∙ sym (length-map table.attrs (λ (a : Attr). a.name))
 
     own-text : text_fault limits (length (names_of_attrs table.attrs)) at fields ≡ None
     own-text =

@@ -3,7 +3,7 @@ use Rattle.std.specs.Prelude.{length, cond, IsSome}
 use Rattle.std.proofs.Common.{◌≡◌, ◌==◌, ◌&&◌, ◌+◌, ◌<◌, ◌++◌, ◌∷◌, ◌∙◌, ◌⊎◌, [], ℕ, zero, suc, List, Bool, Option, Some, None, Result, Ok, Err, IfOk, refl, sym, ap, subst, true, false, inl, inr, arith, add-one, Bor}
 use Rattle.std.proofs.lemmas.Bool.{cases_Bool, false≢true}
 use Rattle.csv.specs.Machine.{Read, after_end, ends_at_end, ends_with, field_after, fields_after, in_field, is_byte, is_end, next_record, start_field, start_record, step}
-use Rattle.csv.specs.Reading.{ExplainsRead, NextIs, ReadRecord, ReadsNext, Ready, default_config, error_kind, has_failed, is_flexible, pending_of, reader_state, reader_trim, records_from, stops_reader, took_first}
+use Rattle.csv.specs.Reading.{AreRecords, ExplainsRead, NextIs, ReadRecord, ReadsNext, Reached, Ready, default_config, error_kind, has_failed, is_flexible, pending_of, reader_state, reader_trim, records_from, stops_reader, strip_bom, took_first}
 use Rattle.csv.specs.declared.error.Error.{Error}
 use Rattle.csv.specs.declared.error.ErrorKind.{ErrorKind}
 use Rattle.csv.specs.declared.error.ErrorKind.TheVariants as kind
@@ -16,7 +16,7 @@ use Rattle.csv.specs.declared.parser.State.TheVariants as st
 use Rattle.csv.specs.declared.parser.Terminator.{Terminator}
 use Rattle.csv.specs.declared.parser.Terminator.TheVariants as term
 use Rattle.csv.specs.declared.reader.Reader.{Reader}
-use Rattle.csv_tables.specs.Records.{IsFileReader, ReadsPlainly, TakesNext, known_records, records_after, records_left, unread_bytes}
+use Rattle.csv_tables.specs.Records.{IsFileReader, ReadsPlainly, TakesNext, file_records, known_records, records_after, records_left, unread_bytes}
 
 -- a step that ends a record leads to a state in which the text may end without another record
 record Settles (p : State × Action) : Type 0 where
@@ -143,6 +143,42 @@ records_after-some s text p e =
 pub records_after-none : (s : State) (text : List ℕ) → next_record default_config s [] [] text ≡ None → records_after s text ≡ []
 unfolding records_from
 records_after-none s text e = rw (add-one, e) refl
+
+-- records without a next one after them, and one more in front
+module _ (s : State) (text : List ℕ) where
+  are-none : next_record default_config s [] [] text ≡ None → AreRecords default_config s text []
+  unfolding Reached
+  are-none e = (s, text, (refl, refl), e)
+
+  are-more : (p : Read) (rest : List (List (List ℕ))) → next_record default_config s [] [] text ≡ Some p
+      → AreRecords default_config p.1 p.2 rest → AreRecords default_config s text (p.0 ∷ rest)
+  unfolding Reached
+  are-more p rest e h = (h.0, h.1, (p, e, refl, h.2), h.3)
+
+no-more : (s : State) → ends_at_end s ≡ false → next_record default_config s [] [] [] ≡ None
+unfolding next_record
+no-more s between = rw between refl
+
+-- as many turns as a text has bytes, and one more, take the next record until there is none
+records_from-all : (n : ℕ) (s : State) (text : List ℕ) → length text < n → AreRecords default_config s text (records_from default_config n s text)
+unfolding records_from
+records_from-all zero s text h = absurd (omega arith)
+records_from-all (suc n) s text h = elim (read-cases (next_record default_config s [] [] text)) [
+  | inl none ↦ rw none (are-none s text none)
+  | inr some ↦
+      let p = some.0 in
+      let left = next_record-leaves default_config s [] [] text p some.1 in
+      let rest : AreRecords default_config p.1 p.2 (records_from default_config n p.1 p.2) =
+      elim left.shorter [
+        | inl lt ↦ records_from-all n p.1 p.2 (omega arith)
+        | inr nil ↦ rw (nil, records_from-nil n p.1 left.between) (are-none p.1 [] (no-more p.1 left.between))
+      ] in
+      rw some.1 (are-more s text p (records_from default_config n p.1 p.2) some.1 rest)
+]
+
+-- the records of a file are all of them
+pub file_records-all : (bytes : List ℕ) → AreRecords default_config st.StartRecord (strip_bom bytes) (file_records bytes)
+file_records-all bytes = records_from-all (length (strip_bom bytes) + 1) st.StartRecord (strip_bom bytes) (omega arith)
 
 taken-is : (s : State) (text : List ℕ) (o : Option Read) (found : Bool) (fields : List (List ℕ)) (s2 : State) (rest : List ℕ)
     → next_record default_config s [] [] text ≡ o → NextIs o found fields s2 rest

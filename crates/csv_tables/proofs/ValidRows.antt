@@ -5,7 +5,7 @@ use Rattle.std.specs.Option.{option_or}
 use Rattle.std.specs.Str.{bytes_eq}
 use Rattle.std.proofs.Common.{◌≡◌, ◌≤◌, ◌+◌, ◌∷◌, [], ℕ, zero, suc, List, Bool, Option, Some, None, length, refl, true, false, inl, inr, arith}
 use Rattle.std.proofs.lemmas.Bool.{cases_Bool, cases_lt, eqb-true, false≢true, ltb-false}
-use Rattle.std.proofs.lemmas.List.{get_or_past}
+use Rattle.std.proofs.lemmas.List.{get_or_past, length-map}
 use Rattle.std.proofs.lemmas.Option.{unwrap_or-slice_get}
 use Rattle.std.proofs.lemmas.Slice.Eq.{bytes_eq-Decides}
 use Rattle.schema_core.specs.Schemas.{Admits, admits}
@@ -109,6 +109,7 @@ row-is-row : (table : Table) (limits : Limits) (header fields : List (List ℕ))
 row-is-row table limits header fields at e =
     let (plain, domains) = neither _ _ e in
     let tests = passes-tests limits (length header) at fields plain in record {
+      width = length-map table.attrs (λ (a : Attr). field_of header fields a.name);
       domains = in-domains table.attrs header at fields domains;
       short = short-row limits.cell_bytes table.attrs header fields tests.short;
     }

@@ -1,8 +1,11 @@
 //! Reading a table file.
 
 ghost use Rattle.std.specs.Prelude.{◌≡◌, ◌≢◌, ◌≤◌, Some, None, Ok, Err, IfOk, IfErr, OnOk, All, length, map};
+ghost use Rattle.csv.specs.Reading.{AreRecords, default_config, strip_bom};
 ghost use Rattle.csv.specs.Records.{fields_of};
+ghost use Rattle.csv.specs.declared.parser.State.TheVariants as st;
 ghost use Rattle.schema_core.specs.Limits.{AreLimits};
+ghost use Rattle.csv_tables.specs.Records.{file_records};
 ghost use Rattle.csv_tables.specs.TableFiles.{IsRowOf, records_fault, row_of, table_of};
 ghost use Rattle.csv_tables.specs.declared.fault.TableFault.TheVariants as fault;
 
@@ -26,6 +29,9 @@ pub fn read_table(
 
     // Only want of memory may come in place of the first fault.
     ensures refused { IfErr result (λ f. f ≢ fault.Memory → table_of table.now limits.now bytes.now ≡ Err f) }
+
+    // What `table_of` reads are all records of the file: each is the next one, and after the last there is none.
+    ensures records { AreRecords default_config st.StartRecord (strip_bom bytes.now) (file_records bytes.now) }
 
     // What callers use of the rows most often follows from `rows`.
     ensures valid { IfOk result (λ rows. All (IsRowOf table.now limits.now) rows) }

@@ -1,7 +1,9 @@
 //! The records of a file, one after another.
 
 ghost use Rattle.std.specs.Prelude.{◌≡◌, IfOk};
+ghost use Rattle.csv.specs.Reading.{AreRecords, default_config, strip_bom};
 ghost use Rattle.csv.specs.Records.{fields_of};
+ghost use Rattle.csv.specs.declared.parser.State.TheVariants as st;
 ghost use Rattle.csv_tables.specs.Records.{TakesNext, file_records};
 
 use csv::{ByteRecord, Reader, ReaderBuilder};
@@ -29,7 +31,8 @@ impl<'a> Model for FileRecords<'a> {
 impl<'a> FileRecords<'a> {
     /// The reader leaves out one byte order mark by itself, so it is handed the file as it is.
     pub fn new(alloc: Global, bytes: &'a [u8]) -> FileRecords<'a>
-        ensures { result ≡ file_records bytes.now }
+        ensures records { result ≡ file_records bytes.now }
+        ensures all { AreRecords default_config st.StartRecord (strip_bom bytes.now) (file_records bytes.now) }
     {
         let reader = ReaderBuilder::new()
             .has_headers(false)
