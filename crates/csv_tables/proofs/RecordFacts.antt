@@ -134,7 +134,7 @@ pub records_after-some : (s : State) (text : List ℕ) (p : Read) → next_recor
 unfolding records_from
 records_after-some s text p e =
     let h = next_record-leaves default_config s [] [] text p e in
-    rw (add-one, e) (ap (λ (rest : List (List (List ℕ))). p.0 ∷ rest) (elim h.shorter [
+    rw (add-one (length text), e) (ap (λ (rest : List (List (List ℕ))). p.0 ∷ rest) (elim h.shorter [
       | inl lt ↦ records_from-enough (length text) (length p.2 + 1) p.1 p.2 lt (omega arith)
       | inr nil ↦ rw nil (records_from-nil (length text) p.1 h.between ∙ sym (records_from-nil 1 p.1 h.between))
     ]))

@@ -45,6 +45,14 @@ fn notes(alloc: Global) -> Result<Table, AllocError>
     table_of(alloc, attrs)
 }
 
+fn row_of(alloc: Global, cell: &str) -> Result<Texts, AllocError>
+    ensures { IfOk result (λ row. length row ≡ 1) }
+{
+    let mut row = List::new(alloc);
+    row.push(Text::new(alloc, cell)?)?;
+    Ok(row)
+}
+
 /// The rows of a file, a line each, or the text of its first fault.
 fn outcome(alloc: Global, table: &Table, bytes: &[u8], limits: &Limits) -> Result<String, Fail>
     requires { AreLimits limits.now }
@@ -205,9 +213,7 @@ fn reads_again_what_it_wrote(rt: HostRuntime) -> Result<(), Fail> {
     ];
     let mut rows = List::new(rt.alloc());
     for cell in cells {
-        let mut row: Texts = List::new(rt.alloc());
-        row.push(Text::new(rt.alloc(), cell)?)?;
-        rows.push(row)?;
+        rows.push(row_of(rt.alloc(), cell)?)?;
     }
     let file = write_table(rt.alloc(), &table, &rows)?;
     let short =
