@@ -1,6 +1,6 @@
 //! A list that grows at its end. Clauses see it as the list of its items.
 
-ghost use Rattle.std.specs.Prelude.{◌≡◌, ◌<◌, [], ◌∷◌, ◌++◌, length, slice_set, slice_get, OnOk, OnErr};
+ghost use Rattle.std.specs.Prelude.{◌≡◌, ◌<◌, [], ◌∷◌, ◌++◌, length, take, slice_set, slice_get, OnOk, OnErr};
 ghost use Rattle.std.specs.List.{AllZip};
 ghost use Rattle.std.specs.Cmp.Lexicographic.{pointwise, lists_equiv, lists_per};
 
@@ -49,10 +49,36 @@ impl<T> List<T> {
         std::mem::replace(&mut self.items[place], item)
     }
 
+    /// Drops the items from that place on.
+    pub fn truncate(&mut self, length: usize)
+    where
+        T: Drop,
+        ensures { self.new ≡ take length self.old }
+    {
+        self.items.truncate(length);
+    }
+
     pub fn as_slice(&self) -> &[T]
         ensures { result.now ≡ self.now }
     {
         self.items.as_slice()
+    }
+
+    /// The items themselves, with the room that they stand in.
+    pub fn into_vec(self) -> Vec<T>
+        ensures { result.items ≡ self }
+    {
+        self.items
+    }
+}
+
+impl<T> From<Vec<T>> for List<T> {
+    ghost use Rattle.std.specs.Prelude.{◌≡◌};
+
+    ghost from_gives = { λ v l. l ≡ v.items };
+
+    fn from(items: Vec<T>) -> List<T> {
+        List { items }
     }
 }
 

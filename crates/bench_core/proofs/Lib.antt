@@ -1,0 +1,4 @@
+pub mod Rooms
+pub mod States
+pub mod Fits
+pub mod Loads

@@ -1,0 +1,27 @@
+use Rattle.std.proofs.Common.{◌≡◌, ◌<◌, ◌++◌, [], ◌∷◌, List, ℕ, length, take, map, get_or, ap, sym, ◌∙◌, subst, arith}
+use Rattle.std.proofs.lemmas.Iterator.Adapters.{YieldsList-from_vec}
+use Rattle.std.proofs.lemmas.Iterator.Consumers.{YieldsList-turn, YieldsList-so_far}
+use Rattle.bench_core.specs.State.{loaded_table}
+use Rattle.bench_core.specs.Edited.{IsFirstOver, IsOver}
+use Rattle.bench_core.proofs.Loads.{first_over-here, over_by_itself}
+use Rattle.bench_core.proofs.bench.load_tables.Goals as goal
+
+pub returns-then-as_slice-limits-clause-fault : goal.returns-then-as_slice-limits-clause-fault
+returns-then-as_slice-limits-clause-fault c =
+    let all = YieldsList-from_vec c.args.tables (c.into_iter-tuples-iterator.ensures.into_iter_gives.0 ∙ c.into_vec-tuples-items.ensures)
+    (omega (arith, c.into_iter-tuples-iterator.ensures.into_iter_gives.1, c.into_vec-tuples-items.result.ok.0, ap length c.into_vec-tuples-items.ensures)) in
+    let turn = YieldsList-turn all c.loop-tuples.yielded _ c.loop-tuples.yielded_by _ c.next.new.self c.in-Some.tuples c.in-Some.is c.next.ensures.steps in
+    let front = YieldsList-so_far all c.loop-tuples.yielded _ c.loop-tuples.yielded_by in
+    first_over-here c.args.limits.now c.args.deps.now c.args.tables c.loop-tuples.yielded c.in-Some.tuples c.loop-tuples.loaded.items c.len-table.result
+    turn.0 front turn.1 c.loop-tuples.invariant.0 (c.len-table.ensures ∙ c.loop-tuples.loaded.ok.0) c.loop-tuples.invariant.1
+    (over_by_itself c.args.limits.now c.args.deps.now c.loop-tuples.loaded.items c.in-Some.tuples (rw c.as_slice.ensures at c.if-as_slice-limits.true))
+
+pub returns-then-is_over-clause-fault : goal.returns-then-is_over-clause-fault
+returns-then-is_over-clause-fault c =
+    let all = YieldsList-from_vec c.args.tables (c.into_iter-tuples-iterator.ensures.into_iter_gives.0 ∙ c.into_vec-tuples-items.ensures)
+    (omega (arith, c.into_iter-tuples-iterator.ensures.into_iter_gives.1, c.into_vec-tuples-items.result.ok.0, ap length c.into_vec-tuples-items.ensures)) in
+    let turn = YieldsList-turn all c.loop-tuples.yielded _ c.loop-tuples.yielded_by _ c.next.new.self c.in-Some.tuples c.in-Some.is c.next.ensures.steps in
+    let front = YieldsList-so_far all c.loop-tuples.yielded _ c.loop-tuples.yielded_by in
+    first_over-here c.args.limits.now c.args.deps.now c.args.tables c.loop-tuples.yielded c.in-Some.tuples c.loop-tuples.loaded.items c.len-table.result
+    turn.0 front turn.1 c.loop-tuples.invariant.0 (c.len-table.ensures ∙ c.loop-tuples.loaded.ok.0) c.loop-tuples.invariant.1
+    (subst (IsOver c.args.limits.now c.args.deps.now) (c.deref.ensures.value ∙ c.in_ok-add_table.ensures) c.if-is_over.ensures.over)

@@ -1,0 +1,4 @@
+pub mod Members
+pub mod Listing
+pub mod Law
+pub mod Renamed

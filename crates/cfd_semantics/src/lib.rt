@@ -1,0 +1,12 @@
+//! What a conditional dependency asks of the rows of a table, and which rows violate it. One set of definitions serves
+//! values of any kind that have a test of equality: texts, and the ids that stand for them.
+//! The programs here compare every row with every row. They are slow and plain, and each index is held against them.
+#![tactic(auto)]
+
+mod pattern;
+mod scan;
+mod tuple;
+
+pub use pattern::{Pattern, TableauRow};
+pub use scan::{Violation, dependency_violations, violations};
+pub use tuple::Row;

@@ -1,0 +1,36 @@
+//! The cells of a pattern tableau.
+
+use schema_core::List;
+
+/// What a cell asks of a value: nothing, to be the constant, to be in the set, or not to be in it.
+#[derive(Debug, Drop)]
+pub enum Pattern<V> {
+    Any,
+    Is(V),
+    In(List<V>),
+    NotIn(List<V>),
+}
+
+/// A tableau row of a dependency: a cell for each attribute of X, and one for A.
+#[derive(Debug, Drop)]
+pub struct TableauRow<V> {
+    pub x: List<Pattern<V>>,
+    pub a: Pattern<V>,
+}
+
+impl<V: PartialEq> Pattern<V> {
+    ghost use Rattle.std.specs.Prelude.{◌≡◌};
+    ghost use Rattle.cfd_semantics.specs.Pattern.{matches};
+
+    /// Whether the value is one that the cell asks for.
+    pub fn matches(&self, value: &V) -> bool
+        ensures { result ≡ matches V.eq self.now value.now }
+    {
+        match self {
+            Pattern::Any => true,
+            Pattern::Is(constant) => constant == value,
+            Pattern::In(members) => members.as_slice().contains(value),
+            Pattern::NotIn(members) => !members.as_slice().contains(value),
+        }
+    }
+}

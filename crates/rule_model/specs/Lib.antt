@@ -1,0 +1,4 @@
+pub mod Declarations
+pub mod Dependencies
+pub mod Faults
+pub mod Books

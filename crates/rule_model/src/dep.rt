@@ -1,0 +1,17 @@
+//! Dependencies with one attribute on the right side, over the numbers of a schema.
+
+use cfd_semantics::TableauRow;
+use schema_core::{List, Text};
+
+/// A tableau row: a cell for each attribute of the left list, and one for the attribute on the right.
+pub type DepRow = TableauRow<Text>;
+
+/// A dependency of a table. Tables and attributes are numbered from 0, in the order of the schema.
+#[derive(Debug, Drop)]
+pub struct Dep {
+    pub name: Text,
+    pub table: usize,
+    pub x: List<usize>,
+    pub a: usize,
+    pub rows: List<DepRow>,
+}
