@@ -1,0 +1,4 @@
+pub mod Records
+pub mod TableFiles
+pub mod Columns
+pub mod WrittenFiles

@@ -1,0 +1,197 @@
+//! The header of a table file.
+
+ghost use Rattle.std.specs.Prelude.{◌≡◌, ◌≢◌, ◌<◌, ◌≤◌, ◌+◌, ℕ, List, [], Some, None, IfOk, IfErr, OnOk, length, map, true, false, take, drop, slice_index_or, All};
+ghost use Rattle.std.specs.List.{list_all};
+ghost use Rattle.std.specs.Result.{result_err};
+ghost use Rattle.std.specs.Str.{is_utf8};
+ghost use Rattle.csv.specs.Records.{fields_of};
+ghost use Rattle.schema_core.specs.Schemas.{admits};
+ghost use Rattle.csv_tables.specs.Columns.{ArePlacesOf};
+ghost use Rattle.csv_tables.specs.TableFiles.{column_fault, column_place, domain_fault, header_fault, lacking_fault, record_fault, row_of, text_fault};
+ghost use Rattle.csv_tables.specs.declared.fault.TableFault.TheVariants as fault;
+
+use crate::fault::TableFault;
+use crate::fields::{has_longer_field, is_text, place_of, text_at};
+use csv::ByteRecord;
+use schema_core::{Attr, Limits, List, Table, Text, Texts};
+use std::alloc::Global;
+
+/// Where the fields of a record go: for each attribute of the table the place of its column.
+#[derive(Drop)]
+pub(crate) struct Columns<'a> {
+    pub table: &'a Table,
+    pub header: ByteRecord,
+    places: Vec<usize>,
+    ghost in_place: { ArePlacesOf places.items table.now.attrs (fields_of header) },
+}
+
+impl<'a> Columns<'a> {
+    /// The columns of a header without faults.
+    pub fn of_header(
+        alloc: Global,
+        table: &'a Table,
+        header: ByteRecord,
+    ) -> Result<Columns<'a>, TableFault>
+        ensures ok { OnOk result (header_fault table.now (fields_of header) ≡ None) }
+        ensures columns { IfOk result (λ columns. (columns.table.now ≡ table.now) × (columns.header ≡ header)) }
+        ensures refused { IfErr result (λ f. f ≢ fault.Memory → header_fault table.now (fields_of header) ≡ Some f) }
+    {
+        if !is_text(&header) {
+            return Err(TableFault::NotUtf8 { at: 0 });
+        }
+        check_columns(alloc, table, &header)?;
+        let places = column_places(alloc, table.attrs.as_slice(), &header)?;
+        Ok(Columns {
+            table,
+            header,
+            places,
+        })
+    }
+
+    /// The row of the record of that number, its fields in the order of the attributes.
+    pub fn row(
+        &self,
+        alloc: Global,
+        limits: &Limits,
+        at: usize,
+        fields: &ByteRecord,
+    ) -> Result<Texts, TableFault>
+        ensures ok { OnOk result (record_fault self.now.table.now limits.now (fields_of self.now.header) at (fields_of fields.now) ≡ None) }
+        ensures row { IfOk result (λ row. row ≡ row_of self.now.table.now.attrs (fields_of self.now.header) (fields_of fields.now)) }
+        ensures few { OnOk result (at ≤ limits.now.rows) }
+        ensures refused { IfErr result (λ f. f ≢ fault.Memory
+            → record_fault self.now.table.now limits.now (fields_of self.now.header) at (fields_of fields.now) ≡ Some f) }
+    {
+        check_fields(limits, self.header.len(), at, fields)?;
+        self.cells(alloc, at, fields)
+    }
+
+    fn cells(&self, alloc: Global, at: usize, fields: &ByteRecord) -> Result<Texts, TableFault>
+        requires width { length (fields_of fields.now) ≡ length (fields_of self.now.header) }
+        requires text { list_all is_utf8 (fields_of fields.now) ≡ true }
+        ensures ok { OnOk result (domain_fault self.now.table.now.attrs (fields_of self.now.header) at (fields_of fields.now) ≡ None) }
+        ensures row { IfOk result (λ row. row ≡ row_of self.now.table.now.attrs (fields_of self.now.header) (fields_of fields.now)) }
+        ensures refused { IfErr result (λ f. f ≢ fault.Memory
+            → domain_fault self.now.table.now.attrs (fields_of self.now.header) at (fields_of fields.now) ≡ Some f) }
+    {
+        let mut row = List::new(alloc);
+        for (i, attr) in self.table.attrs.as_slice().iter().enumerate() {
+            row.push(cell(alloc, attr, at, fields, self.places[i])?)?;
+        }
+        Ok(row)
+    }
+}
+
+// Goes over the columns from left to right. Among as many columns as the table has attributes, and one
+// more, there is a fault: so a header of millions of columns is refused early.
+fn check_columns(alloc: Global, table: &Table, header: &ByteRecord) -> Result<(), TableFault>
+    requires { list_all is_utf8 (fields_of header.now) ≡ true }
+    ensures ok { OnOk result (column_fault table.now [] (fields_of header.now) ≡ None) }
+    ensures refused { IfErr result (λ f. f ≢ fault.Memory → column_fault table.now [] (fields_of header.now) ≡ Some f) }
+{
+    for place in 0..header.len() {
+        check_column(alloc, table, header, place)?;
+    }
+    Ok(())
+}
+
+fn check_column(
+    alloc: Global,
+    table: &Table,
+    header: &ByteRecord,
+    place: usize,
+) -> Result<(), TableFault>
+    requires inside { place < length (fields_of header.now) }
+    requires text { list_all is_utf8 (fields_of header.now) ≡ true }
+    ensures ok { OnOk result (column_fault table.now (take place (fields_of header.now)) (drop place (fields_of header.now))
+        ≡ column_fault table.now (take (place + 1) (fields_of header.now)) (drop (place + 1) (fields_of header.now))) }
+    ensures refused { IfErr result (λ f. f ≢ fault.Memory
+        → column_fault table.now (take place (fields_of header.now)) (drop place (fields_of header.now)) ≡ Some f) }
+{
+    let name = text_at(header, place);
+    if table.attr_named(name).is_none() {
+        return Err(TableFault::HeaderColumn(Text::new(alloc, name)?));
+    }
+    if place_of(header, place, name).is_some() {
+        return Err(TableFault::HeaderRepeats(Text::new(alloc, name)?));
+    }
+    Ok(())
+}
+
+// The place of each attribute's column.
+fn column_places(
+    alloc: Global,
+    attrs: &[Attr],
+    header: &ByteRecord,
+) -> Result<Vec<usize>, TableFault>
+    ensures ok { OnOk result (lacking_fault attrs.now (fields_of header.now) ≡ None) }
+    ensures places { IfOk result (λ places. ArePlacesOf places.items attrs.now (fields_of header.now)) }
+    ensures refused { IfErr result (λ f. f ≢ fault.Memory → lacking_fault attrs.now (fields_of header.now) ≡ Some f) }
+{
+    let mut places = Vec::new(alloc);
+    for attr in attrs {
+        places.push(column_of(attr, header)?)?;
+    }
+    Ok(places)
+}
+
+fn column_of(attr: &Attr, header: &ByteRecord) -> Result<usize, TableFault>
+    ensures found { IfOk result (λ place. column_place (fields_of header.now) attr.now.name ≡ Some place) }
+    ensures inside { IfOk result (λ place. place < length (fields_of header.now)) }
+    ensures refused { IfErr result (λ f. f ≢ fault.Memory → (column_place (fields_of header.now) attr.now.name ≡ None) × (f ≡ fault.HeaderLacks attr.now.name)) }
+{
+    match place_of(header, header.len(), attr.name.as_str()) {
+        Some(place) => Ok(place),
+        None => Err(TableFault::HeaderLacks(attr.name.clone()?)),
+    }
+}
+
+// Tests the record of that number as far as that needs no table.
+fn check_fields(
+    limits: &Limits,
+    width: usize,
+    at: usize,
+    fields: &ByteRecord,
+) -> Result<(), TableFault>
+    ensures fault { result_err result ≡ text_fault limits.now width at (fields_of fields.now) }
+    ensures few { OnOk result (at ≤ limits.now.rows) }
+    ensures width { OnOk result (length (fields_of fields.now) ≡ width) }
+    ensures text { OnOk result (list_all is_utf8 (fields_of fields.now) ≡ true) }
+{
+    if at as u64 > limits.rows {
+        return Err(TableFault::RowsFull { at });
+    }
+    if fields.len() != width {
+        return Err(TableFault::Width { at });
+    }
+    if !is_text(fields) {
+        return Err(TableFault::NotUtf8 { at });
+    }
+    if has_longer_field(fields, limits.cell_bytes) {
+        return Err(TableFault::TextTooLong { at });
+    }
+    Ok(())
+}
+
+// The field at the place, if the domain of the attribute has it.
+fn cell(
+    alloc: Global,
+    attr: &Attr,
+    at: usize,
+    fields: &ByteRecord,
+    place: usize,
+) -> Result<Text, TableFault>
+    requires inside { place < length (fields_of fields.now) }
+    requires text { list_all is_utf8 (fields_of fields.now) ≡ true }
+    ensures value { IfOk result (λ text. text ≡ slice_index_or (fields_of fields.now) place []) }
+    ensures admitted { OnOk result (admits attr.now.domain (slice_index_or (fields_of fields.now) place []) ≡ true) }
+    ensures refused { IfErr result (λ f. f ≢ fault.Memory
+        → (admits attr.now.domain (slice_index_or (fields_of fields.now) place []) ≡ false) × (f ≡ fault.NotInDomain at attr.now.name)) }
+{
+    let text = text_at(fields, place);
+    if !attr.domain.admits(text) {
+        let attr = attr.name.clone()?;
+        return Err(TableFault::NotInDomain { at, attr });
+    }
+    Ok(Text::new(alloc, text)?)
+}

@@ -1,0 +1,66 @@
+//! Reading a table file.
+
+ghost use Rattle.std.specs.Prelude.{◌≡◌, ◌≢◌, ◌≤◌, Some, None, Ok, Err, IfOk, IfErr, OnOk, All, length, map};
+ghost use Rattle.csv.specs.Records.{fields_of};
+ghost use Rattle.schema_core.specs.Limits.{AreLimits};
+ghost use Rattle.csv_tables.specs.TableFiles.{IsRowOf, records_fault, row_of, table_of};
+ghost use Rattle.csv_tables.specs.declared.fault.TableFault.TheVariants as fault;
+
+use crate::columns::Columns;
+use crate::fault::TableFault;
+use crate::records::FileRecords;
+use csv::ByteRecord;
+use schema_core::{Limits, List, Table, Texts};
+use std::alloc::Global;
+
+/// The rows of a table file, the fields of each in the order of the schema. The file is read as the crate
+/// `csv` reads it in its default dialect, after one byte order mark; its first record is the header.
+pub fn read_table(
+    alloc: Global,
+    table: &Table,
+    bytes: &[u8],
+    limits: &Limits,
+) -> Result<List<Texts>, TableFault>
+    requires { AreLimits limits.now }
+    ensures rows { IfOk result (λ rows. table_of table.now limits.now bytes.now ≡ Ok rows) }
+
+    // Only want of memory may come in place of the first fault.
+    ensures refused { IfErr result (λ f. f ≢ fault.Memory → table_of table.now limits.now bytes.now ≡ Err f) }
+
+    // What callers use of the rows most often follows from `rows`.
+    ensures valid { IfOk result (λ rows. All (IsRowOf table.now limits.now) rows) }
+    ensures few { IfOk result (λ rows. length rows ≤ limits.now.rows) }
+{
+    let mut records = FileRecords::new(alloc, bytes);
+    let mut header = ByteRecord::new(alloc);
+    if !records.next(&mut header)? {
+        return Err(TableFault::NoHeader);
+    }
+    let columns = Columns::of_header(alloc, table, header)?;
+    read_rows(alloc, &columns, limits, records)
+}
+
+// The rows of the records under the header.
+fn read_rows(
+    alloc: Global,
+    columns: &Columns,
+    limits: &Limits,
+    mut records: FileRecords,
+) -> Result<List<Texts>, TableFault>
+    requires { AreLimits limits.now }
+    ensures ok { OnOk result (records_fault columns.now.table.now limits.now (fields_of columns.now.header) 1 records.entry ≡ None) }
+    ensures rows { IfOk result (λ rows. rows ≡ map (row_of columns.now.table.now.attrs (fields_of columns.now.header)) records.entry) }
+    ensures refused { IfErr result (λ f. f ≢ fault.Memory
+        → records_fault columns.now.table.now limits.now (fields_of columns.now.header) 1 records.entry ≡ Some f) }
+    ensures valid { IfOk result (λ rows. All (IsRowOf columns.now.table.now limits.now) rows) }
+    ensures few { IfOk result (λ rows. length rows ≤ limits.now.rows) }
+{
+    let mut rows = List::new(alloc);
+    let mut fields = ByteRecord::new(alloc);
+    let mut at = 1;
+    'records: while records.next(&mut fields)? {
+        rows.push(columns.row(alloc, limits, at, &fields)?)?;
+        at += 1;
+    }
+    Ok(rows)
+}
