@@ -18,3 +18,8 @@ form_of (name ∷ project ∷ word ∷ words) = None
 
 abbrev pub HasForm : List (List ℕ) → Type 0
 HasForm words = IsSome (form_of words)
+
+-- the word that names the schema's file
+abbrev pub project_word : List (List ℕ) → List ℕ
+project_word (name ∷ project ∷ words) = project
+project_word words = []

@@ -1,8 +1,9 @@
 // Files off the shelf, within the limits on their bytes.
-ghost use Rattle.std.specs.Prelude.{◌≡◌, ◌+◌, ◌≤◌, ◌^◌, length, min, IfOk, IfSome};
+ghost use Rattle.std.specs.Prelude.{◌≡◌, ◌+◌, ◌≤◌, ◌^◌, Some};
 ghost use Rattle.shelf_io.specs.Rising.{Rose};
-ghost use Rattle.shelf_io.specs.Files.{file_at};
-ghost use Rattle.cfd_cli.specs.Fetching.{file_within, room_for, MeetsFile, IsReadFault, RefusesOnly};
+ghost use Rattle.shelf_io.specs.Files.{Files};
+ghost use Rattle.cfd_cli.specs.Fetching.{IsReadFault, RefusesOnly};
+ghost use Rattle.cfd_cli.specs.Reading.{Gives, fetched};
 
 use crate::refusal::{Cause, Refusal};
 use schema_core::{Limits, Text};
@@ -50,6 +51,7 @@ pub fn refused(what: &Text, cause: Cause) -> Stop
 }
 
 /// The bytes of a file. `left` is how many bytes the files that are still to come may have together.
+#[tactic(auto, unfolding(crate::specs::Reading::fetched))]
 pub fn fetch_file<S: Shelf>(
     shelf: &mut S,
     name: &Text,
@@ -59,12 +61,11 @@ pub fn fetch_file<S: Shelf>(
     requires { left.old ≤ 2 ^ 32 }
 
     // Where the shelf tells what it holds, the answer is that of the held file.
-    ensures file { IfSome (S.holding shelf.old) (λ files.
-        MeetsFile (file_within (room_for limits.now left.old) (file_at files name.now)) name.now result) }
-    ensures spent { IfOk result (λ bytes. left.new + length bytes.items ≡ left.old) }
-    ensures left { left.new ≤ left.old }
+    ensures file { (files : Files) → S.holding shelf.old ≡ Some files
+        → Gives (λ bytes. (bytes.items, left.new)) result (fetched limits.now files left.old name.now) }
     ensures read_fault { IsReadFault result → Rose (S.faults shelf.old) (S.faults shelf.new) }
 
+    ensures left { left.new ≤ left.old }
     ensures faults { S.faults shelf.old ≤ S.faults shelf.new }
     ensures calls { S.calls shelf.new ≤ S.calls shelf.old + 1 }
     ensures holding { S.holding shelf.new ≡ S.holding shelf.old }

@@ -11,3 +11,6 @@ mod words;
 
 pub use program::{run, run_with};
 pub use status::Status;
+
+#[cfg(test)]
+mod tests;

@@ -1,13 +1,14 @@
 // The top call.
-ghost use Rattle.std.specs.Prelude.{◌≡◌, ◌+◌, ◌≤◌, ◌⊎◌};
-ghost use Rattle.schema_core.specs.Limits.{AreLimits};
+ghost use Rattle.std.specs.Prelude.{◌≡◌, ◌≢◌, ◌+◌, ◌≤◌, ◌⊎◌};
+ghost use Rattle.schema_core.specs.Limits.{AreLimits, standard};
 ghost use Rattle.shelf_io.specs.Rising.{Rose};
-ghost use Rattle.cfd_cli.specs.Output.{Output, Writes};
+ghost use Rattle.cfd_cli.specs.Output.{Only, Output, Writes, usage_line};
+ghost use Rattle.cfd_cli.specs.Refusals.{refusal_line};
 ghost use Rattle.cfd_cli.specs.Words.{HasForm};
 
 use crate::fetching::Stop;
 use crate::project::read_project;
-use crate::refusal::refusal_line;
+use crate::refusal::{Refusal, refusal_line};
 use crate::status::Status;
 use crate::words::{Form, form_of, project_of};
 use schema_core::{Limits, Text, Texts};
@@ -19,7 +20,7 @@ const USAGE: &str =
 
 /// Does what the words ask for, under the standard limits. The words are those after the program's name.
 pub fn run<S: Shelf, O: Sink>(alloc: Global, words: &Texts, shelf: &mut S, out: &mut O) -> Status
-    ensures written { Writes (Output words.now) (O.written out.old) (O.written out.new) result }
+    ensures written { Writes (Output standard (S.holding shelf.old) words.now) (O.written out.old) (O.written out.new) result }
     ensures read_fault { result ≡ Status.ReadFault → Rose (S.faults shelf.old) (S.faults shelf.new) }
     ensures write_fault { result ≡ Status.WriteFault → Rose (O.faults out.old) (O.faults out.new) }
     ensures usage { (HasForm words.now → ⊥) → (result ≡ Status.Usage) ⊎ (result ≡ Status.WriteFault) }
@@ -40,7 +41,7 @@ pub fn run_with<S: Shelf, O: Sink>(
     requires { AreLimits limits }
 
     // What was appended, by how the call ended.
-    ensures written { Writes (Output words.now) (O.written out.old) (O.written out.new) result }
+    ensures written { Writes (Output limits (S.holding shelf.old) words.now) (O.written out.old) (O.written out.new) result }
 
     // A fault is told only where the device counted one.
     ensures read_fault { result ≡ Status.ReadFault → Rose (S.faults shelf.old) (S.faults shelf.new) }
@@ -55,14 +56,13 @@ pub fn run_with<S: Shelf, O: Sink>(
 {
     let words = words.as_slice();
     match form_of(words) {
-        None => write_usage(words, out),
+        None => write_usage(out),
         Some(Form::Run) => run_project(alloc, words, shelf, out, &limits),
     }
 }
 
-fn write_usage<O: Sink>(words: &[Text], out: &mut O) -> Status
-    requires { HasForm words.now → ⊥ }
-    ensures written { Writes (Output words.now) (O.written out.old) (O.written out.new) result }
+fn write_usage<O: Sink>(out: &mut O) -> Status
+    ensures written { Writes (Only usage_line Status.Usage) (O.written out.old) (O.written out.new) result }
     ensures write_fault { result ≡ Status.WriteFault → Rose (O.faults out.old) (O.faults out.new) }
     ensures usage { (result ≡ Status.Usage) ⊎ (result ≡ Status.WriteFault) }
 {
@@ -81,29 +81,24 @@ fn run_project<S: Shelf, O: Sink>(
 ) -> Status
     requires form { HasForm words.now }
     requires limits { AreLimits limits.now }
-    ensures written { Writes (Output words.now) (O.written out.old) (O.written out.new) result }
+    ensures written { Writes (Output limits.now (S.holding shelf.old) words.now) (O.written out.old) (O.written out.new) result }
     ensures read_fault { result ≡ Status.ReadFault → Rose (S.faults shelf.old) (S.faults shelf.new) }
     ensures write_fault { result ≡ Status.WriteFault → Rose (O.faults out.old) (O.faults out.new) }
     ensures fetches { S.calls shelf.new ≤ S.calls shelf.old + 67 }
 {
     match read_project(alloc, shelf, project_of(words), limits) {
         Ok(_project) => Status::Clean,
-        Err(stop) => tell_stop(alloc, words, &stop, out),
+        Err(Stop::Refused(refusal)) => tell_refusal(alloc, &refusal, out),
+        Err(Stop::ReadFault) => Status::ReadFault,
+        Err(Stop::Memory) => Status::Memory,
     }
 }
 
-// Writes the line of a refusal.
-fn tell_stop<O: Sink>(alloc: Global, words: &[Text], stop: &Stop, out: &mut O) -> Status
-    requires { HasForm words.now }
-    ensures written { Writes (Output words.now) (O.written out.old) (O.written out.new) result }
-    ensures read_fault { result ≡ Status.ReadFault → stop.now ≡ Stop.ReadFault }
+fn tell_refusal<O: Sink>(alloc: Global, refusal: &Refusal, out: &mut O) -> Status
+    ensures written { Writes (Only (refusal_line refusal.now.what refusal.now.cause) Status.Refused) (O.written out.old) (O.written out.new) result }
+    ensures read { result ≢ Status.ReadFault }
     ensures write_fault { result ≡ Status.WriteFault → Rose (O.faults out.old) (O.faults out.new) }
 {
-    let refusal = match stop {
-        Stop::Refused(refusal) => refusal,
-        Stop::ReadFault => return Status::ReadFault,
-        Stop::Memory => return Status::Memory,
-    };
     let Ok(line) = refusal_line(alloc, refusal) else {
         return Status::Memory;
     };

@@ -1,6 +1,6 @@
 // The words of a call.
 ghost use Rattle.std.specs.Prelude.{◌≡◌};
-ghost use Rattle.cfd_cli.specs.Words.{is_plain, form_of, HasForm};
+ghost use Rattle.cfd_cli.specs.Words.{is_plain, form_of, HasForm, project_word};
 
 use schema_core::Text;
 
@@ -33,6 +33,7 @@ fn is_plain(word: &Text) -> bool
 /// The word that names the schema's file.
 pub fn project_of(words: &[Text]) -> &Text
     requires { HasForm words.now }
+    ensures { result.now ≡ project_word words.now }
 {
     &words[1]
 }

@@ -1,13 +1,19 @@
-use Rattle.std.proofs.Common.{ℕ, ◌+◌, ◌≤◌}
+use Rattle.std.proofs.Common.{◌≡◌, ℕ, ◌+◌, ◌≤◌, List, map, Option, Some}
+use Rattle.schema_core.specs.declared.limits.Limits.{Limits}
+use Rattle.schema_core.specs.declared.schema.Table.{Table}
+use Rattle.shelf_io.specs.Files.{Files}
+use Rattle.cfd_cli.proofs.Tables.{GoesOn}
 use Rattle.cfd_cli.proofs.project.fetch_tables.Given as goal
 
--- a fetch for each table so far
-pub record IsUnderWay (tables calls_before calls_after faults_before faults_after left_before left_after : ℕ) : Type 0 where
-  pub calls : calls_after ≤ calls_before + tables
+-- a fetch for each table so far, and what came of them
+pub record IsUnderWay (limits : Limits) (tables : List Table) (place : ℕ) (fetched : List (List ℕ)) (holding_before holding_after : Option Files) (calls_before calls_after faults_before faults_after left_before left_after : ℕ) : Type 0 where
+  pub files : (files : Files) → holding_before ≡ Some files → GoesOn limits files tables left_before place fetched left_after
+  pub holding : holding_after ≡ holding_before
+  pub calls : calls_after ≤ calls_before + place
   pub faults : faults_before ≤ faults_after
   pub left : left_after ≤ left_before
 
 abbrev pub invariant-loop-table : goal.invariant-loop-table
 invariant-loop-table g l =
     let shelf = g.S.Shelf in
-    IsUnderWay l.table-index (shelf.calls l.fn.shelf) (shelf.calls l.shelf) (shelf.faults l.fn.shelf) (shelf.faults l.shelf) l.fn.left l.left
+    IsUnderWay l.limits l.tables l.table-index (map (λ bytes. bytes.items) l.files.items) (shelf.holding l.fn.shelf) (shelf.holding l.shelf) (shelf.calls l.fn.shelf) (shelf.calls l.shelf) (shelf.faults l.fn.shelf) (shelf.faults l.shelf) l.fn.left l.left
