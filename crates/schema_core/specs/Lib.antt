@@ -2,3 +2,10 @@ pub mod Limits
 pub mod Names
 pub mod Rows
 pub mod Schemas
+pub mod Lines
+pub mod Tokens
+pub mod TokenLists
+pub mod SchemaLines
+pub mod SchemaFiles
+pub mod Drafts
+pub mod Appending

@@ -37,7 +37,7 @@ names_of_tables tables = map (λ (t : Table). t.name) tables
 abbrev pub names_of_attrs : List Attr → List (List ℕ)
 names_of_attrs attrs = map (λ (a : Attr). a.name) attrs
 
--- a finite domain has a value, its values are distinct constants, and there are at most 64
+-- a finite domain has a value, and its values are distinct constants
 pub record AreValues (values : List (List ℕ)) : Type 0 where
   pub some : 1 ≤ length values
   pub constants : All IsConstant values
@@ -59,11 +59,13 @@ pub record IsValidTable (table : Table) : Type 0 where
   pub attrs : All IsValidAttr table.attrs
   pub distinct : AreDistinct (names_of_attrs table.attrs)
 
-abbrev pub HasFewValues : Attr → Type 0
-HasFewValues attr = elim attr.domain [ AnyText ↦ Unit {0} | Finite values ↦ length values ≤ 64 ]
+-- counts within the standard limits
+abbrev pub HasFewValues : Domain → Type 0
+HasFewValues AnyText = Unit {0}
+HasFewValues (Finite values) = length values ≤ 64
 
 abbrev pub HasFewAttrs : Table → Type 0
-HasFewAttrs table = (length table.attrs ≤ 64) × All HasFewValues table.attrs
+HasFewAttrs table = (length table.attrs ≤ 64) × All (λ (a : Attr). HasFewValues a.domain) table.attrs
 
 -- valid tables of distinct names, files for rules and script, and counts within the standard limits
 pub record IsValidSchema (schema : Schema) : Type 0 where

@@ -1,0 +1,129 @@
+-- The names and texts among the tokens of a line, and among what a schema line says.
+use Rattle.std.proofs.Common.{inl, inr, ◌≡◌, ◌≢◌, ℕ, zero, suc, ◌+◌, ◌<◌, ◌≤◌, Bool, true, false, cond, eqb, leb, ◌&&◌, List, [], ◌∷◌, ◌++◌, length, take, drop, Option, Some, None, refl, ap, sym, ◌∙◌, subst, arith}
+use Rattle.std.specs.Prelude.{not, codes}
+use Rattle.std.specs.Str.{IsUtf8, is_utf8, bytes_eq}
+use Rattle.std.specs.Char.{is_ascii_alphabetic, is_ascii_digit}
+use Rattle.std.specs.List.{prefix_len, list_all, AllByRecursion}
+use Rattle.std.proofs.lemmas.Bool.{cases_Bool, cases_eq, cond-true, cond-false, cond_both, and_from, and_parts, le-leb, leb-true}
+use Rattle.std.proofs.lemmas.List.{length-take}
+use Rattle.std.proofs.lemmas.Str.{IsUtf8-from_is_utf8}
+use Rattle.std.proofs.lemmas.Option.{none-some, same_Some, some_pair_parts, cond_some}
+use Rattle.schema_core.specs.Names.{is_name_byte, is_name, IsName, IsFileName, IsConstant}
+use Rattle.schema_core.specs.declared.tokens.Mark.{Mark}
+use Rattle.schema_core.specs.declared.tokens.Token.{Token}
+use Rattle.schema_core.specs.declared.tokens.Token.TheVariants.{Name, Number, Quoted, Sign}
+use Rattle.schema_core.specs.declared.tokens.LineTokens.{LineTokens}
+use Rattle.schema_core.specs.declared.tokens.LineTokens.TheVariants.{Passed, NotUtf8, BadTokens, Tokens}
+use Rattle.schema_core.specs.Tokens.{after_blanks, begins_blank, is_passed, text_from, mark_or, one_mark, two_marks, mark_at, name_len, digits_len, quoted_token, token_at, is_word, with_token, and_then, tokens_from, line_tokens}
+use Rattle.schema_core.proofs.Runs.{prefix_len-le}
+use Rattle.schema_core.proofs.Utf8.{IsUtf8-tail}
+use Rattle.schema_core.proofs.Texts.{text_from-IsUtf8}
+use Rattle.schema_core.proofs.TokenLemmas.{token_at-nil, token_at-letter, token_at-zero, token_at-digit, token_at-quote, token_at-mark, quoted_token-some, letter-is_name_byte, mark_or-some, token_at-Follows, IsUtf8-after_blanks}
+
+-- a name is one, and a text is UTF-8
+abbrev pub IsGoodToken : Token → Type 0
+IsGoodToken (Name name) = IsName name
+IsGoodToken (Number n) = Unit {0}
+IsGoodToken (Quoted text) = IsUtf8 text
+IsGoodToken (Sign mark) = Unit {0}
+
+-- ---- the token at the front
+
+one_plus : (n : ℕ) → 1 + n ≡ suc n
+one_plus n = omega arith
+
+run_passes : (p : ℕ → Bool) (n : ℕ) (bytes : List ℕ) → list_all p (take (prefix_len p (take n bytes)) bytes) ≡ true
+run_passes p zero bytes = refl
+run_passes p (suc n) [] = refl
+run_passes p (suc n) (b ∷ bytes) =
+    cond_both (p b) (1 + prefix_len p (take n bytes)) 0 (λ k. list_all p (take k (b ∷ bytes)) ≡ true)
+    (λ passes. rw (one_plus (prefix_len p (take n bytes))) (and_from (p b) _ passes (run_passes p n bytes)))
+    (λ fails. refl)
+
+name_front : (b : ℕ) (bytes : List ℕ) → is_ascii_alphabetic b ≡ true → IsName (take (name_len (b ∷ bytes)) (b ∷ bytes))
+name_front b bytes letter =
+    let k = prefix_len is_name_byte (take 63 bytes) in
+    let len : name_len (b ∷ bytes) ≡ suc k = cond-true (is_name_byte b) (1 + k) 0 (letter-is_name_byte b letter) ∙ one_plus k in
+    let short : length (take k bytes) ≤ 63 = omega (arith, length-take k bytes, prefix_len-le is_name_byte (take 63 bytes), length-take 63 bytes) in
+    rw len (and_from (is_ascii_alphabetic b && list_all is_name_byte (take k bytes)) _ (and_from (is_ascii_alphabetic b) _ letter (run_passes is_name_byte 63 bytes)) (le-leb _ 63 short))
+
+mark_or-good : (mark : Option Mark) (left : List ℕ) (other : Option (Token × List ℕ)) (token : Token) (rest : List ℕ) → mark_or mark left other ≡ Some (token, rest) → (other ≡ Some (token, rest) → IsGoodToken token) → IsGoodToken token
+mark_or-good None left other token rest e further = further e
+mark_or-good (Some m) left other token rest e further = subst IsGoodToken (some_pair_parts (Sign m) token left rest e).0 tt
+
+mark_at-good : (bytes rest : List ℕ) (token : Token) → mark_at bytes ≡ Some (token, rest) → IsGoodToken token
+unfolding mark_at
+mark_at-good [] rest token e = absurd (none-some _ e)
+mark_at-good (b ∷ []) rest token e = mark_or-good (one_mark b) [] None token rest e (λ n. absurd (none-some _ n))
+mark_at-good (b ∷ c ∷ bytes) rest token e = mark_or-good (two_marks b c) bytes _ token rest e (λ f. mark_or-good (one_mark b) (c ∷ bytes) None token rest f (λ n. absurd (none-some _ n)))
+
+pub token_at-good : (bytes rest : List ℕ) (token : Token) → IsUtf8 bytes → token_at bytes ≡ Some (token, rest) → IsGoodToken token
+token_at-good [] rest token utf8 e = absurd (none-some _ (sym token_at-nil ∙ e))
+token_at-good (b ∷ bytes) rest token utf8 e =
+    elim (cases_Bool (is_ascii_alphabetic b)) [
+      | inl letter ↦ subst IsGoodToken (some_pair_parts _ _ _ _ (sym (token_at-letter b bytes letter) ∙ e)).0 (name_front b bytes letter)
+      | inr no_letter ↦ elim (cases_eq b 48) [
+        | inl zero' ↦ subst IsGoodToken (some_pair_parts _ _ _ _ (sym (token_at-zero b bytes zero') ∙ e)).0 tt
+        | inr no_zero ↦ elim (cases_Bool (is_ascii_digit b)) [
+          | inl digit ↦ subst IsGoodToken (some_pair_parts _ _ _ _ (sym (token_at-digit b bytes no_letter no_zero digit) ∙ e)).0 tt
+          | inr no_digit ↦ elim (cases_eq b 39) [
+            | inl quote ↦ (let found = quoted_token-some (text_from bytes) token rest (sym (token_at-quote b bytes quote) ∙ e) in
+                subst IsGoodToken (sym found.2) (text_from-IsUtf8 [] bytes found.0 rest (IsUtf8-tail b bytes (omega arith) utf8) found.1).0)
+            | inr no_quote ↦ mark_at-good (b ∷ bytes) rest token (sym (token_at-mark b bytes no_letter no_zero no_digit no_quote) ∙ e)
+          ]
+        ]
+      ]
+    ]
+
+-- ---- the tokens of a line
+
+Tokens-nil : (tokens : List Token) → ◌≡◌ {A = LineTokens} (Tokens []) (Tokens tokens) → AllByRecursion IsGoodToken tokens
+Tokens-nil tokens e = let same : [] ≡ tokens = cc in subst (AllByRecursion IsGoodToken) same tt
+
+bad_tokens : (tokens : List Token) → ◌≡◌ {A = LineTokens} (BadTokens []) (Tokens tokens) → ⊥
+bad_tokens tokens e = cc
+
+passed_tokens : (tokens : List Token) → ◌≡◌ {A = LineTokens} Passed (Tokens tokens) → ⊥
+passed_tokens tokens e = cc
+
+not_utf8_tokens : (tokens : List Token) → ◌≡◌ {A = LineTokens} NotUtf8 (Tokens tokens) → ⊥
+not_utf8_tokens tokens e = cc
+
+with_token-Tokens : (t : Token) (rest : LineTokens) (tokens : List Token) → with_token t rest ≡ Tokens tokens → (others : List Token) × (rest ≡ Tokens others) × (t ∷ others ≡ tokens)
+with_token-Tokens t Passed tokens e = absurd cc
+with_token-Tokens t NotUtf8 tokens e = absurd cc
+with_token-Tokens t (BadTokens ts) tokens e = absurd cc
+with_token-Tokens t (Tokens ts) tokens e = (ts, refl, cc)
+
+and_then-good : (touches : Bool) (o : Option (Token × List ℕ)) (rest : Bool → List ℕ → LineTokens) (tokens : List Token) → and_then touches o rest ≡ Tokens tokens
+    → ((t : Token) (left : List ℕ) → o ≡ Some (t, left) → IsGoodToken t) → ((t : Token) (left : List ℕ) (others : List Token) → o ≡ Some (t, left) → rest (is_word t) left ≡ Tokens others → AllByRecursion IsGoodToken others) → AllByRecursion IsGoodToken tokens
+and_then-good touches None rest tokens e good further = absurd cc
+and_then-good touches (Some found) rest tokens e good further =
+    elim (cases_Bool (touches && is_word found.0)) [
+      | inl bad ↦ absurd (bad_tokens tokens (sym (cond-true _ (BadTokens []) (with_token found.0 (rest (is_word found.0) found.1)) bad) ∙ e))
+      | inr apart ↦ (
+          let parts = with_token-Tokens found.0 (rest (is_word found.0) found.1) tokens (sym (cond-false _ (BadTokens []) (with_token found.0 (rest (is_word found.0) found.1)) apart) ∙ e) in
+          subst (AllByRecursion IsGoodToken) parts.2 (good found.0 found.1 refl, further found.0 found.1 parts.0 refl parts.1))
+    ]
+
+tokens_from-good : (room : ℕ) (after_word : Bool) (bytes : List ℕ) (tokens : List Token) → IsUtf8 bytes → tokens_from room after_word bytes ≡ Tokens tokens → AllByRecursion IsGoodToken tokens
+unfolding tokens_from
+tokens_from-good zero after_word bytes tokens utf8 e = Tokens-nil tokens e
+tokens_from-good (suc room) after_word bytes tokens utf8 e =
+    elim (cases_Bool (eqb (length (after_blanks bytes)) 0)) [
+      | inl ended ↦ Tokens-nil tokens (sym (cond-true _ _ _ ended) ∙ e)
+      | inr more ↦ and_then-good (after_word && not (begins_blank bytes)) (token_at (after_blanks bytes)) (tokens_from room) tokens (sym (cond-false _ _ _ more) ∙ e)
+          (λ t left found. token_at-good (after_blanks bytes) left t (IsUtf8-after_blanks bytes utf8) found)
+          (λ t left others found rest. tokens_from-good room (is_word t) left others (token_at-Follows (after_blanks bytes) left t (IsUtf8-after_blanks bytes utf8) found).utf8 rest)
+    ]
+
+pub line_tokens-good : (line : List ℕ) (tokens : List Token) → line_tokens line ≡ Tokens tokens → AllByRecursion IsGoodToken tokens
+unfolding line_tokens
+line_tokens-good line tokens e =
+    elim (cases_Bool (is_utf8 line)) [
+      | inl utf8 ↦ elim (cases_Bool (is_passed line)) [
+        | inl passed ↦ absurd (passed_tokens tokens (sym (ap (λ u. cond (not u) NotUtf8 (cond (is_passed line) Passed (tokens_from (length line) false line))) utf8 ∙ cond-true (is_passed line) _ _ passed) ∙ e))
+        | inr kept ↦ tokens_from-good (length line) false line tokens (IsUtf8-from_is_utf8 line utf8) (sym (ap (λ u. cond (not u) NotUtf8 (cond (is_passed line) Passed (tokens_from (length line) false line))) utf8 ∙ cond-false (is_passed line) _ _ kept) ∙ e)
+      ]
+      | inr bad ↦ absurd (not_utf8_tokens tokens (sym (ap (λ u. cond (not u) NotUtf8 (cond (is_passed line) Passed (tokens_from (length line) false line))) bad) ∙ e))
+    ]

@@ -1,0 +1,13 @@
+pub mod Runs
+pub mod Digits
+pub mod Utf8
+pub mod Texts
+pub mod TokenLemmas
+pub mod LineLemmas
+pub mod PushLemmas
+pub mod ListLemmas
+pub mod SchemaLineLemmas
+pub mod SchemaFileLemmas
+pub mod DistinctLemmas
+pub mod GoodTokens
+pub mod ValidSchemas

@@ -1,0 +1,79 @@
+-- A list of the grammar that is read one p after the other.
+use Rattle.std.proofs.Common.{◌≡◌, ℕ, zero, suc, ◌+◌, ◌<◌, ◌≤◌, Bool, true, false, cond, eqb, List, [], ◌∷◌, ◌++◌, length, Option, Some, None, refl, ap, sym, ◌∙◌, arith}
+use Rattle.std.specs.Prelude.{is_some}
+use Rattle.std.proofs.lemmas.Bool.{ne_eqb, eq-eqb}
+use Rattle.std.proofs.lemmas.Option.{none-some, same_Some}
+use Rattle.schema_core.specs.declared.tokens.Token.{Token}
+use Rattle.schema_core.specs.declared.tokens.Token.TheVariants.{Name, Number, Quoted, Sign}
+use Rattle.schema_core.specs.declared.tokens.Mark.TheVariants.{Comma}
+use Rattle.schema_core.specs.TokenLists.{Reader, behind_comma, in_front, or_others, and_others, list1_within, list1_at, list_at}
+
+-- the items that were read before, in front of the others
+abbrev pub all_in_front : {A : Type 0} → List A → Option (List A × List Token) → Option (List A × List Token)
+all_in_front [] found = found
+all_in_front (x ∷ xs) found = in_front x (all_in_front xs found)
+
+pub all_in_front-push : {A : Type 0} (xs : List A) (x : A) (found : Option (List A × List Token)) → all_in_front (xs ++ x ∷ []) found ≡ all_in_front xs (in_front x found)
+all_in_front-push [] x found = refl
+all_in_front-push (y ∷ xs) x found = ap (in_front y) (all_in_front-push xs x found)
+
+pub all_in_front-none : {A : Type 0} (xs : List A) → ◌≡◌ {A = Option (List A × List Token)} (all_in_front xs None) None
+all_in_front-none [] = refl
+all_in_front-none (x ∷ xs) = ap (in_front x) (all_in_front-none xs)
+
+pub all_in_front-some : {A : Type 0} (xs ys : List A) (rest : List Token) → all_in_front xs (Some (ys, rest)) ≡ Some (xs ++ ys, rest)
+all_in_front-some [] ys rest = refl
+all_in_front-some (x ∷ xs) ys rest = ap (in_front x) (all_in_front-some xs ys rest)
+
+-- each p takes a token
+abbrev pub TakesToken : {A : Type 0} → Reader A → Type 0
+TakesToken {A} p = (tokens rest : List Token) (x : A) → p tokens ≡ Some (x, rest) → length rest < length tokens
+
+-- what is left of a list, of which these items were read before
+pub record ListLeft {A : Type 0} (p : Reader A) (whole : Option (List A × List Token)) (read : List A) (rest : List Token) : Type 0 where
+  pub room : ℕ
+  pub enough : length rest ≤ room
+  pub same : all_in_front read (list1_within p room rest) ≡ whole
+
+pub ListLeft-whole : {A : Type 0} (p : Reader A) (tokens : List Token) → ListLeft p (list1_at p tokens) [] tokens
+ListLeft-whole p tokens = record { room = length tokens; enough = omega arith; same = refl }
+
+pub list1_within-none : {A : Type 0} (p : Reader A) (room : ℕ) (rest : List Token) → p rest ≡ None → ◌≡◌ {A = Option (List A × List Token)} (list1_within p room rest) None
+list1_within-none p zero rest none = refl
+list1_within-none p (suc room) rest none = rw none refl
+
+-- where no p stands, there is no list
+pub ListLeft-none : {A : Type 0} (p : Reader A) (whole : Option (List A × List Token)) (read : List A) (rest : List Token) → ListLeft p whole read rest → p rest ≡ None → None ≡ whole
+ListLeft-none p whole read rest left none = sym (ap (all_in_front read) (list1_within-none p left.room rest none) ∙ all_in_front-none read) ∙ left.same
+
+less_room : {A : Type 0} (p : Reader A) → TakesToken p → (room : ℕ) (rest after : List Token) (x : A) → length rest ≤ room → p rest ≡ Some (x, after) → (k : ℕ) × (room ≡ suc k)
+less_room p takes zero rest after x enough found = absurd (omega (arith, takes rest after x found))
+less_room p takes (suc room) rest after x enough found = (room, refl)
+
+list1_within-some : {A : Type 0} (p : Reader A) (room : ℕ) (rest after : List Token) (x : A) → p rest ≡ Some (x, after) → list1_within p (suc room) rest ≡ or_others (list1_within p room) x after (behind_comma after)
+list1_within-some p room rest after x found = rw found refl
+
+-- where no `,` stands behind p, it is the last
+pub ListLeft-last : {A : Type 0} (p : Reader A) → TakesToken p → (whole : Option (List A × List Token)) (read : List A) (rest after : List Token) (x : A) → ListLeft p whole read rest → p rest ≡ Some (x, after) → behind_comma after ≡ None
+    → Some (read ++ x ∷ [], after) ≡ whole
+ListLeft-last p takes whole read rest after x left found last =
+    let less = less_room p takes left.room rest after x left.enough found in
+    let step : list1_within p left.room rest ≡ Some (x ∷ [], after) = ap (λ (k : ℕ). list1_within p k rest) less.1 ∙ list1_within-some p less.0 rest after x found ∙ ap (or_others (list1_within p less.0) x after) last in
+    sym (ap (all_in_front read) step ∙ all_in_front-some read (x ∷ []) after) ∙ left.same
+
+pub length-behind_comma : (tokens rest : List Token) → behind_comma tokens ≡ Some rest → length rest < length tokens
+length-behind_comma [] rest e = absurd (none-some _ e)
+length-behind_comma (Sign Comma ∷ tokens) rest e = rw (← same_Some tokens rest e) (omega arith)
+length-behind_comma (t ∷ tokens) rest e = absurd (none-some _ e)
+
+pub ListLeft-more : {A : Type 0} (p : Reader A) → TakesToken p → (whole : Option (List A × List Token)) (read : List A) (rest after behind : List Token) (x : A) → ListLeft p whole read rest → p rest ≡ Some (x, after) → behind_comma after ≡ Some behind
+    → ListLeft p whole (read ++ x ∷ []) behind
+ListLeft-more p takes whole read rest after behind x left found more =
+    let less = less_room p takes left.room rest after x left.enough found in
+    let step : list1_within p left.room rest ≡ in_front x (list1_within p less.0 behind) = ap (λ (k : ℕ). list1_within p k rest) less.1 ∙ list1_within-some p less.0 rest after x found ∙ ap (or_others (list1_within p less.0) x after) more in
+    let fits : length behind ≤ less.0 = omega (arith, takes rest after x found, length-behind_comma after behind more, left.enough, less.1) in
+    record {
+      room = less.0;
+      enough = fits;
+      same = all_in_front-push read x (list1_within p less.0 behind) ∙ ap (all_in_front read) (sym step) ∙ left.same;
+    }

@@ -1,0 +1,86 @@
+-- The grammar of schema files, by cases on the tokens of a line and on the list of lines:
+--
+--     table NAME FILE      master NAME FILE
+--     attr NAME            attr NAME in LIST(VALUE)
+--     rules FILE           script FILE
+--
+-- FILE is a text of 1 to 1,024 bytes, VALUE a text of at most 1,024 bytes.
+use Rattle.std.specs.Prelude.{◌≡◌, ℕ, ◌+◌, Bool, true, false, ◌&&◌, ◌||◌, not, List, [], ◌∷◌, ◌++◌, length, map, Option, Some, None, is_some, Result, Ok, Err, if◌then◌else◌, ◌==◌, nat_le, nat_lt, codes}
+use Rattle.std.specs.List.{list_any}
+use Rattle.std.specs.Str.{bytes_eq}
+use Rattle.schema_core.specs.Lines.{lines}
+use Rattle.schema_core.specs.Tokens.{is_passed, line_tokens}
+use Rattle.schema_core.specs.TokenLists.{Reader, list_at}
+use Rattle.schema_core.specs.declared.tokens.Token.{Token}
+use Rattle.schema_core.specs.declared.tokens.Token.TheVariants.{Name, Number, Quoted, Sign}
+use Rattle.schema_core.specs.declared.tokens.LineTokens.{LineTokens}
+use Rattle.schema_core.specs.declared.tokens.LineTokens.TheVariants.{Passed, NotUtf8, BadTokens, Tokens}
+use Rattle.schema_core.specs.declared.limits.Limits.{Limits}
+use Rattle.schema_core.specs.declared.limits.Limit.TheVariants as limit
+use Rattle.schema_core.specs.declared.schema.Domain.{Domain}
+use Rattle.schema_core.specs.declared.schema.Domain.TheVariants.{AnyText, Finite}
+use Rattle.schema_core.specs.declared.schema.Attr.{Attr}
+use Rattle.schema_core.specs.declared.schema.Table.{Table}
+use Rattle.schema_core.specs.declared.schema.Schema.{Schema}
+use Rattle.schema_core.specs.declared.schema.SchemaCause.{SchemaCause}
+use Rattle.schema_core.specs.declared.schema.SchemaCause.TheVariants as cause
+use Rattle.schema_core.specs.declared.schema_lines.SchemaLine.{SchemaLine}
+use Rattle.schema_core.specs.declared.schema_lines.SchemaLine.TheVariants as says
+
+-- ---- the forms of lines
+
+abbrev pub is_file_name : List ℕ → Bool
+is_file_name text = nat_le 1 (length text) && nat_le (length text) 1024
+
+abbrev pub is_constant : List ℕ → Bool
+is_constant text = nat_le (length text) 1024
+
+-- FILE as the last token
+abbrev pub lone_file : List Token → Option (List ℕ)
+lone_file (Quoted file ∷ []) = if is_file_name file then Some file else None
+lone_file _ = None
+
+-- VALUE at the front
+abbrev pub value_at : Reader (List ℕ)
+value_at (Quoted value ∷ rest) = if is_constant value then Some (value, rest) else None
+value_at _ = None
+
+abbrev pub none_after : {A : Type 0} → Option (A × List Token) → Option A
+none_after None = None
+none_after (Some found) = if length found.1 == 0 then Some found.0 else None
+
+-- LIST(VALUE) to the end of the line
+abbrev pub values_of : List Token → Option (List (List ℕ))
+values_of tokens = none_after (list_at value_at tokens)
+
+abbrev pub named_table : Bool → List ℕ → Option (List ℕ) → Option SchemaLine
+named_table master name None = None
+named_table master name (Some file) = Some (says.Table master name file)
+
+abbrev pub table_line : Bool → List Token → Option SchemaLine
+table_line master (Name name ∷ rest) = named_table master name (lone_file rest)
+table_line master _ = None
+
+abbrev pub attr_in : List ℕ → Option (List (List ℕ)) → Option SchemaLine
+attr_in name None = None
+attr_in name (Some values) = Some (says.Attr (record { name = name; domain = Finite values }))
+
+abbrev pub attr_line : List Token → Option SchemaLine
+attr_line (Name name ∷ []) = Some (says.Attr (record { name = name; domain = AnyText }))
+attr_line (Name name ∷ Name word ∷ rest) = if bytes_eq word (codes "in") then attr_in name (values_of rest) else None
+attr_line _ = None
+
+abbrev pub file_line : (List ℕ → SchemaLine) → Option (List ℕ) → Option SchemaLine
+file_line says_file None = None
+file_line says_file (Some file) = Some (says_file file)
+
+-- what the tokens of a line say
+abbrev pub schema_line : List Token → Option SchemaLine
+schema_line (Name word ∷ rest) =
+    if bytes_eq word (codes "table") then table_line false rest
+    else (if bytes_eq word (codes "master") then table_line true rest
+    else (if bytes_eq word (codes "attr") then attr_line rest
+    else (if bytes_eq word (codes "rules") then file_line (λ file. says.Rules file) (lone_file rest)
+    else (if bytes_eq word (codes "script") then file_line (λ file. says.Script file) (lone_file rest)
+    else None))))
+schema_line _ = None
