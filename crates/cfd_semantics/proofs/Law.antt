@@ -1,9 +1,8 @@
 -- The list of a dependency's violations is empty exactly where its rows satisfy it, where `eq` is an equivalence.
-use Rattle.std.proofs.Common.{◌≡◌, ℕ, ◌+◌, ◌⊎◌, ◌↔◌, Bool, true, false, cond, not, ◌&&◌, ◌||◌, List, [], ◌∷◌, ◌++◌, map, filter, Option, None, Some, refl, sym, ap, ◌∙◌, inl, inr, arith}
-use Rattle.std.specs.Option.{option_map, option_map_or}
-use Rattle.std.specs.List.{Contains, list_any, filter_map}
+use Rattle.std.proofs.Common.{◌≡◌, ℕ, ◌+◌, ◌↔◌, Bool, true, false, cond, not, ◌&&◌, List, [], ◌∷◌, map, Option, None, Some, refl, sym, ap, ◌∙◌, inl, inr}
+use Rattle.std.specs.Option.{option_map}
+use Rattle.std.specs.List.{Contains, list_any}
 use Rattle.std.specs.Cmp.{IsEquivalence}
-use Rattle.std.specs.Cmp.Lexicographic.{pointwise}
 use Rattle.std.proofs.lemmas.Cmp.{lists_equiv}
 use Rattle.cfd_semantics.specs.declared.pattern.Pattern.{Pattern}
 use Rattle.cfd_semantics.specs.declared.pattern.Pattern.TheVariants.{Any, Is, In, NotIn}
@@ -12,7 +11,7 @@ use Rattle.cfd_semantics.specs.Pattern.{matches, all_match}
 use Rattle.cfd_semantics.specs.Tuple.{value_at, values_at, same_values}
 use Rattle.cfd_semantics.specs.Violation.{Entry, entry_of, entries, is_single, is_pair, least, partners, least_partner, violation_of, violations, numbered, violations_from, dependency_violations}
 use Rattle.cfd_semantics.specs.Satisfaction.{Satisfies}
-use Rattle.cfd_semantics.proofs.Members.{contains-here, contains-there, contains_nothing, contains_cases, contains-map, contains_from_map, nothing_from_empty, empty_from_nothing, none_pass_from_empty, empty_from_none_pass, append-empty, map-empty, two_from_map}
+use Rattle.cfd_semantics.proofs.Members.{contains-here, contains-there, contains_nothing, contains_cases, contains-map, nothing_from_empty, empty_from_nothing, none_pass_from_empty, empty_from_none_pass, append-empty, map-empty, two_from_map}
 
 -- ---- equal values match the same cells
 
@@ -83,13 +82,15 @@ no_pair s m n p q d h is_s is_m is_n is_p is_q = not_true d (rw (is_s, is_m, is_
 
 -- where nothing is listed, equal X values that match imply equal A values that match
 obeys_from_none : {V : Type 0} {eq : V → V → Bool} (laws : IsEquivalence eq) (t : TableauRow V) (all : List (Entry V)) → violations eq t all ≡ [] → Obeys eq t all
-obeys_from_none {V} {eq} laws t all h = record { imply = λ e other member beside same matched.
-    let none = no_single_no_pair eq t all e (nothing_from_empty (violation_of eq t all) all h e member) in
-    let none_beside = no_single_no_pair eq t all other (nothing_from_empty (violation_of eq t all) all h other beside) in
-    let matched_beside : all_match eq t.x other.x ≡ true = sym (all_match-equal laws t.x e.x other.x same) ∙ matched in
-    let right = no_single (all_match eq t.x e.x) (matches eq t.a e.a) none.0 matched in
-    let right_beside = no_single (all_match eq t.x other.x) (matches eq t.a other.a) none_beside.0 matched_beside in
-    (no_pair _ _ _ _ _ (eq e.a other.a) (none.1 other beside) same matched matched_beside right right_beside, right) }
+obeys_from_none {V} {eq} laws t all h = record {
+  imply = λ e other member beside same matched.
+      let none = no_single_no_pair eq t all e (nothing_from_empty (violation_of eq t all) all h e member) in
+      let none_beside = no_single_no_pair eq t all other (nothing_from_empty (violation_of eq t all) all h other beside) in
+      let matched_beside : all_match eq t.x other.x ≡ true = sym (all_match-equal laws t.x e.x other.x same) ∙ matched in
+      let right = no_single (all_match eq t.x e.x) (matches eq t.a e.a) none.0 matched in
+      let right_beside = no_single (all_match eq t.x other.x) (matches eq t.a other.a) none_beside.0 matched_beside in
+      (no_pair _ _ _ _ _ (eq e.a other.a) (none.1 other beside) same matched matched_beside right right_beside, right);
+}
 
 single_passes : (m a : Bool) → (m ≡ true → a ≡ true) → (m && not a) ≡ false
 single_passes true a h = rw (h refl) refl
@@ -123,8 +124,9 @@ none_of_each eq k [] all h t member = absurd (contains_nothing t member)
 none_of_each eq k (first ∷ rest) all h t member =
     let parts = append-empty (numbered k (violations eq first all)) (violations_from eq (k + 1) rest all) h in
     elim (contains_cases t first rest member) [
-    | inl is ↦ rw (← is) (map-empty _ (violations eq first all) parts.0)
-    | inr later ↦ none_of_each eq (k + 1) rest all parts.1 t later ]
+      | inl is ↦ rw (← is) (map-empty _ (violations eq first all) parts.0)
+      | inr later ↦ none_of_each eq (k + 1) rest all parts.1 t later
+    ]
 
 none_of_all : {V : Type 0} (eq : V → V → Bool) (k : ℕ) (tableau : List (TableauRow V)) (all : List (Entry V)) → ((t : TableauRow V) → Contains tableau t → violations eq t all ≡ []) → violations_from eq k tableau all ≡ []
 none_of_all eq k [] all h = refl
@@ -135,14 +137,17 @@ none_of_all eq k (first ∷ rest) all h =
 
 pub listing_is_empty_where_satisfied : {V : Type 0} {eq : V → V → Bool} (laws : IsEquivalence eq) (missing : V) (x : List ℕ) (a : ℕ) (tableau : List (TableauRow V)) (rows : List (ℕ × List V)) → dependency_violations eq tableau (entries missing x a rows) ≡ [] ↔ Satisfies eq missing x a tableau (map (λ row. row.1) rows)
 listing_is_empty_where_satisfied {V} {eq} laws missing x a tableau rows = (
-    (λ empty t. λ u w member first second same matched.
+  (λ empty t. λ u w member first second same matched.
       let obeys = obeys_from_none laws t (entries missing x a rows) (none_of_each eq 0 tableau (entries missing x a rows) empty t member) in
       two_from_map (λ (row : ℕ × List V). row.1) rows
       (λ u w. same_values eq (values_at missing u x) (values_at missing w x) ≡ true → all_match eq t.x (values_at missing u x) ≡ true → (eq (value_at missing u a) (value_at missing w a) ≡ true) × (matches eq t.a (value_at missing u a) ≡ true))
       (λ row other here there. obeys.imply (entry_of missing x a row) (entry_of missing x a other) (contains-map (entry_of missing x a) rows row here) (contains-map (entry_of missing x a) rows other there))
       u w first second same matched),
-    (λ satisfies. none_of_all eq 0 tableau (entries missing x a rows) (λ t member.
-      none_from_obeys laws t (entries missing x a rows) (record { imply =
-        two_from_map (entry_of missing x a) rows
-        (λ e other. same_values eq e.x other.x ≡ true → all_match eq t.x e.x ≡ true → (eq e.a other.a ≡ true) × (matches eq t.a e.a ≡ true))
-        (λ row other here there. satisfies t row.1 other.1 member (contains-map (λ (row : ℕ × List V). row.1) rows row here) (contains-map (λ (row : ℕ × List V). row.1) rows other there)) }))))
+  (λ satisfies. none_of_all eq 0 tableau (entries missing x a rows) (λ t member.
+      none_from_obeys laws t (entries missing x a rows) (record {
+        imply =
+            two_from_map (entry_of missing x a) rows
+            (λ e other. same_values eq e.x other.x ≡ true → all_match eq t.x e.x ≡ true → (eq e.a other.a ≡ true) × (matches eq t.a e.a ≡ true))
+            (λ row other here there. satisfies t row.1 other.1 member (contains-map (λ (row : ℕ × List V). row.1) rows row here) (contains-map (λ (row : ℕ × List V). row.1) rows other there));
+      }))),
+)

@@ -1,4 +1,5 @@
 pub mod Members
 pub mod Listing
 pub mod Law
+pub mod InclusionLaw
 pub mod Renamed

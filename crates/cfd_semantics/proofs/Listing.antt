@@ -21,7 +21,6 @@ pub least-push : (ns : List ℕ) (n : ℕ) → least (ns ++ n ∷ []) ≡ Some (
 least-push [] n = refl
 least-push (m ∷ ns) n = ap (λ o. Some (option_map_or (min m) o m)) (least-push ns n) ∙ least-both m n (least ns)
 
-
 taken : {V : Type 0} (b : Bool) (before : List (Entry V)) (other : Entry V) → least (map (λ e. e.row) (before ++ cond b (other ∷ []) [])) ≡ cond b (Some (option_map_or (min other.row) (least (map (λ e. e.row) before)) other.row)) (least (map (λ e. e.row) before))
 taken true before other = ap least (map-append (λ e. e.row) before (other ∷ [])) ∙ least-push (map (λ e. e.row) before) other.row
 taken false before other = ap (λ es. least (map (λ e. e.row) es)) (append-nil before)

@@ -1,5 +1,5 @@
 -- Members of a list, and lists that are empty since nothing in them passes.
-use Rattle.std.proofs.Common.{◌≡◌, ℕ, zero, suc, ◌+◌, ◌<◌, ◌⊎◌, Bool, true, false, cond, List, [], ◌∷◌, ◌++◌, map, filter, length, get_or, Option, None, Some, refl, sym, ap, subst, ◌∙◌, inl, inr, arith}
+use Rattle.std.proofs.Common.{◌≡◌, zero, suc, ◌⊎◌, Bool, true, false, cond, List, [], ◌∷◌, ◌++◌, map, filter, Option, None, Some, refl, subst, inl, inr, arith}
 use Rattle.std.specs.List.{Contains, filter_map, cons_option}
 
 pub contains-here : {X : Type 0} (x : X) (xs : List X) → Contains (x ∷ xs) x
@@ -20,14 +20,16 @@ pub contains-map : {X Y : Type 0} (f : X → Y) (xs : List X) (x : X) → Contai
 contains-map f [] x h = absurd (contains_nothing x h)
 contains-map f (y ∷ ys) x h = elim (contains_cases x y ys h) [
   | inl is ↦ rw (← is) (contains-here (f y) (map f ys))
-  | inr later ↦ contains-there (f x) (f y) (map f ys) (contains-map f ys x later) ]
+  | inr later ↦ contains-there (f x) (f y) (map f ys) (contains-map f ys x later)
+]
 
 -- each member of a map's list comes from a member
 pub contains_from_map : {X Y : Type 0} (f : X → Y) (xs : List X) (y : Y) → Contains (map f xs) y → (x : X) × Contains xs x × (f x ≡ y)
 contains_from_map f [] y h = absurd (contains_nothing y h)
 contains_from_map f (x ∷ xs) y h = elim (contains_cases y (f x) (map f xs) h) [
   | inl is ↦ (x, contains-here x xs, is)
-  | inr later ↦ let found = contains_from_map f xs y later in (found.0, contains-there found.0 x xs found.1, found.2) ]
+  | inr later ↦ let found = contains_from_map f xs y later in (found.0, contains-there found.0 x xs found.1, found.2)
+]
 
 cons_option-empty : {X : Type 0} (o : Option X) (xs : List X) → cons_option o xs ≡ [] → (o ≡ None) × (xs ≡ [])
 cons_option-empty None xs h = (refl, h)
@@ -39,8 +41,9 @@ nothing_from_empty h [] empty x member = absurd (contains_nothing x member)
 nothing_from_empty h (y ∷ ys) empty x member =
     let parts = cons_option-empty (h y) (filter_map h ys) empty in
     elim (contains_cases x y ys member) [
-    | inl is ↦ rw (← is) parts.0
-    | inr later ↦ nothing_from_empty h ys parts.1 x later ]
+      | inl is ↦ rw (← is) parts.0
+      | inr later ↦ nothing_from_empty h ys parts.1 x later
+    ]
 
 pub empty_from_nothing : {X Y : Type 0} (h : X → Option Y) (xs : List X) → ((x : X) → Contains xs x → h x ≡ None) → filter_map h xs ≡ []
 empty_from_nothing h [] nothing = refl
@@ -53,8 +56,9 @@ none_pass_from_empty p [] empty x member = absurd (contains_nothing x member)
 none_pass_from_empty p (y ∷ ys) empty x member =
     let parts = cond-empty (p y) y (filter p ys) empty in
     elim (contains_cases x y ys member) [
-    | inl is ↦ rw (← is) parts.0
-    | inr later ↦ none_pass_from_empty p ys parts.1 x later ]
+      | inl is ↦ rw (← is) parts.0
+      | inr later ↦ none_pass_from_empty p ys parts.1 x later
+    ]
   where
     cond-empty : {X : Type 0} (b : Bool) (y : X) (ys : List X) → cond b (y ∷ ys) ys ≡ [] → (b ≡ false) × (ys ≡ [])
     cond-empty true y ys h = absurd (cc)

@@ -1,8 +1,6 @@
 -- A map that keeps the known values apart changes no test and no violation.
-use Rattle.std.proofs.Common.{◌≡◌, ℕ, ◌+◌, ◌<◌, Bool, true, false, cond, not, ◌&&◌, ◌||◌, List, [], ◌∷◌, ◌++◌, map, filter, length, get_or, Option, None, Some, refl, sym, ap, ◌∙◌, arith}
-use Rattle.std.specs.Option.{option_map}
-use Rattle.std.specs.List.{All, list_any, filter_map, cons_option}
-use Rattle.std.specs.Cmp.Lexicographic.{pointwise}
+use Rattle.std.proofs.Common.{◌≡◌, ℕ, ◌+◌, ◌<◌, Bool, true, false, cond, not, List, [], ◌∷◌, map, filter, length, get_or, Option, refl, ap}
+use Rattle.std.specs.List.{All, list_any, filter_map}
 use Rattle.std.proofs.lemmas.List.{get_or-map}
 use Rattle.std.proofs.lemmas.List.Elements.{All-head, All-tail, All-nil, All-cons}
 use Rattle.cfd_semantics.specs.declared.pattern.Pattern.{Pattern}
@@ -10,7 +8,7 @@ use Rattle.cfd_semantics.specs.declared.pattern.Pattern.TheVariants.{Any, Is, In
 use Rattle.cfd_semantics.specs.declared.pattern.TableauRow.{TableauRow}
 use Rattle.cfd_semantics.specs.Pattern.{matches, all_match}
 use Rattle.cfd_semantics.specs.Tuple.{value_at, values_at, same_values, HasAll, HasSides}
-use Rattle.cfd_semantics.specs.Violation.{Entry, entry_of, entries, is_single, is_pair, least, partners, least_partner, violation_of, violations, numbered, violations_from, dependency_violations}
+use Rattle.cfd_semantics.specs.Violation.{Entry, entry_of, entries, is_single, is_pair, least, least_partner, violation_of, violations, violations_from, dependency_violations}
 use Rattle.cfd_semantics.specs.Renaming.{KeepsApart, renamed_cell, renamed_tableau_row, renamed_entry, renamed_row, HasKnownCell, HasKnownCells, HasKnownValues}
 
 any-renamed : {V W : Type 0} {Known : V → Type 0} {name : V → W} {eq : V → V → Bool} {named_eq : W → W → Bool} (apart : KeepsApart Known name eq named_eq) (members : List V) (value : V) → All Known members → Known value → list_any (λ member. named_eq member (name value)) (map name members) ≡ list_any (λ member. eq member value) members

@@ -23,3 +23,8 @@ HasAll x tuple = All (λ attribute. attribute < length tuple) x
 pub record HasSides {V : Type 0} (x : List ℕ) (a : ℕ) (tuple : List V) : Type 0 where
   pub left : HasAll x tuple
   pub right : a < length tuple
+
+-- The tuple has the attributes of one side of an inclusion.
+pub record HasKeyAndPattern {V : Type 0} (key pattern : List ℕ) (tuple : List V) : Type 0 where
+  pub has_key : HasAll key tuple
+  pub has_pattern : HasAll pattern tuple

@@ -41,7 +41,11 @@ pub fn dependency_violations<V: Eq>(
     Ok(all)
 }
 
-fn push_numbered(all: &mut List<Violation>, tableau_row: usize, found: &[(u64, Option<u64>)]) -> Result<(), AllocError>
+fn push_numbered(
+    all: &mut List<Violation>,
+    tableau_row: usize,
+    found: &[(u64, Option<u64>)],
+) -> Result<(), AllocError>
     ensures { OnOk result (all.new ≡ all.old ++ numbered tableau_row found.now) }
 {
     for (row, partner) in found {
@@ -118,7 +122,7 @@ fn is_pair<V: PartialEq>(
     let cells = tableau_row.x.as_slice();
     let tuple = row.1.as_slice();
     let beside = other.1.as_slice();
-    same_at(x, tuple, beside)
+    same_at(x, tuple, x, beside)
         && matches_at(cells, x, tuple)
         && matches_at(cells, x, beside)
         && tableau_row.a.matches(&tuple[a])

@@ -26,15 +26,35 @@ pub(crate) fn matches_at<V: PartialEq>(cells: &[Pattern<V>], x: &[usize], tuple:
     true
 }
 
-/// Whether two tuples have the same values at the attributes.
-pub(crate) fn same_at<V: PartialEq>(x: &[usize], tuple: &[V], other: &[V]) -> bool
+/// Whether one tuple's values at some attributes are the other's at others.
+pub(crate) fn same_at<V: PartialEq>(x: &[usize], tuple: &[V], y: &[usize], other: &[V]) -> bool
     requires in_tuple { HasAll x.now tuple.now }
-    requires in_other { HasAll x.now other.now }
+    requires in_other { HasAll y.now other.now }
     ensures { (missing : V)
-        → result ≡ same_values V.eq (values_at missing tuple.now x.now) (values_at missing other.now x.now) }
+        → result ≡ same_values V.eq (values_at missing tuple.now x.now) (values_at missing other.now y.now) }
 {
-    for attribute in x {
-        if tuple[*attribute] != other[*attribute] {
+    if x.len() != y.len() {
+        return false;
+    }
+    for (place, attribute) in x.iter().enumerate() {
+        if tuple[*attribute] != other[y[place]] {
+            return false;
+        }
+    }
+    true
+}
+
+/// Whether the tuple has these constants at the attributes.
+pub(crate) fn has_at<V: PartialEq>(constants: &[V], x: &[usize], tuple: &[V]) -> bool
+    requires { HasAll x.now tuple.now }
+    ensures { (missing : V)
+        → result ≡ same_values V.eq constants.now (values_at missing tuple.now x.now) }
+{
+    if constants.len() != x.len() {
+        return false;
+    }
+    for (place, attribute) in x.iter().enumerate() {
+        if constants[place] != tuple[*attribute] {
             return false;
         }
     }

@@ -1,6 +1,6 @@
-use Rattle.std.proofs.Common.{◌≡◌, ◌+◌, Some, cond, map, take, ap, ◌∙◌, sym, arith}
+use Rattle.std.proofs.Common.{arith}
 use Rattle.std.proofs.lemmas.List.{take_all}
-use Rattle.cfd_semantics.specs.Violation.{entry_of, entries, is_pair, least_partner}
+use Rattle.cfd_semantics.specs.Violation.{entry_of}
 use Rattle.cfd_semantics.proofs.Listing.{least_partner-more}
 use Rattle.cfd_semantics.proofs.scan.least_partner.Goals as goal
 use Rattle.cfd_semantics.proofs.scan.least_partner.Goals.{then-is_pair, else-is_pair}

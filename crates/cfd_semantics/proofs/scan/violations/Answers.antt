@@ -1,7 +1,6 @@
-use Rattle.std.proofs.Common.{◌≡◌, ◌+◌, cond, map, take, ap, ◌∙◌, sym, arith}
+use Rattle.std.proofs.Common.{arith}
 use Rattle.std.proofs.lemmas.List.{take_all, append-nil}
-use Rattle.std.proofs.lemmas.List.Elements.{filter_map-append}
-use Rattle.cfd_semantics.specs.Violation.{entry_of, entries, violation_of}
+use Rattle.cfd_semantics.specs.Violation.{entries, violation_of}
 use Rattle.cfd_semantics.proofs.Listing.{listed-more}
 use Rattle.cfd_semantics.proofs.scan.violations.Goals as goal
 use Rattle.cfd_semantics.proofs.scan.violations.Goals.{in-Some+in_ok-push, in_default}

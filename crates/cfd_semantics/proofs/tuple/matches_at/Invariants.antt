@@ -1,4 +1,4 @@
-use Rattle.std.proofs.Common.{◌≡◌, drop, length}
+use Rattle.std.proofs.Common.{◌≡◌, drop}
 use Rattle.cfd_semantics.specs.Pattern.{all_match}
 use Rattle.cfd_semantics.specs.Tuple.{values_at}
 use Rattle.cfd_semantics.proofs.tuple.matches_at.Given as goal

@@ -1,0 +1,9 @@
+//! The violations of a bench: which rows break which dependency, as a list and as lines of text. The list is the one
+//! of the definition `listing`, and it is empty exactly where the rows of each table satisfy all its dependencies.
+#![tactic(auto)]
+
+mod line;
+mod listing;
+
+pub use line::{Line, line_text, push_line};
+pub use listing::list;
