@@ -1,0 +1,60 @@
+//! The commands of a script, and why a script or its answers end early.
+
+ghost use Rattle.std.specs.Prelude.{◌≡◌};
+ghost use Rattle.session.specs.declared.command.ScriptFault.TheVariants as script_fault;
+ghost use Rattle.session.specs.declared.command.ServeFault.TheVariants as serve_fault;
+
+use bench_core::Edit;
+use schema_core::Limit;
+use std::alloc::AllocError;
+use thiserror::Error;
+
+/// One line of a script.
+#[derive(Debug, Drop)]
+pub enum Command {
+    Edit(Edit),
+    /// Every violation that the rows have now.
+    List,
+}
+
+/// What is wrong with a line of a script.
+#[derive(Clone, Copy, Debug, PartialEq, Eq)]
+pub enum ScriptCause {
+    NotUtf8,
+    BadLine,
+    TooMany(Limit),
+}
+
+/// Why a script is refused.
+#[derive(Debug, Drop, Error, PartialEq, Eq)]
+pub enum ScriptFault {
+    #[error("line {line}: {cause:?}")]
+    At { line: usize, cause: ScriptCause },
+    #[error("out of memory")]
+    Memory,
+}
+
+/// Why the answers end before the last command.
+#[derive(Debug, Drop, Error, PartialEq, Eq)]
+pub enum ServeFault {
+    #[error("a reply could not be written")]
+    WriteFault,
+    #[error("out of memory")]
+    Memory,
+}
+
+impl From<AllocError> for ScriptFault {
+    ghost from_gives = { λ _ e. e ≡ script_fault.Memory };
+
+    fn from(_e: AllocError) -> ScriptFault {
+        ScriptFault::Memory
+    }
+}
+
+impl From<AllocError> for ServeFault {
+    ghost from_gives = { λ _ e. e ≡ serve_fault.Memory };
+
+    fn from(_e: AllocError) -> ServeFault {
+        ServeFault::Memory
+    }
+}

@@ -1,0 +1,81 @@
+//! The texts of replies, each appended to a buffer.
+
+ghost use Rattle.std.specs.Prelude.{◌≡◌, ◌++◌, length, decimal, codes, OnOk};
+ghost use Rattle.std.specs.List.{flat_map};
+ghost use Rattle.violation_report.specs.Listing.{listing};
+ghost use Rattle.violation_report.specs.Text.{line_text};
+ghost use Rattle.session.specs.Replies.{done_text, fault_text, refused_text, list_text, listed_text};
+
+use bench_core::{Applied, Bench, Edit, EditFault};
+use std::alloc::{AllocError, Global};
+use violation_report::{list, push_line};
+
+fn push_number(alloc: Global, out: &mut Vec<u8>, number: u64) -> Result<(), AllocError>
+    ensures { OnOk result (out.new.items ≡ out.old.items ++ decimal number) }
+{
+    let digits = number.to_string(alloc)?;
+    out.extend_from_slice(digits.as_bytes())
+}
+
+/// Tells an edit that was done.
+pub fn push_done(
+    alloc: Global,
+    out: &mut Vec<u8>,
+    edit: &Edit,
+    applied: Applied,
+) -> Result<(), AllocError>
+    ensures { OnOk result (out.new.items ≡ out.old.items ++ done_text edit.now applied) }
+{
+    let Edit::Insert { table, .. } = edit;
+    let Applied::Inserted(row) = applied;
+    out.extend_from_slice(b"inserted ")?;
+    out.extend_from_slice(table.as_str().as_bytes())?;
+    out.extend_from_slice(b" ")?;
+    push_number(alloc, out, row)?;
+    out.extend_from_slice(b"\n")
+}
+
+fn push_fault(out: &mut Vec<u8>, fault: &EditFault) -> Result<(), AllocError>
+    ensures { OnOk result (out.new.items ≡ out.old.items ++ fault_text fault.now) }
+{
+    match fault {
+        EditFault::UnknownTable => out.extend_from_slice(b"UnknownTable"),
+        EditFault::WrongWidth => out.extend_from_slice(b"WrongWidth"),
+        EditFault::TextTooLong => out.extend_from_slice(b"TextTooLong"),
+        EditFault::NotInDomain(attr) => {
+            out.extend_from_slice(b"NotInDomain ")?;
+            out.extend_from_slice(attr.as_str().as_bytes())
+        }
+        EditFault::RowsFull => out.extend_from_slice(b"RowsFull"),
+        EditFault::IdsSpent => out.extend_from_slice(b"IdsSpent"),
+        EditFault::Memory => out.extend_from_slice(b"Memory"),
+    }
+}
+
+/// Tells an edit that was refused.
+pub fn push_refused(out: &mut Vec<u8>, fault: &EditFault) -> Result<(), AllocError>
+    ensures { OnOk result (out.new.items ≡ out.old.items ++ refused_text fault.now) }
+{
+    out.extend_from_slice(b"refused ")?;
+    push_fault(out, fault)?;
+    out.extend_from_slice(b"\n")
+}
+
+fn push_listed(alloc: Global, out: &mut Vec<u8>, count: usize) -> Result<(), AllocError>
+    ensures { OnOk result (out.new.items ≡ out.old.items ++ listed_text count) }
+{
+    out.extend_from_slice(b"listed ")?;
+    push_number(alloc, out, count as u64)?;
+    out.extend_from_slice(b"\n")
+}
+
+/// Tells the list of the bench.
+pub fn push_list(alloc: Global, out: &mut Vec<u8>, bench: &Bench) -> Result<(), AllocError>
+    ensures { OnOk result (out.new.items ≡ out.old.items ++ list_text bench.now) }
+{
+    let lines = list(alloc, bench)?;
+    for line in lines.as_slice() {
+        push_line(out, bench.rules(), line)?;
+    }
+    push_listed(alloc, out, lines.as_slice().len())
+}
