@@ -14,3 +14,6 @@ pub use book::RuleBook;
 pub use decl::{Cell, CfdDecl, CfdRow, Decl};
 pub use dep::{Dep, DepRow};
 pub use fault::{AddFault, RuleFault};
+
+#[cfg(test)]
+mod tests;

@@ -3,4 +3,13 @@
 #![tactic(auto)]
 
 mod declarations;
+pub mod fault;
+mod file;
+mod lines;
 mod tokens;
+
+pub use fault::{ParseCause, ParseFault};
+pub use file::parse_rules;
+
+#[cfg(test)]
+mod tests;
