@@ -1,14 +1,14 @@
 //! The texts of replies, each appended to a buffer.
 
-ghost use Rattle.std.specs.Prelude.{◌≡◌, ◌++◌, length, decimal, codes, OnOk};
+ghost use Rattle.std.specs.Prelude.{◌≡◌, ◌++◌, decimal, All, OnOk};
 ghost use Rattle.std.specs.List.{flat_map};
-ghost use Rattle.violation_report.specs.Listing.{listing};
-ghost use Rattle.violation_report.specs.Text.{line_text};
+ghost use Rattle.violation_report.specs.Text.{IsLineOf, line_text};
 ghost use Rattle.session.specs.Replies.{done_text, fault_text, refused_text, list_text, listed_text};
 
 use bench_core::{Applied, Bench, Edit, EditFault};
+use rule_model::RuleBook;
 use std::alloc::{AllocError, Global};
-use violation_report::{list, push_line};
+use violation_report::{Line, list, push_line};
 
 fn push_number(alloc: Global, out: &mut Vec<u8>, number: u64) -> Result<(), AllocError>
     ensures { OnOk result (out.new.items ≡ out.old.items ++ decimal number) }
@@ -69,13 +69,21 @@ fn push_listed(alloc: Global, out: &mut Vec<u8>, count: usize) -> Result<(), All
     out.extend_from_slice(b"\n")
 }
 
+fn push_lines(rules: &RuleBook, lines: &[Line], out: &mut Vec<u8>) -> Result<(), AllocError>
+    requires { All (IsLineOf rules.now) lines.now }
+    ensures { OnOk result (out.new.items ≡ out.old.items ++ flat_map (line_text rules.now) lines.now) }
+{
+    for line in lines {
+        push_line(rules, line, out)?;
+    }
+    Ok(())
+}
+
 /// Tells the list of the bench.
 pub fn push_list(alloc: Global, out: &mut Vec<u8>, bench: &Bench) -> Result<(), AllocError>
     ensures { OnOk result (out.new.items ≡ out.old.items ++ list_text bench.now) }
 {
     let lines = list(alloc, bench)?;
-    for line in lines.as_slice() {
-        push_line(out, bench.rules(), line)?;
-    }
+    push_lines(bench.rules(), lines.as_slice(), out)?;
     push_listed(alloc, out, lines.as_slice().len())
 }

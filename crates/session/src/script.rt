@@ -4,7 +4,9 @@ ghost use Rattle.std.specs.Prelude.{◌≡◌, ◌+◌, ◌<◌, ◌≤◌, leng
 
 use crate::command::{Command, ScriptCause, ScriptFault};
 use bench_core::Edit;
-use schema_core::{Limit, Limits, LineTokens, List, Mark, Text, Texts, Token, line_end, read_tokens};
+use schema_core::{
+    Limit, Limits, LineTokens, List, Mark, Text, Texts, Token, line_end, read_tokens,
+};
 use std::alloc::{AllocError, Global};
 
 /// Why a line can't be added.
