@@ -37,7 +37,7 @@ admitted_if_true (Finite values) text e = member_if_any values text e
 inside_if_none : (domain : Domain) (name : List ℕ) (cell : Pattern (List ℕ)) → outside_in domain name cell ≡ None → AllByRecursion (Admits domain) (constants_of cell)
 inside_if_none domain name cell e =
     each_weaker (λ value. not (admits domain value) ≡ false) (Admits domain) (λ value inside. admitted_if_true domain value (not_false (admits domain value) inside)) (constants_of cell)
-      (none_found (λ value. not (admits domain value)) (constants_of cell) (map_none _ _ e))
+    (none_found (λ value. not (admits domain value)) (constants_of cell) (map_none _ _ e))
 
 both_each : (domain : Domain) (values : List (List ℕ)) → AllByRecursion IsConstant values → AllByRecursion (Admits domain) values → AllByRecursion (IsConstantOf domain) values
 both_each domain [] constants inside = tt
@@ -77,5 +77,5 @@ pub wide_if_none : (cfd : CfdDecl) → width_mismatch cfd ≡ None → AllByRecu
 wide_if_none cfd e =
     let test : CfdRow → Bool = λ row. nat_eq (length row.x) (length cfd.x) && nat_eq (length row.y) (length cfd.y) in
     each_weaker (λ row. test row ≡ true) (IsAsWide cfd)
-      (λ row fits. let both = both_true (nat_eq (length row.x) (length cfd.x)) (nat_eq (length row.y) (length cfd.y)) fits in record { x = eqb-true _ _ both.0; y = eqb-true _ _ both.1 })
-      cfd.rows (all_pass test cfd.rows (none_if _ _ e))
+    (λ row fits. let both = both_true (nat_eq (length row.x) (length cfd.x)) (nat_eq (length row.y) (length cfd.y)) fits in record { x = eqb-true _ _ both.0; y = eqb-true _ _ both.1 })
+    cfd.rows (all_pass test cfd.rows (none_if _ _ e))

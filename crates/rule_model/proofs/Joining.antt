@@ -131,7 +131,7 @@ deps_valid schema limits earlier (Cfd cfd) e written k d lt =
     let within : k < length y = subst (λ (n : ℕ). k < n) (length-map-range_with_len (dep_at cfd table x y) 0 (length y)) lt in
     let in_right : k < length cfd.y = omega (arith, length-map cfd.y (attr_number attrs)) in
     subst (IsValidDep schema) (sym (get_or-map-range_with_len (dep_at cfd table x y) 0 (length y) k k d within (omega arith)))
-      (dep_valid schema cfd k in_right (named_if_none schema earlier cfd a.0) b.0 written)
+    (dep_valid schema cfd k in_right (named_if_none schema earlier cfd a.0) b.0 written)
 
 -- the dependencies over the numbers of a declaration's names are those that it stands for
 pub deps_of_numbers : (schema : Schema) (cfd : CfdDecl) (table : ℕ) (x y : List ℕ) → AreNumbersOf schema cfd table x y → deps_at cfd table x y ≡ deps_of schema (Cfd cfd)
@@ -154,7 +154,7 @@ length-deps_of schema (Cfd cfd) =
 length-flat_deps : (schema : Schema) (decls : List Decl) → length (flat_map (deps_of schema) decls) ≡ sum_by dep_count decls
 length-flat_deps schema decls =
     is_sum_by (λ (ds : List Decl). length (flat_map (deps_of schema) ds)) dep_count refl
-      (λ d ds. length-append (deps_of schema d) (flat_map (deps_of schema) ds) ∙ ap (λ (n : ℕ). n + length (flat_map (deps_of schema) ds)) (length-deps_of schema d)) decls
+    (λ d ds. length-append (deps_of schema d) (flat_map (deps_of schema) ds) ∙ ap (λ (n : ℕ). n + length (flat_map (deps_of schema) ds)) (length-deps_of schema d)) decls
 
 pub length-book_deps : (book : Book) → length (book_deps book) ≡ sum_by dep_count book.decls
 unfolding book_deps
@@ -188,11 +188,11 @@ faultless_with book decl faultless e = record {
   each = λ place d lt. elim (cases_lt place (length book.decls)) [
     | inl before ↦
         subst (λ (x : Decl). fault_of book.schema book.limits (take place (book.decls ++ decl ∷ [])) x ≡ None) (sym (get_or_append_left book.decls (decl ∷ []) d place before))
-          (subst (λ (earlier : List Decl). fault_of book.schema book.limits earlier (get_or book.decls place d) ≡ None) (sym (take-append-le place book.decls (decl ∷ []) (omega arith))) (faultless.each place d before))
+        (subst (λ (earlier : List Decl). fault_of book.schema book.limits earlier (get_or book.decls place d) ≡ None) (sym (take-append-le place book.decls (decl ∷ []) (omega arith))) (faultless.each place d before))
     | inr from ↦
         let here : length book.decls ≡ place = omega (arith, length-append book.decls (decl ∷ [])) in
         subst (λ (x : Decl). fault_of book.schema book.limits (take place (book.decls ++ decl ∷ [])) x ≡ None) (sym (get_or_at book.decls decl [] d place here))
-          (subst (λ (earlier : List Decl). fault_of book.schema book.limits earlier decl ≡ None) (sym (take_at book.decls (decl ∷ []) place here)) e)
+        (subst (λ (earlier : List Decl). fault_of book.schema book.limits earlier decl ≡ None) (sym (take_at book.decls (decl ∷ []) place here)) e)
   ];
 }
 

@@ -25,7 +25,7 @@ known_at : (attrs : List Attr) (name : List ℕ) (o : Option ℕ) → place_of a
 known_at attrs name None e some = absurd cc
 known_at attrs name (Some k) e some =
     let found : (d : Attr) → (k < length attrs) × (bytes_eq (get_or attrs k d).name name ≡ true) × ((i : ℕ) → i < k → bytes_eq (get_or attrs i d).name name ≡ false)
-          = λ d. position-Some (λ (a : Attr). bytes_eq a.name name) attrs k d e in
+    = λ d. position-Some (λ (a : Attr). bytes_eq a.name name) attrs k d e in
     let nowhere : Attr = record { name = []; domain = AnyText } in
     ((found nowhere).0, λ d. (bytes_eq-Decides (get_or attrs k d).name name).0 (found d).1)
 
@@ -53,5 +53,5 @@ numbers_distinct attrs names known distinct i j d lt within same =
     let each = All-from_recursion (IsKnown attrs) names known in
     let nowhere : Attr = record { name = []; domain = AnyText } in
     let names_same : get_or names i [] ≡ get_or names j [] =
-          sym ((each i [] i_in).named nowhere) ∙ ap (λ n. (get_or attrs n nowhere).name) numbers_same ∙ (each j [] j_in).named nowhere in
+    sym ((each i [] i_in).named nowhere) ∙ ap (λ n. (get_or attrs n nowhere).name) numbers_same ∙ (each j [] j_in).named nowhere in
     distinct i j [] lt j_in names_same

@@ -33,7 +33,7 @@ book_fault book decl = fault_of book.schema book.limits book.decls decl
 -- each declaration has no fault over those before it
 pub record AreFaultless (book : Book) : Type 0 where
   pub each : (place : ℕ) (decl : Decl) → place < length book.decls
-    → fault_of book.schema book.limits (take place book.decls) (slice_index_or book.decls place decl) ≡ None
+      → fault_of book.schema book.limits (take place book.decls) (slice_index_or book.decls place decl) ≡ None
 
 -- The schema and the limits are valid, each declaration could be written and has no fault over those before it, each
 -- dependency is valid over the schema, and the counts are within the limits.

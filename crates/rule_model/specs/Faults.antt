@@ -100,13 +100,13 @@ abbrev pub fault_in_names : Schema → List Decl → CfdDecl → Option RuleFaul
 fault_in_names schema earlier cfd =
     let attrs = attrs_at schema (table_number schema cfd.table) in
     first_of (
-      duplicate_rule earlier cfd.name
-      ∷ unknown_table schema cfd.table
-      ∷ unknown_attr attrs cfd.x
-      ∷ unknown_attr attrs cfd.y
-      ∷ repeated_attr cfd.x
-      ∷ repeated_attr cfd.y
-      ∷ []
+    duplicate_rule earlier cfd.name
+    ∷ unknown_table schema cfd.table
+    ∷ unknown_attr attrs cfd.x
+    ∷ unknown_attr attrs cfd.y
+    ∷ repeated_attr cfd.x
+    ∷ repeated_attr cfd.y
+    ∷ []
     )
 
 -- in the tableau rows
@@ -117,18 +117,18 @@ fault_in_rows attrs cfd = first_of (width_mismatch cfd ∷ outside_domain attrs 
 abbrev pub fault_in_counts : Limits → ℕ → ℕ → CfdDecl → Option RuleFault
 fault_in_counts limits deps tableau_rows cfd =
     first_of (
-      too_many Deps limits.deps (deps + length cfd.y)
-      ∷ too_many TableauRows limits.tableau_rows (tableau_rows + length cfd.rows)
-      ∷ []
+    too_many Deps limits.deps (deps + length cfd.y)
+    ∷ too_many TableauRows limits.tableau_rows (tableau_rows + length cfd.rows)
+    ∷ []
     )
 
 abbrev pub fault_of_cfd : Schema → Limits → List Decl → CfdDecl → Option RuleFault
 fault_of_cfd schema limits earlier cfd =
     first_of (
-      fault_in_names schema earlier cfd
-      ∷ fault_in_rows (attrs_at schema (table_number schema cfd.table)) cfd
-      ∷ fault_in_counts limits (sum_by dep_count earlier) (sum_by row_count earlier) cfd
-      ∷ []
+    fault_in_names schema earlier cfd
+    ∷ fault_in_rows (attrs_at schema (table_number schema cfd.table)) cfd
+    ∷ fault_in_counts limits (sum_by dep_count earlier) (sum_by row_count earlier) cfd
+    ∷ []
     )
 
 -- the first fault of a declaration, over the schema, the limits and the declarations before it

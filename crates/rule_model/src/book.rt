@@ -156,7 +156,15 @@ fn join(
 {
     let before = deps.as_slice().len();
     let Decl::Cfd(cfd) = &decl;
-    let appended = append(alloc, schema, limits, decls.as_slice(), deps, tableau_rows, cfd);
+    let appended = append(
+        alloc,
+        schema,
+        limits,
+        decls.as_slice(),
+        deps,
+        tableau_rows,
+        cfd,
+    );
     if let Err(fault) = appended {
         deps.truncate(before);
         return Err(fault);

@@ -9,7 +9,7 @@ ghost use Rattle.rule_model.specs.Declarations.{name_of, constants_of, cells_of,
 ghost use Rattle.rule_model.specs.Dependencies.{table_number, attrs_at, attr_number, domain_at, AreNumbersOf};
 ghost use Rattle.rule_model.specs.Faults.{Finds, first_in, first_of, first_repeated, fault_in_names, fault_in_rows, fault_in_counts, too_many, duplicate_rule, unknown_table, unknown_attr, repeated_attr, width_mismatch, outside_in, outside_in_cell, outside_domain, repeated_in_cell, repeated_constant};
 
-use crate::decl::{CfdDecl, CfdRow, Cell, Decl};
+use crate::decl::{Cell, CfdDecl, CfdRow, Decl};
 use crate::fault::{AddFault, RuleFault};
 use cfd_semantics::Pattern;
 use schema_core::{Attr, Domain, Limit, Limits, List, Schema, Table, Text};
@@ -53,11 +53,7 @@ pub fn table_at(schema: &Schema, number: usize) -> &Table
 }
 
 /// The numbers of the attributes of those names.
-fn numbers_of_attrs(
-    alloc: Global,
-    table: &Table,
-    names: &[Text],
-) -> Result<List<usize>, AddFault>
+fn numbers_of_attrs(alloc: Global, table: &Table, names: &[Text]) -> Result<List<usize>, AddFault>
     ensures test { Finds result (unknown_attr table.now.attrs names.now) }
     ensures numbers { IfOk result (λ numbers. numbers ≡ map (attr_number table.now.attrs) names.now) }
     ensures within { IfOk result (λ numbers. All (λ n. n < length table.now.attrs) numbers) }
@@ -97,8 +93,7 @@ fn names_are_distinct(names: &[Text]) -> Result<(), AddFault>
 fn all_rows_fit(rows: &[CfdRow], left: usize, right: usize) -> bool
     ensures { result ≡ list_all (λ row. length row.x == left && length row.y == right) rows.now }
 {
-    rows.iter()
-        .all(|row| row.x.as_slice().len() == left && row.y.as_slice().len() == right)
+    rows.iter().all(|row| row.x.as_slice().len() == left && row.y.as_slice().len() == right)
 }
 
 /// Each tableau row is as wide as the lists of attributes.

@@ -98,8 +98,8 @@ pub file_fails : (e : ParseFault) (schema : Schema) (limits : Limits) (decls : L
     → Fails e (joined schema limits decls (head, rows_in lines)) → all_joined schema limits decls (groups (head ∷ lines)) ≡ total → Fails e total
 file_fails e schema limits decls head lines total told so_far =
     same_fails e (joined schema limits decls (head, rows_in lines) >>= λ more. all_joined schema limits more (groups (after_rows lines))) total
-      (sym so_far ∙ ap (all_joined schema limits decls) (groups-cons head [] lines))
-      (fails_then e (joined schema limits decls (head, rows_in lines)) (λ more. all_joined schema limits more (groups (after_rows lines))) told)
+    (sym so_far ∙ ap (all_joined schema limits decls) (groups-cons head [] lines))
+    (fails_then e (joined schema limits decls (head, rows_in lines)) (λ more. all_joined schema limits more (groups (after_rows lines))) told)
 
 pub file_goes_on : (schema : Schema) (limits : Limits) (decls more : List Decl) (head : Line) (lines : List Line) (total : Read (List Decl))
     → joined schema limits decls (head, rows_in lines) ≡ Ok more → all_joined schema limits decls (groups (head ∷ lines)) ≡ total → all_joined schema limits more (groups (after_rows lines)) ≡ total
@@ -120,11 +120,12 @@ pub file_step : (schema : Schema) (limits : Limits) (book new : Book) (head : Li
     → all_joined schema limits book.decls (groups (head ∷ lines)) ≡ total → book.schema ≡ schema → book.limits ≡ limits
     → joined book.schema book.limits book.decls (head, rows_in lines) ≡ Ok new.decls → (new.schema ≡ book.schema) × (new.limits ≡ book.limits) → next ≡ after_rows lines
     → (all_joined schema limits new.decls (groups next) ≡ total) × (new.schema ≡ schema) × (new.limits ≡ limits)
-file_step schema limits book new head lines next total so_far schema-is limits-is read same next-is =
-    (ap (λ (ls : List Line). all_joined schema limits new.decls (groups ls)) next-is
-       ∙ file_goes_on schema limits book.decls new.decls head lines total (same_joined schema limits book (head, rows_in lines) schema-is limits-is ∙ read) so_far,
-     same.0 ∙ schema-is,
-     same.1 ∙ limits-is)
+file_step schema limits book new head lines next total so_far schema-is limits-is read same next-is = (
+  ap (λ (ls : List Line). all_joined schema limits new.decls (groups ls)) next-is
+      ∙ file_goes_on schema limits book.decls new.decls head lines total (same_joined schema limits book (head, rows_in lines) schema-is limits-is ∙ read) so_far,
+  same.0 ∙ schema-is,
+  same.1 ∙ limits-is,
+)
 
 -- one that does not
 pub file_stops : (e : ParseFault) (schema : Schema) (limits : Limits) (book : Book) (head : Line) (lines : List Line) (total : Read (List Decl))
@@ -132,7 +133,7 @@ pub file_stops : (e : ParseFault) (schema : Schema) (limits : Limits) (book : Bo
     → Fails e (joined book.schema book.limits book.decls (head, rows_in lines)) → Fails e total
 file_stops e schema limits book head lines total so_far schema-is limits-is told =
     file_fails e schema limits book.decls head lines total
-      (same_fails e (joined book.schema book.limits book.decls (head, rows_in lines)) (joined schema limits book.decls (head, rows_in lines)) (same_joined schema limits book (head, rows_in lines) schema-is limits-is) told) so_far
+    (same_fails e (joined book.schema book.limits book.decls (head, rows_in lines)) (joined schema limits book.decls (head, rows_in lines)) (same_joined schema limits book (head, rows_in lines) schema-is limits-is) told) so_far
 
 pub two_some : {X : Type 0} (o : Option X) (P Q R : X → Type 0) → IfSome o P → IfSome o Q → ((x : X) → P x → Q x → R x) → IfSome o R
 two_some None P Q R p q f = tt

@@ -42,7 +42,7 @@ pub row_read : (front : List CfdRow) (line : Line) (lines : List Line) (row : Cf
     → with_rows_before front (rows_of (rows_in (line ∷ lines))) ≡ total → with_rows_before (front ++ row ∷ []) (rows_of (rows_in lines)) ≡ total
 row_read front line lines row total is read so_far =
     let one : rows_of (rows_in (line ∷ lines)) ≡ (rows_of (rows_in lines) >>= λ more. Ok (row ∷ more))
-          = ap rows_of (rows_of-row line lines is) ∙ ap (λ (r : Read CfdRow). r >>= λ x. rows_of (rows_in lines) >>= λ more. Ok (x ∷ more)) read in
+    = ap rows_of (rows_of-row line lines is) ∙ ap (λ (r : Read CfdRow). r >>= λ x. rows_of (rows_in lines) >>= λ more. Ok (x ∷ more)) read in
     sym (ap (with_rows_before front) one ∙ before_more front row (rows_of (rows_in lines))) ∙ so_far
 
 -- a row line that is bad

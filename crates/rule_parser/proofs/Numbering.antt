@@ -22,13 +22,13 @@ pub passed_first : (before : ℕ) (bytes : List ℕ) (tokens : LineTokens) (behi
     → lines_after (before + 1) behind ≡ lines_after before bytes
 passed_first before bytes tokens behind first passed =
     sym (at_first before bytes tokens behind first
-      ∙ ap (λ (b : Bool). cond (not b) (record { number = before + 1; tokens = tokens } ∷ lines_after (before + 1) behind) (lines_after (before + 1) behind)) passed)
+    ∙ ap (λ (b : Bool). cond (not b) (record { number = before + 1; tokens = tokens } ∷ lines_after (before + 1) behind) (lines_after (before + 1) behind)) passed)
 
 pub kept_first : (before : ℕ) (bytes : List ℕ) (tokens : LineTokens) (behind : List ℕ) → IsFirstLine bytes tokens behind → is_passed_over tokens ≡ false
     → record { number = before + 1; tokens = tokens } ∷ lines_after (before + 1) behind ≡ lines_after before bytes
 kept_first before bytes tokens behind first passed =
     sym (at_first before bytes tokens behind first
-      ∙ ap (λ (b : Bool). cond (not b) (record { number = before + 1; tokens = tokens } ∷ lines_after (before + 1) behind) (lines_after (before + 1) behind)) passed)
+    ∙ ap (λ (b : Bool). cond (not b) (record { number = before + 1; tokens = tokens } ∷ lines_after (before + 1) behind) (lines_after (before + 1) behind)) passed)
 
 pub none_left : (before : ℕ) → lines_after before [] ≡ []
 unfolding lines_after

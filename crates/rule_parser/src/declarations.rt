@@ -5,10 +5,11 @@ ghost use Rattle.rule_model.specs.Declarations.{IsWrittenSet, IsWrittenCell, IsW
 ghost use Rattle.rule_parser.specs.Reading.{set_at, words_cell, cell_at, list_of, list_until, row_line, cfd_names, after_arrow, closes, cfd_head};
 
 use crate::tokens::{
-    Kind, after_sign, after_word, is_constant, same_mark, same_text, text_at, texts_from, texts_until,
+    Kind, after_sign, after_word, is_constant, same_mark, same_text, text_at, texts_from,
+    texts_until,
 };
-use rule_model::{CfdDecl, CfdRow, Cell};
 use cfd_semantics::Pattern;
+use rule_model::{Cell, CfdDecl, CfdRow};
 use schema_core::{List, Mark, Text, Texts, Token};
 use std::alloc::{AllocError, Global};
 
@@ -83,10 +84,7 @@ fn cell_at(alloc: Global, tokens: &[Token]) -> Result<Option<(Cell, &[Token])>, 
 }
 
 /// One cell or several with commas between them, and what follows the last.
-fn cells_from(
-    alloc: Global,
-    tokens: &[Token],
-) -> Result<Option<(List<Cell>, &[Token])>, AllocError>
+fn cells_from(alloc: Global, tokens: &[Token]) -> Result<Option<(List<Cell>, &[Token])>, AllocError>
     ensures found { IfOk result (λ found. option_map (λ x. (x.0, x.1.now)) found ≡ list_of cell_at tokens.now) }
     ensures written { IfOk result (λ found. IfSome found (λ x. All IsWrittenCell x.0)) }
 {

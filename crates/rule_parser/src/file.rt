@@ -13,7 +13,7 @@ use crate::declarations::{cfd_head, row_line};
 use crate::fault::{ParseCause, ParseFault};
 use crate::lines::{Line, is_row, next_line};
 use rule_model::{AddFault, CfdDecl, CfdRow, Decl, RuleBook};
-use schema_core::{LineTokens, Limits, List, Schema};
+use schema_core::{Limits, LineTokens, List, Schema};
 use std::alloc::Global;
 
 fn bad_line(number: usize) -> ParseFault

@@ -68,9 +68,7 @@ pub fn text_at(tokens: &[Token], kind: Kind) -> Option<(&Text, &[Token])>
 {
     match (kind, tokens) {
         (Kind::Name, [Token::Name(name), rest @ ..]) => Some((name, rest)),
-        (Kind::Value, [Token::Quoted(value), rest @ ..])
-            if is_constant(value) =>
-        {
+        (Kind::Value, [Token::Quoted(value), rest @ ..]) if is_constant(value) => {
             Some((value, rest))
         }
         _ => None,

@@ -32,7 +32,8 @@ loop-cells-preserved c =
     let written = rw c.in-Some.is at c.in_ok-cell.ensures.written in
     let cells = c.loop-cells.cells in
     let behind = c.in-Some-after_sign.behind.now in
-    let total = list_of cell_at c.args.tokens.now in
-    (subst (λ (l : List (Pattern (List _))). Remains cell_at l behind total) (sym c.in_ok-push.ensures.ok)
-      (goes_on cell_at cells c.loop-cells.rest.now c.in-Some.after.now behind total c.in-Some.cell c.loop-cells.invariant.0 found c.in-Some-after_sign.ensures.rest (omega (arith, shorter, c.in-Some-after_sign.ensures.shorter))),
-     subst (All IsWrittenCell) (sym c.in_ok-push.ensures.ok) (All-push IsWrittenCell cells c.in-Some.cell c.loop-cells.invariant.1 written))
+    let total = list_of cell_at c.args.tokens.now in (
+      subst (λ (l : List (Pattern (List _))). Remains cell_at l behind total) (sym c.in_ok-push.ensures.ok)
+          (goes_on cell_at cells c.loop-cells.rest.now c.in-Some.after.now behind total c.in-Some.cell c.loop-cells.invariant.0 found c.in-Some-after_sign.ensures.rest (omega (arith, shorter, c.in-Some-after_sign.ensures.shorter))),
+      subst (All IsWrittenCell) (sym c.in_ok-push.ensures.ok) (All-push IsWrittenCell cells c.in-Some.cell c.loop-cells.invariant.1 written),
+    )

@@ -18,9 +18,10 @@ loop-next-preserved-in_ok-next-2-2 c =
     let total = rows_of (rows_in (lines_after c.args.before c.args.bytes.now)) in
     let so_far = rw c.in-Some.is at c.loop-next.invariant in
     let is = sym c.if-not-is_row.ensures in
-    let same = c.in_ok-next-2.ensures.lines in
-    (rw (c.in_ok-push.ensures.ok, same) (row_read front line behind row total is c.in_ok-row_of.ensures.row so_far.0),
-     ap after_rows same ∙ sym (after_row line behind is) ∙ so_far.1,
-     subst (All IsWrittenRow) (sym c.in_ok-push.ensures.ok) (All-push IsWrittenRow front row so_far.2 c.in_ok-row_of.ensures.written),
-     three_some c.in_ok-next-2.next _ _ _ (λ (x : Line × Bor (List ℕ)). (x.0.number + length x.1.now < 2 ^ 64) × (length x.1.now < length c.args.bytes.now) × HasNames x.0.tokens)
-       c.in_ok-next-2.ensures.fits c.in_ok-next-2.ensures.shorter c.in_ok-next-2.ensures.names (λ x fits shorter names. (fits, omega (arith, shorter, so_far.3.1), names)))
+    let same = c.in_ok-next-2.ensures.lines in (
+      rw (c.in_ok-push.ensures.ok, same) (row_read front line behind row total is c.in_ok-row_of.ensures.row so_far.0),
+      ap after_rows same ∙ sym (after_row line behind is) ∙ so_far.1,
+      subst (All IsWrittenRow) (sym c.in_ok-push.ensures.ok) (All-push IsWrittenRow front row so_far.2 c.in_ok-row_of.ensures.written),
+      three_some c.in_ok-next-2.next _ _ _ (λ (x : Line × Bor (List ℕ)). (x.0.number + length x.1.now < 2 ^ 64) × (length x.1.now < length c.args.bytes.now) × HasNames x.0.tokens)
+          c.in_ok-next-2.ensures.fits c.in_ok-next-2.ensures.shorter c.in_ok-next-2.ensures.names (λ x fits shorter names. (fits, omega (arith, shorter, so_far.3.1), names)),
+    )

@@ -11,10 +11,11 @@ returns-then-not-is_passed_over-clause-lines c =
     kept_first c.loop-rest.number c.loop-rest.rest.now c.in_ok-tokens.tokens c.in_ok-tokens.behind.now c.in_ok-tokens.ensures.line (sym c.if-not-is_passed_over.ensures) ∙ c.loop-rest.invariant.0
 
 pub loop-rest-preserved : goal.loop-rest-preserved
-loop-rest-preserved c =
-    (passed_first c.loop-rest.number c.loop-rest.rest.now c.in_ok-tokens.tokens c.in_ok-tokens.behind.now c.in_ok-tokens.ensures.line (sym c.if-not-is_passed_over.ensures) ∙ c.loop-rest.invariant.0,
-     omega (arith, c.in_ok-tokens.ensures.shorter, c.loop-rest.invariant.1),
-     omega (arith, c.in_ok-tokens.ensures.shorter, c.loop-rest.invariant.2))
+loop-rest-preserved c = (
+  passed_first c.loop-rest.number c.loop-rest.rest.now c.in_ok-tokens.tokens c.in_ok-tokens.behind.now c.in_ok-tokens.ensures.line (sym c.if-not-is_passed_over.ensures) ∙ c.loop-rest.invariant.0,
+  omega (arith, c.in_ok-tokens.ensures.shorter, c.loop-rest.invariant.1),
+  omega (arith, c.in_ok-tokens.ensures.shorter, c.loop-rest.invariant.2),
+)
 
 pub returns-clause-lines : goal.returns-clause-lines
 returns-clause-lines c =

@@ -30,8 +30,9 @@ loop-text-preserved c =
     let text = c.in-Some.text.now in
     let total = texts_from c.args.kind c.args.tokens.now in
     let item = text_at c.args.kind in
-    let behind = c.in-Some-after_sign.behind.now in
-    (subst (λ (l : List (List ℕ)). Remains item l behind total) (sym pushed)
-      (goes_on item texts c.loop-text.rest.now c.in-Some.after.now behind total text c.loop-text.invariant.0 c.in-Some.ensures.found c.in-Some-after_sign.ensures.rest (omega (arith, c.in-Some.ensures.shorter, c.in-Some-after_sign.ensures.shorter))),
-     omega (arith, c.loop-text.invariant.1, c.in-Some.ensures.shorter, c.in-Some-after_sign.ensures.shorter),
-     λ e. subst (All IsConstant) (sym pushed) (All-push IsConstant texts text (c.loop-text.invariant.2 e) (c.in-Some.ensures.constant e)))
+    let behind = c.in-Some-after_sign.behind.now in (
+      subst (λ (l : List (List ℕ)). Remains item l behind total) (sym pushed)
+          (goes_on item texts c.loop-text.rest.now c.in-Some.after.now behind total text c.loop-text.invariant.0 c.in-Some.ensures.found c.in-Some-after_sign.ensures.rest (omega (arith, c.in-Some.ensures.shorter, c.in-Some-after_sign.ensures.shorter))),
+      omega (arith, c.loop-text.invariant.1, c.in-Some.ensures.shorter, c.in-Some-after_sign.ensures.shorter),
+      λ e. subst (All IsConstant) (sym pushed) (All-push IsConstant texts text (c.loop-text.invariant.2 e) (c.in-Some.ensures.constant e)),
+    )
