@@ -15,3 +15,4 @@ pub mod SpelledTexts
 pub mod PrintLemmas
 pub mod SpelledLines
 pub mod RoundTrip
+pub mod SeenLemmas

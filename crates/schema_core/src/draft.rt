@@ -4,7 +4,7 @@ ghost use Rattle.std.specs.Prelude.{◌≡◌, ◌<◌, IfOk, None};
 ghost use Rattle.std.specs.List.{list_any};
 ghost use Rattle.std.specs.Str.{bytes_eq};
 ghost use Rattle.schema_core.specs.Limits.{AreLimits};
-ghost use Rattle.schema_core.specs.SchemaFiles.{has_text, has_table, has_attr, has_twice, empty_draft, with_latest, closed, schema_of, domain_fault, has_too_many_values, add_table, with_attr, add_attr, add_rules, add_script, add_line};
+ghost use Rattle.schema_core.specs.SchemaFiles.{has_table, has_attr, has_twice, empty_draft, with_latest, closed, schema_of, domain_fault, has_too_many_values, add_table, with_attr, add_attr, add_rules, add_script, add_line};
 ghost use Rattle.schema_core.specs.Drafts.{Steps};
 
 use crate::limits::{Limit, Limits};
@@ -13,6 +13,7 @@ use crate::schema::{Attr, Domain, Schema, SchemaCause, Table};
 use crate::schema_lines::SchemaLine;
 use crate::text::{Text, Texts};
 use std::alloc::{AllocError, AllocFailed, Global};
+use std::collections::HashSet;
 
 /// What was read of a schema file. `attr` lines add to the latest table.
 #[derive(Debug, Drop)]
@@ -53,39 +54,33 @@ fn has_attr(attrs: &[Attr], name: &str) -> bool
     attrs.iter().any(|attr| attr.name.is(name))
 }
 
-fn has_text(texts: &[Text], text: &str) -> bool
-    ensures { result ≡ has_text texts.now text.now }
+/// Whether a text stands in front of an equal one. A line may list millions of texts, so those that came before
+/// are kept in a set.
+fn has_twice(alloc: Global, texts: &[Text]) -> Result<bool, AllocError>
+    ensures { IfOk result (λ twice. twice ≡ has_twice texts.now) }
 {
-    texts.iter().any(|other| other.is(text))
-}
-
-/// Whether a text stands in front of an equal one. There are few enough that each is held against the others.
-fn has_twice(texts: &[Text]) -> bool
-    ensures { result ≡ has_twice texts.now }
-{
-    let mut rest = texts;
-    while let Some((first, others)) = rest.split_first() {
-        if has_text(others, first.as_str()) {
-            return true;
+    let mut seen = HashSet::new(alloc);
+    for text in texts {
+        if !seen.insert(text)? {
+            return Ok(true);
         }
-        rest = others;
     }
-    false
+    Ok(false)
 }
 
 /// What is wrong with the values of a domain, at any limits.
-fn domain_fault(domain: &Domain) -> Option<SchemaCause>
-    ensures { result ≡ domain_fault domain.now }
+fn domain_fault(alloc: Global, domain: &Domain) -> Result<Option<SchemaCause>, AllocError>
+    ensures { IfOk result (λ fault. fault ≡ domain_fault domain.now) }
 {
     match domain {
-        Domain::AnyText => None,
+        Domain::AnyText => Ok(None),
         Domain::Finite(values) => {
             if values.as_slice().is_empty() {
-                Some(SchemaCause::EmptyDomain)
-            } else if has_twice(values.as_slice()) {
-                Some(SchemaCause::DuplicateValue)
+                Ok(Some(SchemaCause::EmptyDomain))
+            } else if has_twice(alloc, values.as_slice())? {
+                Ok(Some(SchemaCause::DuplicateValue))
             } else {
-                None
+                Ok(None)
             }
         }
     }
@@ -101,7 +96,7 @@ fn has_too_many_values(limits: &Limits, domain: &Domain) -> bool
 }
 
 /// The table with a further attribute.
-fn with_attr(limits: &Limits, table: Table, attr: Attr) -> Result<Table, Refusal>
+fn with_attr(alloc: Global, limits: &Limits, table: Table, attr: Attr) -> Result<Table, Refusal>
     ensures { Steps result (with_attr limits.now table attr) }
 {
     let Table {
@@ -113,7 +108,7 @@ fn with_attr(limits: &Limits, table: Table, attr: Attr) -> Result<Table, Refusal
     if has_attr(attrs.as_slice(), attr.name.as_str()) {
         return Err(Refusal::Cause(SchemaCause::DuplicateName));
     }
-    if let Some(cause) = domain_fault(&attr.domain) {
+    if let Some(cause) = domain_fault(alloc, &attr.domain)? {
         return Err(Refusal::Cause(cause));
     }
     if limits.attrs <= attrs.as_slice().len() as u64 {
@@ -224,7 +219,7 @@ impl Draft {
         })
     }
 
-    fn add_attr(self, limits: &Limits, attr: Attr) -> Result<Draft, Refusal>
+    fn add_attr(self, alloc: Global, limits: &Limits, attr: Attr) -> Result<Draft, Refusal>
         ensures { Steps result (add_attr limits.now self self.latest attr) }
     {
         let Draft {
@@ -236,7 +231,7 @@ impl Draft {
         let Some(table) = latest else {
             return Err(Refusal::Cause(SchemaCause::BadLine));
         };
-        let table = with_attr(limits, table, attr)?;
+        let table = with_attr(alloc, limits, table, attr)?;
         Ok(Draft {
             tables,
             latest: Some(table),
@@ -301,7 +296,7 @@ impl Draft {
             Some(SchemaLine::Table { master, name, file }) => {
                 self.add_table(alloc, limits, attr_follows, master, name, file)
             }
-            Some(SchemaLine::Attr(attr)) => self.add_attr(limits, attr),
+            Some(SchemaLine::Attr(attr)) => self.add_attr(alloc, limits, attr),
             Some(SchemaLine::Rules(file)) => self.add_rules(file),
             Some(SchemaLine::Script(file)) => self.add_script(file),
         }
