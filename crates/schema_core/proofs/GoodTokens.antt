@@ -1,24 +1,24 @@
 -- The names and texts among the tokens of a line, and among what a schema line says.
-use Rattle.std.proofs.Common.{inl, inr, ◌≡◌, ◌≢◌, ℕ, zero, suc, ◌+◌, ◌<◌, ◌≤◌, Bool, true, false, cond, eqb, leb, ◌&&◌, List, [], ◌∷◌, ◌++◌, length, take, drop, Option, Some, None, refl, ap, sym, ◌∙◌, subst, arith}
-use Rattle.std.specs.Prelude.{not, codes}
-use Rattle.std.specs.Str.{IsUtf8, is_utf8, bytes_eq}
+use Rattle.std.proofs.Common.{inl, inr, ◌≡◌, ℕ, zero, suc, ◌+◌, ◌≤◌, Bool, true, false, cond, eqb, ◌&&◌, List, [], ◌∷◌, length, take, Option, Some, None, refl, ap, sym, ◌∙◌, subst, arith}
+use Rattle.std.specs.Prelude.{not}
+use Rattle.std.specs.Str.{IsUtf8, is_utf8}
 use Rattle.std.specs.Char.{is_ascii_alphabetic, is_ascii_digit}
 use Rattle.std.specs.List.{prefix_len, list_all, AllByRecursion}
-use Rattle.std.proofs.lemmas.Bool.{cases_Bool, cases_eq, cond-true, cond-false, cond_both, and_from, and_parts, le-leb, leb-true}
+use Rattle.std.proofs.lemmas.Bool.{cases_Bool, cases_eq, cond-true, cond-false, cond_both, and_from, le-leb}
 use Rattle.std.proofs.lemmas.List.{length-take}
 use Rattle.std.proofs.lemmas.Str.{IsUtf8-from_is_utf8}
-use Rattle.std.proofs.lemmas.Option.{none-some, same_Some, some_pair_parts, cond_some}
-use Rattle.schema_core.specs.Names.{is_name_byte, is_name, IsName, IsFileName, IsConstant}
+use Rattle.std.proofs.lemmas.Option.{none-some, some_pair_parts}
+use Rattle.schema_core.specs.Names.{is_name_byte, IsName}
 use Rattle.schema_core.specs.declared.tokens.Mark.{Mark}
 use Rattle.schema_core.specs.declared.tokens.Token.{Token}
 use Rattle.schema_core.specs.declared.tokens.Token.TheVariants.{Name, Number, Quoted, Sign}
 use Rattle.schema_core.specs.declared.tokens.LineTokens.{LineTokens}
 use Rattle.schema_core.specs.declared.tokens.LineTokens.TheVariants.{Passed, NotUtf8, BadTokens, Tokens}
-use Rattle.schema_core.specs.Tokens.{after_blanks, begins_blank, is_passed, text_from, mark_or, one_mark, two_marks, mark_at, name_len, digits_len, quoted_token, token_at, is_word, with_token, and_then, tokens_from, line_tokens}
+use Rattle.schema_core.specs.Tokens.{after_blanks, begins_blank, is_passed, text_from, mark_or, one_mark, two_marks, mark_at, name_len, token_at, is_word, with_token, and_then, tokens_from, line_tokens}
 use Rattle.schema_core.proofs.Runs.{prefix_len-le}
 use Rattle.schema_core.proofs.Utf8.{IsUtf8-tail}
 use Rattle.schema_core.proofs.Texts.{text_from-IsUtf8}
-use Rattle.schema_core.proofs.TokenLemmas.{token_at-nil, token_at-letter, token_at-zero, token_at-digit, token_at-quote, token_at-mark, quoted_token-some, letter-is_name_byte, mark_or-some, token_at-Follows, IsUtf8-after_blanks}
+use Rattle.schema_core.proofs.TokenLemmas.{token_at-nil, token_at-letter, token_at-zero, token_at-digit, token_at-quote, token_at-mark, quoted_token-some, letter-is_name_byte, token_at-Follows, IsUtf8-after_blanks}
 
 -- a name is one, and a text is UTF-8
 abbrev pub IsGoodToken : Token → Type 0

@@ -1,11 +1,10 @@
 -- Lines cut one after another from the front of a file.
-use Rattle.std.proofs.Common.{inl, inr, ◌≡◌, ◌≢◌, ℕ, zero, suc, ◌+◌, ◌-◌, ◌<◌, ◌≤◌, Bool, true, false, cond, eqb, List, [], ◌∷◌, ◌++◌, length, get_or, take, drop, refl, ap, sym, ◌∙◌, arith, length-take-le, add-one}
-use Rattle.std.specs.Prelude.{map, not, ◌==◌, slice_range}
-use Rattle.std.specs.List.{prefix_len, position_or_len}
-use Rattle.std.proofs.lemmas.Bool.{cond_both, cases_eq, eqb-true, ne_eqb, eqb-false}
+use Rattle.std.proofs.Common.{inl, inr, ◌≡◌, ◌≢◌, ℕ, zero, suc, ◌+◌, ◌-◌, ◌<◌, ◌≤◌, List, [], ◌∷◌, length, get_or, take, drop, refl, ap, sym, ◌∙◌, arith}
+use Rattle.std.specs.Prelude.{◌==◌, slice_range}
+use Rattle.std.specs.List.{position_or_len}
+use Rattle.std.proofs.lemmas.Bool.{cases_eq, ne_eqb}
 use Rattle.std.proofs.lemmas.List.{take-take, drop-drop, take_all, length-drop}
-use Rattle.std.proofs.Math.Nat.{add_comm}
-use Rattle.schema_core.specs.Lines.{line_feed, carriage_return, in_front, cut_at_line_feeds, without_return, lines, after_line}
+use Rattle.schema_core.specs.Lines.{line_feed, in_front, cut_at_line_feeds, without_return, lines}
 
 one_plus : (n : ℕ) → 1 + n ≡ suc n
 one_plus n = omega arith

@@ -1,12 +1,10 @@
 -- A list of the grammar that is read one p after the other.
-use Rattle.std.proofs.Common.{◌≡◌, ℕ, zero, suc, ◌+◌, ◌<◌, ◌≤◌, Bool, true, false, cond, eqb, List, [], ◌∷◌, ◌++◌, length, Option, Some, None, refl, ap, sym, ◌∙◌, arith}
-use Rattle.std.specs.Prelude.{is_some}
-use Rattle.std.proofs.lemmas.Bool.{ne_eqb, eq-eqb}
+use Rattle.std.proofs.Common.{◌≡◌, ℕ, zero, suc, ◌<◌, ◌≤◌, List, [], ◌∷◌, ◌++◌, length, Option, Some, None, refl, ap, sym, ◌∙◌, arith}
 use Rattle.std.proofs.lemmas.Option.{none-some, same_Some}
 use Rattle.schema_core.specs.declared.tokens.Token.{Token}
-use Rattle.schema_core.specs.declared.tokens.Token.TheVariants.{Name, Number, Quoted, Sign}
+use Rattle.schema_core.specs.declared.tokens.Token.TheVariants.{Sign}
 use Rattle.schema_core.specs.declared.tokens.Mark.TheVariants.{Comma}
-use Rattle.schema_core.specs.TokenLists.{Reader, behind_comma, in_front, or_others, and_others, list1_within, list1_at, list_at}
+use Rattle.schema_core.specs.TokenLists.{Reader, behind_comma, in_front, or_others, list1_within, list1_at}
 
 -- the items that were read before, in front of the others
 abbrev pub all_in_front : {A : Type 0} → List A → Option (List A × List Token) → Option (List A × List Token)

@@ -1,12 +1,12 @@
 -- The canonical text of a schema, written piece by piece.
 use Rattle.std.proofs.Common.{◌≡◌, ◌≢◌, ℕ, zero, suc, ◌+◌, ◌<◌, ◌≤◌, List, [], ◌∷◌, ◌++◌, length, get_or, take, refl, ap, sym, ◌∙◌, append_assoc, arith}
 use Rattle.std.specs.List.{flat_map}
-use Rattle.std.specs.Prelude.{map, codes}
+use Rattle.std.specs.Prelude.{codes}
 use Rattle.std.proofs.lemmas.List.{append-nil, take_more, take_all}
 use Rattle.std.proofs.lemmas.Grind.{flat_map-append}
 use Rattle.schema_core.specs.Tokens.{quoted}
 use Rattle.schema_core.specs.Spelling.{others_text, file_text}
-use Rattle.schema_core.specs.SchemaText.{value_tokens, table_lines, file_lines, schema_lines, canonical}
+use Rattle.schema_core.specs.SchemaText.{value_tokens, table_lines, file_lines, canonical}
 use Rattle.schema_core.specs.declared.schema.Table.{Table}
 use Rattle.schema_core.specs.declared.schema.Schema.{Schema}
 

@@ -1,33 +1,27 @@
 -- Reading the canonical text of a schema gives the schema.
-use Rattle.std.proofs.Common.{inl, inr, ◌≡◌, ◌≢◌, ℕ, zero, suc, ◌+◌, ◌<◌, ◌≤◌, Bool, true, false, cond, eqb, leb, ltb, ◌&&◌, ◌||◌, List, [], ◌∷◌, ◌++◌, length, get_or, Option, Some, None, refl, ap, sym, ◌∙◌, subst, append_assoc, arith, length-append}
-use Rattle.std.specs.Prelude.{Result, Ok, Err, not, codes, map, All, IfSome, is_some}
+use Rattle.std.proofs.Common.{◌≡◌, ◌≢◌, ℕ, zero, suc, ◌+◌, ◌<◌, ◌≤◌, Bool, true, false, eqb, leb, ◌&&◌, List, [], ◌∷◌, ◌++◌, length, Option, Some, None, refl, ap, sym, ◌∙◌, append_assoc, arith, length-append}
+use Rattle.std.specs.Prelude.{Ok, not, codes, map, IfSome, is_some}
 use Rattle.std.specs.List.{flat_map, list_any, AllByRecursion}
-use Rattle.std.specs.Str.{IsUtf8, bytes_eq}
-use Rattle.std.proofs.lemmas.Bool.{cases_Bool, cond-true, cond-false, le-leb, lt-leb, le-ltb, ne_eqb, or_from, false_from_ne_true}
+use Rattle.std.specs.Str.{bytes_eq}
+use Rattle.std.proofs.lemmas.Bool.{cond-true, cond-false, le-leb, lt-leb, le-ltb, ne_eqb, or_from, false_from_ne_true}
 use Rattle.std.proofs.lemmas.List.{append-nil}
 use Rattle.std.proofs.lemmas.List.Elements.{recursion_from_All}
 use Rattle.schema_core.specs.Limits.{standard}
-use Rattle.schema_core.specs.Names.{is_name, IsName, IsFileName, IsConstant}
-use Rattle.schema_core.specs.Lines.{lines}
-use Rattle.schema_core.specs.Tokens.{line_tokens}
-use Rattle.schema_core.specs.TokenLists.{list1_within, list1_at, list_at, in_front, or_others, and_others, behind_comma}
-use Rattle.schema_core.specs.Schemas.{AreDistinct, AreValues, IsValidDomain, IsValidAttr, IsValidTable, IsValidSchema, HasFewValues, HasFewAttrs, names_of_tables, names_of_attrs}
-use Rattle.schema_core.specs.SchemaLines.{is_file_name, is_constant, lone_file, value_at, none_after, values_of, named_table, table_line, attr_in, attr_line, file_line, schema_line}
-use Rattle.schema_core.specs.SchemaFiles.{has_text, has_table, has_attr, has_twice, empty_draft, with_latest, closed, schema_of, add_table, domain_fault, has_too_many_values, or_attr_limit, with_attr, reopened, add_attr, add_line, begins_attr, counts_as_attr, or_later, attr_follows, read_line, at_line, read_lines, reads}
-use Rattle.schema_core.specs.Spelling.{line_text, comma_separated, file_text}
+use Rattle.schema_core.specs.Names.{IsName, IsFileName, IsConstant}
+use Rattle.schema_core.specs.TokenLists.{list1_within, list1_at, in_front, and_others}
+use Rattle.schema_core.specs.Schemas.{AreDistinct, IsValidDomain, IsValidAttr, IsValidTable, IsValidSchema, HasFewValues, HasFewAttrs, names_of_tables, names_of_attrs}
+use Rattle.schema_core.specs.SchemaLines.{is_file_name, is_constant, lone_file, value_at, none_after, values_of, named_table, attr_in, file_line, schema_line}
+use Rattle.schema_core.specs.SchemaFiles.{has_text, has_table, has_attr, has_twice, empty_draft, closed, schema_of, domain_fault, has_too_many_values, or_attr_limit, with_attr, reopened, add_line, counts_as_attr, or_later, attr_follows, read_line, at_line, read_lines, reads}
+use Rattle.schema_core.specs.Spelling.{line_text}
 use Rattle.schema_core.specs.SchemaText.{value_tokens, domain_tokens, attr_text, table_word, head_text, table_lines, file_lines, schema_lines, canonical}
 use Rattle.schema_core.specs.declared.tokens.Mark.TheVariants.{Comma}
 use Rattle.schema_core.specs.declared.tokens.Token.{Token}
-use Rattle.schema_core.specs.declared.tokens.Token.TheVariants.{Name, Number, Quoted, Sign}
-use Rattle.schema_core.specs.declared.tokens.LineTokens.{LineTokens}
-use Rattle.schema_core.specs.declared.tokens.LineTokens.TheVariants.{Passed, NotUtf8, BadTokens, Tokens}
-use Rattle.schema_core.specs.declared.limits.Limits.{Limits}
+use Rattle.schema_core.specs.declared.tokens.Token.TheVariants.{Name, Quoted, Sign}
 use Rattle.schema_core.specs.declared.schema.Domain.{Domain}
 use Rattle.schema_core.specs.declared.schema.Domain.TheVariants.{AnyText, Finite}
 use Rattle.schema_core.specs.declared.schema.Attr.{Attr}
 use Rattle.schema_core.specs.declared.schema.Table.{Table}
 use Rattle.schema_core.specs.declared.schema.Schema.{Schema}
-use Rattle.schema_core.specs.declared.schema.SchemaFault.{SchemaFault}
 use Rattle.schema_core.specs.declared.schema_lines.SchemaLine.{SchemaLine}
 use Rattle.schema_core.specs.declared.schema_lines.SchemaLine.TheVariants as says
 use Rattle.schema_core.specs.declared.draft.Draft.{Draft}

@@ -1,6 +1,6 @@
 -- A schema file read line by line.
-use Rattle.std.proofs.Common.{◌≡◌, ℕ, zero, suc, ◌+◌, ◌-◌, ◌<◌, ◌≤◌, Bool, true, false, cond, List, [], ◌∷◌, ◌++◌, length, take, drop, Option, Some, None, refl, ap, sym, ◌∙◌, arith}
-use Rattle.std.specs.Prelude.{Result, Ok, Err, slice_range}
+use Rattle.std.proofs.Common.{◌≡◌, ℕ, ◌+◌, ◌<◌, ◌≤◌, Bool, false, List, [], ◌∷◌, length, Option, Some, None, refl, ap, sym, ◌∙◌, arith}
+use Rattle.std.specs.Prelude.{Ok, Err}
 use Rattle.schema_core.specs.Lines.{lines}
 use Rattle.schema_core.specs.Tokens.{line_tokens}
 use Rattle.schema_core.specs.declared.tokens.LineTokens.{LineTokens}
@@ -11,7 +11,6 @@ use Rattle.schema_core.specs.declared.draft.Refusal.{Refusal}
 use Rattle.schema_core.specs.declared.draft.Refusal.TheVariants.{Memory, Cause}
 use Rattle.schema_core.specs.declared.schema.Schema.{Schema}
 use Rattle.schema_core.specs.declared.schema.SchemaCause.{SchemaCause}
-use Rattle.schema_core.specs.declared.schema.SchemaFault.{SchemaFault}
 use Rattle.schema_core.specs.declared.schema.SchemaFault.TheVariants as fault
 use Rattle.schema_core.specs.SchemaFiles.{IsUnlessMemory, counts_as_attr, or_later, attr_follows, read_line, at_line, read_lines, reads, empty_draft, schema_of}
 

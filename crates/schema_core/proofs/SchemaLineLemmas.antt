@@ -1,11 +1,11 @@
 -- The lines of a schema file.
-use Rattle.std.proofs.Common.{◌≡◌, ℕ, zero, suc, ◌<◌, ◌≤◌, Bool, true, false, cond, eqb, List, [], ◌∷◌, ◌++◌, length, Option, Some, None, refl, ap, sym, ◌∙◌, arith}
+use Rattle.std.proofs.Common.{◌≡◌, ℕ, ◌<◌, eqb, List, [], ◌∷◌, ◌++◌, length, Option, Some, None, refl, ap, sym, ◌∙◌, arith}
 use Rattle.std.specs.Prelude.{is_some}
-use Rattle.std.proofs.lemmas.Bool.{ne_eqb, eq-eqb, cond-true, cond-false, cases_Bool}
-use Rattle.std.proofs.lemmas.Option.{none-some, some_pair_parts, cond_some}
+use Rattle.std.proofs.lemmas.Bool.{ne_eqb, eq-eqb, cond-true, cond-false}
+use Rattle.std.proofs.lemmas.Option.{none-some, cond_some}
 use Rattle.schema_core.specs.declared.tokens.Token.{Token}
-use Rattle.schema_core.specs.declared.tokens.Token.TheVariants.{Name, Number, Quoted, Sign}
-use Rattle.schema_core.specs.TokenLists.{behind_comma, list1_within, list1_at, list_at}
+use Rattle.schema_core.specs.declared.tokens.Token.TheVariants.{Quoted}
+use Rattle.schema_core.specs.TokenLists.{behind_comma, list1_at}
 use Rattle.schema_core.specs.SchemaLines.{is_constant, value_at, none_after, values_of}
 use Rattle.schema_core.proofs.ListLemmas.{ListLeft, ListLeft-none, ListLeft-last, list1_within-none}
 

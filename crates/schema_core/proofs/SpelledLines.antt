@@ -1,22 +1,20 @@
 -- Reading the canonical text of tokens gives the tokens, and the lines of a file are those that it was made of.
-use Rattle.std.proofs.Common.{inl, inr, ◌≡◌, ◌≢◌, ℕ, zero, suc, ◌+◌, ◌<◌, ◌≤◌, Bool, true, false, cond, eqb, leb, ◌&&◌, ◌||◌, List, [], ◌∷◌, ◌++◌, length, take, drop, Option, Some, None, refl, ap, sym, ◌∙◌, subst, append_assoc, arith, length-append}
+use Rattle.std.proofs.Common.{inl, inr, ◌≡◌, ◌≢◌, ℕ, zero, suc, ◌+◌, ◌<◌, ◌≤◌, Bool, true, false, cond, eqb, leb, ◌&&◌, List, [], ◌∷◌, ◌++◌, length, take, drop, Some, refl, ap, sym, ◌∙◌, subst, append_assoc, arith, length-append}
 use Rattle.std.specs.Prelude.{not, map}
 use Rattle.std.specs.List.{flat_map, prefix_len, list_all, AllByRecursion}
-use Rattle.std.specs.Str.{IsUtf8, is_utf8}
-use Rattle.std.specs.Char.{is_ascii_alphabetic, is_ascii_digit}
-use Rattle.std.proofs.lemmas.Bool.{cases_eq, cases_Bool, ne_eqb, eq-eqb, and_parts, and_left, and_right, cond-true, cond-false, false≢true, leb-true}
+use Rattle.std.specs.Str.{IsUtf8}
+use Rattle.std.specs.Char.{is_ascii_alphabetic}
+use Rattle.std.proofs.lemmas.Bool.{cases_eq, ne_eqb, eq-eqb, and_parts, and_left, and_right, cond-true, cond-false, false≢true, leb-true}
 use Rattle.std.proofs.lemmas.Bool.Decides.{nat_tests}
-use Rattle.std.proofs.lemmas.List.{append-nil}
 use Rattle.std.proofs.lemmas.Str.{IsUtf8-append, IsUtf8-nil, is_utf8-from_IsUtf8}
-use Rattle.schema_core.specs.Names.{is_name_byte, is_name, IsName}
-use Rattle.schema_core.specs.Lines.{line_feed, carriage_return, in_front, cut_at_line_feeds, without_return, lines}
+use Rattle.schema_core.specs.Names.{is_name_byte, IsName}
+use Rattle.schema_core.specs.Lines.{in_front, cut_at_line_feeds, without_return, lines}
 use Rattle.schema_core.specs.declared.tokens.Mark.{Mark}
 use Rattle.schema_core.specs.declared.tokens.Mark.TheVariants.{Colon, Comma, OpenBracket, CloseBracket, Semicolon, Equals, Differs, Arrow, Bars, Underscore, Dot, OpenBrace, CloseBrace}
 use Rattle.schema_core.specs.declared.tokens.Token.{Token}
 use Rattle.schema_core.specs.declared.tokens.Token.TheVariants.{Name, Number, Quoted, Sign}
-use Rattle.schema_core.specs.declared.tokens.LineTokens.{LineTokens}
-use Rattle.schema_core.specs.declared.tokens.LineTokens.TheVariants.{Passed, NotUtf8, BadTokens, Tokens}
-use Rattle.schema_core.specs.Tokens.{is_blank, after_blanks, begins_blank, is_comment, is_passed, piece, quoted, mark_at, name_len, token_at, is_word, with_token, and_then, tokens_from, line_tokens}
+use Rattle.schema_core.specs.declared.tokens.LineTokens.TheVariants.{Passed, NotUtf8, Tokens}
+use Rattle.schema_core.specs.Tokens.{is_blank, after_blanks, begins_blank, is_comment, is_passed, piece, quoted, mark_at, name_len, token_at, is_word, with_token, tokens_from, line_tokens}
 use Rattle.schema_core.specs.Spelling.{mark_text, spelling, others_text, line_text, file_text}
 use Rattle.schema_core.proofs.Utf8.{IsUtf8-cons, is_name_byte-ascii}
 use Rattle.schema_core.proofs.TokenLemmas.{token_at-letter, letter-is_name_byte, tokens_from-end, tokens_from-token, and_then-apart}

@@ -1,19 +1,18 @@
 -- A text has one spelling, and reading a spelling gives the text.
-use Rattle.std.proofs.Common.{inl, inr, ◌≡◌, ◌≢◌, ℕ, zero, suc, ◌+◌, ◌<◌, ◌≤◌, Bool, true, false, cond, eqb, List, [], ◌∷◌, ◌++◌, length, Option, Some, None, refl, ap, sym, ◌∙◌, subst, append_assoc, arith}
+use Rattle.std.proofs.Common.{inl, inr, ◌≡◌, ◌≢◌, ℕ, ◌<◌, List, [], ◌∷◌, ◌++◌, Option, Some, None, refl, ap, sym, ◌∙◌, subst, append_assoc, arith}
 use Rattle.std.specs.List.{flat_map}
 use Rattle.std.specs.Str.{IsUtf8}
 use Rattle.std.specs.Char.{is_ascii_alphabetic, is_ascii_digit}
 use Rattle.std.proofs.lemmas.Bool.{cases_eq, cases_Bool, ne_eqb}
 use Rattle.std.proofs.lemmas.Bool.Decides.{nat_tests}
-use Rattle.std.proofs.lemmas.List.{append-nil}
 use Rattle.std.proofs.lemmas.Str.{IsUtf8-append, IsUtf8-nil}
 use Rattle.std.proofs.lemmas.Option.{none-some, same_Some, some_pair_parts}
 use Rattle.schema_core.specs.declared.tokens.Mark.{Mark}
 use Rattle.schema_core.specs.declared.tokens.Token.{Token}
 use Rattle.schema_core.specs.declared.tokens.Token.TheVariants.{Name, Number, Quoted, Sign}
-use Rattle.schema_core.specs.Tokens.{escape_of, escaped, piece_with, piece, quoted, with_byte, with_escaped, text_from, quoted_token, one_mark, two_marks, mark_or, mark_at, token_at}
+use Rattle.schema_core.specs.Tokens.{escape_of, escaped, piece_with, piece, quoted, with_byte, text_from, quoted_token, one_mark, two_marks, mark_or, mark_at, token_at}
 use Rattle.schema_core.specs.OneSpelling.{HasOneSpelling}
-use Rattle.schema_core.proofs.Utf8.{IsUtf8-parts, IsUtf8-tail, IsUtf8-cons}
+use Rattle.schema_core.proofs.Utf8.{IsUtf8-parts, IsUtf8-cons}
 use Rattle.schema_core.proofs.Texts.{text_from-quote, text_from-escape, text_from-plain, text_from-at_break, text_from-nil, text_from-lone, with_byte-some, with_escaped-some}
 use Rattle.schema_core.proofs.TokenLemmas.{token_at-nil, token_at-letter, token_at-zero, token_at-digit, token_at-quote, token_at-mark, quoted_token-some}
 

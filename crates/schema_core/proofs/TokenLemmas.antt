@@ -1,19 +1,19 @@
 -- Lines read token by token.
-use Rattle.std.proofs.Common.{◌≢◌, ◌⊎◌, inl, inr, length-drop, ◌≡◌, ℕ, zero, suc, ◌+◌, ◌<◌, ◌≤◌, Bool, true, false, cond, eqb, ◌&&◌, List, [], ◌∷◌, ◌++◌, length, take, drop, Option, Some, None, refl, ap, sym, ◌∙◌, subst, arith, length-append}
+use Rattle.std.proofs.Common.{◌≢◌, ◌⊎◌, inl, inr, length-drop, ◌≡◌, ℕ, zero, suc, ◌+◌, ◌<◌, ◌≤◌, Bool, true, false, cond, eqb, ◌&&◌, List, [], ◌∷◌, ◌++◌, length, take, drop, Option, Some, None, refl, ap, sym, ◌∙◌, arith}
 use Rattle.std.specs.Prelude.{not}
 use Rattle.std.specs.Str.{IsUtf8}
 use Rattle.std.specs.Char.{is_ascii_alphabetic, is_ascii_digit}
 use Rattle.std.specs.List.{prefix_len}
 use Rattle.std.proofs.lemmas.Bool.{cases_Bool, cases_eq, eqb-true, eq-eqb, ne_eqb, cond-true, cond-false, cond_both}
 use Rattle.std.proofs.lemmas.Bool.Decides.{nat_tests}
-use Rattle.std.proofs.lemmas.Option.{none-some, same_Some, some_pair_parts}
+use Rattle.std.proofs.lemmas.Option.{none-some, some_pair_parts}
 use Rattle.std.specs.Str.Parse.{digits_value}
 use Rattle.schema_core.specs.Names.{is_name_byte}
 use Rattle.schema_core.specs.declared.tokens.Mark.{Mark}
 use Rattle.schema_core.specs.declared.tokens.Token.{Token}
 use Rattle.schema_core.specs.declared.tokens.Token.TheVariants.{Name, Number, Quoted, Sign}
 use Rattle.schema_core.specs.declared.tokens.LineTokens.{LineTokens}
-use Rattle.schema_core.specs.declared.tokens.LineTokens.TheVariants.{Passed, NotUtf8, BadTokens, Tokens}
+use Rattle.schema_core.specs.declared.tokens.LineTokens.TheVariants.{BadTokens, Tokens}
 use Rattle.schema_core.specs.Tokens.{is_blank, after_blanks, begins_blank, text_from, one_mark, two_marks, mark_or, mark_at, name_len, digits_len, quoted_token, token_at, is_word, with_token, and_then, tokens_from}
 use Rattle.schema_core.proofs.Utf8.{IsUtf8-tail, IsUtf8-after_run, is_name_byte-ascii, is_ascii_digit-ascii}
 use Rattle.schema_core.proofs.Texts.{text_from-IsUtf8, text_from-shorter}

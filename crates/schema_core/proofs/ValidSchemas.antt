@@ -1,18 +1,18 @@
 -- What is read is a valid schema.
-use Rattle.std.proofs.Common.{inl, inr, ◌⊎◌, ◌≡◌, ◌≢◌, ℕ, zero, suc, ◌+◌, ◌<◌, ◌≤◌, Bool, true, false, cond, eqb, leb, ltb, ◌&&◌, List, [], ◌∷◌, ◌++◌, length, Option, Some, None, refl, ap, sym, ◌∙◌, subst, arith, length-append}
-use Rattle.std.specs.Prelude.{Result, Ok, Err, not, codes, map, All, IfSome, is_some}
+use Rattle.std.proofs.Common.{inl, inr, ◌⊎◌, ◌≡◌, ℕ, zero, suc, ◌+◌, ◌≤◌, Bool, true, false, cond, eqb, leb, List, [], ◌∷◌, ◌++◌, length, Option, Some, None, refl, sym, ◌∙◌, subst, arith, length-append}
+use Rattle.std.specs.Prelude.{Result, Ok, Err, not, codes, IfSome, is_some}
 use Rattle.std.specs.Str.{IsUtf8, bytes_eq}
-use Rattle.std.specs.List.{list_any, AllByRecursion}
+use Rattle.std.specs.List.{AllByRecursion}
 use Rattle.std.proofs.lemmas.Bool.{cases_Bool, cond-true, cond-false, cond_both, and_parts, leb-true, leb-false, ltb-false, eqb-false, false≢true, not-false}
 use Rattle.std.proofs.lemmas.List.{map_push}
-use Rattle.std.proofs.lemmas.List.Elements.{All-from_recursion, All-push, All-nil}
-use Rattle.std.proofs.lemmas.Option.{none-some, same_Some, some_pair_parts, cond_some}
+use Rattle.std.proofs.lemmas.List.Elements.{All-from_recursion}
+use Rattle.std.proofs.lemmas.Option.{none-some}
 use Rattle.schema_core.specs.Limits.{AreLimits}
-use Rattle.schema_core.specs.Names.{is_name, IsName, IsFileName, IsConstant}
+use Rattle.schema_core.specs.Names.{IsName, IsFileName, IsConstant}
 use Rattle.schema_core.specs.Lines.{lines}
 use Rattle.schema_core.specs.Tokens.{line_tokens}
 use Rattle.schema_core.specs.TokenLists.{list1_within, list1_at, list_at, in_front, or_others, and_others, behind_comma}
-use Rattle.schema_core.specs.Schemas.{AreDistinct, AreValues, IsValidDomain, IsValidAttr, IsValidTable, IsValidSchema, HasFewValues, HasFewAttrs, names_of_tables, names_of_attrs}
+use Rattle.schema_core.specs.Schemas.{AreDistinct, IsValidDomain, IsValidAttr, IsValidTable, IsValidSchema, HasFewValues, HasFewAttrs, names_of_tables, names_of_attrs}
 use Rattle.schema_core.specs.SchemaLines.{is_file_name, is_constant, lone_file, value_at, none_after, values_of, named_table, table_line, attr_in, attr_line, file_line, schema_line}
 use Rattle.schema_core.specs.SchemaFiles.{has_table, has_attr, has_twice, empty_draft, with_latest, closed, schema_of, add_table, domain_fault, has_too_many_values, or_attr_limit, with_attr, reopened, add_attr, add_rules, add_script, add_line, begins_attr, counts_as_attr, or_later, attr_follows, read_line, at_line, read_lines, reads}
 use Rattle.schema_core.specs.declared.tokens.Mark.TheVariants.{Comma}

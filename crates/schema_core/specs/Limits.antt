@@ -1,5 +1,5 @@
 -- The limits that a call may be given.
-use Rattle.std.specs.Prelude.{ℕ, ◌≤◌}
+use Rattle.std.specs.Prelude.{◌≤◌}
 use Rattle.schema_core.specs.declared.limits.Limits.{Limits}
 
 -- the limits that the program runs with

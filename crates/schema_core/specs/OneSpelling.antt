@@ -1,5 +1,5 @@
 -- The law of spellings.
-use Rattle.std.specs.Prelude.{◌≡◌, ℕ, List, ◌++◌, Option, Some}
+use Rattle.std.specs.Prelude.{◌≡◌, ℕ, List, ◌++◌, Some}
 use Rattle.schema_core.specs.Tokens.{quoted, token_at}
 use Rattle.schema_core.specs.declared.tokens.Token.TheVariants.{Quoted}
 

@@ -1,13 +1,12 @@
 -- Schema files, by cases on the list of lines: the schema that they spell, or the first faulty line with its first cause.
-use Rattle.std.specs.Prelude.{◌≡◌, ℕ, ◌+◌, Bool, true, false, ◌&&◌, not, List, [], ◌∷◌, ◌++◌, length, map, Option, Some, None, is_some, Result, Ok, Err, if◌then◌else◌, ◌==◌, nat_le, nat_lt, codes}
+use Rattle.std.specs.Prelude.{◌≡◌, ℕ, ◌+◌, Bool, true, false, not, List, [], ◌∷◌, ◌++◌, length, Option, Some, None, is_some, Result, Ok, Err, if◌then◌else◌, ◌==◌, nat_le, nat_lt, codes}
 use Rattle.std.specs.List.{list_any}
 use Rattle.std.specs.Str.{bytes_eq}
 use Rattle.schema_core.specs.Lines.{lines}
 use Rattle.schema_core.specs.Tokens.{line_tokens}
-use Rattle.schema_core.specs.Schemas.{names_of_tables, names_of_attrs}
 use Rattle.schema_core.specs.SchemaLines.{schema_line}
 use Rattle.schema_core.specs.declared.tokens.Token.{Token}
-use Rattle.schema_core.specs.declared.tokens.Token.TheVariants.{Name, Number, Quoted, Sign}
+use Rattle.schema_core.specs.declared.tokens.Token.TheVariants.{Name}
 use Rattle.schema_core.specs.declared.tokens.LineTokens.{LineTokens}
 use Rattle.schema_core.specs.declared.tokens.LineTokens.TheVariants.{Passed, NotUtf8, BadTokens, Tokens}
 use Rattle.schema_core.specs.declared.limits.Limits.{Limits}

@@ -5,25 +5,12 @@
 --     rules FILE           script FILE
 --
 -- FILE is a text of 1 to 1,024 bytes, VALUE a text of at most 1,024 bytes.
-use Rattle.std.specs.Prelude.{◌≡◌, ℕ, ◌+◌, Bool, true, false, ◌&&◌, ◌||◌, not, List, [], ◌∷◌, ◌++◌, length, map, Option, Some, None, is_some, Result, Ok, Err, if◌then◌else◌, ◌==◌, nat_le, nat_lt, codes}
-use Rattle.std.specs.List.{list_any}
+use Rattle.std.specs.Prelude.{ℕ, Bool, true, false, ◌&&◌, List, [], ◌∷◌, length, Option, Some, None, if◌then◌else◌, ◌==◌, nat_le, codes}
 use Rattle.std.specs.Str.{bytes_eq}
-use Rattle.schema_core.specs.Lines.{lines}
-use Rattle.schema_core.specs.Tokens.{is_passed, line_tokens}
 use Rattle.schema_core.specs.TokenLists.{Reader, list_at}
 use Rattle.schema_core.specs.declared.tokens.Token.{Token}
-use Rattle.schema_core.specs.declared.tokens.Token.TheVariants.{Name, Number, Quoted, Sign}
-use Rattle.schema_core.specs.declared.tokens.LineTokens.{LineTokens}
-use Rattle.schema_core.specs.declared.tokens.LineTokens.TheVariants.{Passed, NotUtf8, BadTokens, Tokens}
-use Rattle.schema_core.specs.declared.limits.Limits.{Limits}
-use Rattle.schema_core.specs.declared.limits.Limit.TheVariants as limit
-use Rattle.schema_core.specs.declared.schema.Domain.{Domain}
+use Rattle.schema_core.specs.declared.tokens.Token.TheVariants.{Name, Quoted}
 use Rattle.schema_core.specs.declared.schema.Domain.TheVariants.{AnyText, Finite}
-use Rattle.schema_core.specs.declared.schema.Attr.{Attr}
-use Rattle.schema_core.specs.declared.schema.Table.{Table}
-use Rattle.schema_core.specs.declared.schema.Schema.{Schema}
-use Rattle.schema_core.specs.declared.schema.SchemaCause.{SchemaCause}
-use Rattle.schema_core.specs.declared.schema.SchemaCause.TheVariants as cause
 use Rattle.schema_core.specs.declared.schema_lines.SchemaLine.{SchemaLine}
 use Rattle.schema_core.specs.declared.schema_lines.SchemaLine.TheVariants as says
 

@@ -1,9 +1,9 @@
 -- The canonical text of a schema: the tables in order, each with its `attr` lines, then `rules`, then `script`.
-use Rattle.std.specs.Prelude.{ℕ, Bool, true, false, List, [], ◌∷◌, ◌++◌, map, Option, Some, None, codes, if◌then◌else◌}
+use Rattle.std.specs.Prelude.{ℕ, Bool, List, [], ◌∷◌, ◌++◌, map, Option, Some, None, codes, if◌then◌else◌}
 use Rattle.std.specs.List.{flat_map}
 use Rattle.schema_core.specs.Spelling.{line_text, comma_separated, file_text}
 use Rattle.schema_core.specs.declared.tokens.Token.{Token}
-use Rattle.schema_core.specs.declared.tokens.Token.TheVariants.{Name, Number, Quoted, Sign}
+use Rattle.schema_core.specs.declared.tokens.Token.TheVariants.{Name, Quoted}
 use Rattle.schema_core.specs.declared.schema.Domain.{Domain}
 use Rattle.schema_core.specs.declared.schema.Domain.TheVariants.{AnyText, Finite}
 use Rattle.schema_core.specs.declared.schema.Attr.{Attr}

@@ -1,5 +1,5 @@
 -- Schemas: what stands where in one, and which are valid.
-use Rattle.std.specs.Prelude.{◌≡◌, ◌≢◌, ℕ, ◌≤◌, Bool, true, false, List, [], ◌∷◌, length, map, Option, Some, None, IfSome, All, AllPairs, Contains, position}
+use Rattle.std.specs.Prelude.{◌≢◌, ℕ, ◌≤◌, Bool, true, List, length, map, Option, IfSome, All, AllPairs, Contains, position}
 use Rattle.std.specs.List.{list_any}
 use Rattle.std.specs.Str.{bytes_eq}
 use Rattle.schema_core.specs.Names.{IsName, IsFileName, IsConstant}

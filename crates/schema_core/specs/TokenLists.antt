@@ -1,9 +1,8 @@
 -- Lists in the grammar of a line: LIST(p) is no p, or several with `,` between them; LIST1(p) has at least one.
-use Rattle.std.specs.Prelude.{ℕ, zero, suc, Bool, true, false, List, [], ◌∷◌, length, Option, Some, None, is_some, if◌then◌else◌}
-use Rattle.schema_core.specs.declared.tokens.Mark.TheVariants.{Colon, Comma, OpenBracket, CloseBracket, Semicolon, Equals, Differs, Arrow, Bars, Underscore, Dot, OpenBrace, CloseBrace}
-use Rattle.schema_core.specs.declared.tokens.Mark.{Mark}
+use Rattle.std.specs.Prelude.{ℕ, zero, suc, List, [], ◌∷◌, length, Option, Some, None, is_some, if◌then◌else◌}
+use Rattle.schema_core.specs.declared.tokens.Mark.TheVariants.{Comma}
 use Rattle.schema_core.specs.declared.tokens.Token.{Token}
-use Rattle.schema_core.specs.declared.tokens.Token.TheVariants.{Name, Number, Quoted, Sign}
+use Rattle.schema_core.specs.declared.tokens.Token.TheVariants.{Sign}
 
 -- What p reads at the front of the tokens, and the tokens after it. None: no p stands there.
 abbrev pub Reader : Type 0 → Type 0

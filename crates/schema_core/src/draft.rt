@@ -3,7 +3,6 @@
 ghost use Rattle.std.specs.Prelude.{◌≡◌, ◌<◌, IfOk, None};
 ghost use Rattle.std.specs.List.{list_any};
 ghost use Rattle.std.specs.Str.{bytes_eq};
-ghost use Rattle.schema_core.specs.Limits.{AreLimits};
 ghost use Rattle.schema_core.specs.SchemaFiles.{has_table, has_attr, has_twice, empty_draft, with_latest, closed, schema_of, domain_fault, has_too_many_values, add_table, with_attr, add_attr, add_rules, add_script, add_line};
 ghost use Rattle.schema_core.specs.Drafts.{Steps};
 
@@ -12,7 +11,7 @@ use crate::list::List;
 use crate::schema::{Attr, Domain, Schema, SchemaCause, Table};
 use crate::schema_lines::SchemaLine;
 use crate::text::{Text, Texts};
-use std::alloc::{AllocError, AllocFailed, Global};
+use std::alloc::{AllocError, Global};
 use std::collections::HashSet;
 
 /// What was read of a schema file. `attr` lines add to the latest table.

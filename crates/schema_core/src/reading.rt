@@ -316,9 +316,9 @@ fn tokens_of(alloc: Global, line: &[u8]) -> Result<LineTokens, AllocError>
     }
 }
 
-#[tactic(auto, unfolding(crate::specs::Tokens::line_tokens))]
 /// What a line without its end is. A line that isn't UTF-8 is that first of all, also where it begins like a
 /// comment.
+#[tactic(auto, unfolding(crate::specs::Tokens::line_tokens))]
 pub fn read_tokens(alloc: Global, line: &[u8]) -> Result<LineTokens, AllocError>
     ensures { IfOk result (λ found. found ≡ line_tokens line.now) }
 {

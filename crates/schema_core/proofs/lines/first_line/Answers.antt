@@ -1,4 +1,4 @@
-use Rattle.std.proofs.Common.{◌+◌, sym, ◌∙◌, ap, arith, length, drop, take, suc, refl, add-one, length-take-le}
+use Rattle.std.proofs.Common.{◌+◌, arith, drop, refl, add-one}
 use Rattle.std.proofs.lemmas.List.{length-take}
 use Rattle.schema_core.proofs.Runs.{unwrap_or-position_or_len}
 use Rattle.schema_core.proofs.LineLemmas.{lines-first, drop_past}

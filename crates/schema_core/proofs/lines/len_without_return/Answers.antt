@@ -1,4 +1,4 @@
-use Rattle.std.proofs.Common.{sym, ◌∙◌, ap, arith, length, take}
+use Rattle.std.proofs.Common.{◌∙◌, arith}
 use Rattle.std.proofs.lemmas.List.{take_all}
 use Rattle.schema_core.proofs.LineLemmas.{without_return-dropped, without_return-kept, without_return-empty}
 use Rattle.schema_core.proofs.lines.len_without_return.Goals as goal

@@ -1,4 +1,4 @@
-use Rattle.std.proofs.Common.{sym, ◌∙◌, ap, arith, length, drop, take, length-drop}
+use Rattle.std.proofs.Common.{arith}
 use Rattle.schema_core.proofs.LineLemmas.{line_in_file}
 use Rattle.schema_core.proofs.lines.line_end.Goals as goal
 

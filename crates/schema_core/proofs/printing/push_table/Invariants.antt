@@ -1,4 +1,4 @@
-use Rattle.std.proofs.Common.{◌≡◌, ◌++◌, ◌∷◌, [], take}
+use Rattle.std.proofs.Common.{◌≡◌, ◌++◌, ◌∷◌, take}
 use Rattle.std.specs.Prelude.{map}
 use Rattle.schema_core.specs.Spelling.{file_text}
 use Rattle.schema_core.specs.SchemaText.{head_text, attr_text}

@@ -1,6 +1,6 @@
-use Rattle.std.proofs.Common.{◌++◌, List, ℕ, Bor, sym, ◌∙◌, ap}
+use Rattle.std.proofs.Common.{◌++◌, List, ℕ, Bor, ◌∙◌, ap}
 use Rattle.schema_core.specs.Tokens.{quoted}
-use Rattle.schema_core.proofs.PrintLemmas.{separator, separator-first, separator-later, values-step}
+use Rattle.schema_core.proofs.PrintLemmas.{separator-first, separator-later, values-step}
 use Rattle.schema_core.proofs.printing.push_values.Goals as goal
 use Rattle.schema_core.proofs.printing.push_values.Goals.{then-i-eq0, else-i-eq0}
 

@@ -1,4 +1,3 @@
-use Rattle.std.proofs.Common.{sym, ◌∙◌, ap, arith, length}
 use Rattle.schema_core.proofs.SpelledTexts.{has_one_spelling}
 use Rattle.schema_core.proofs.PushLemmas.{quoted-whole, quoted-stopped_in, quoted-stopped_last, OnErr-from}
 use Rattle.schema_core.proofs.quoting.push_quoted.Goals as goal

@@ -1,4 +1,4 @@
-use Rattle.std.proofs.Common.{◌≡◌, ◌++◌, ◌∷◌, [], take}
+use Rattle.std.proofs.Common.{◌≡◌, ◌++◌, ◌∷◌, take}
 use Rattle.std.specs.List.{flat_map}
 use Rattle.schema_core.specs.Tokens.{piece}
 use Rattle.schema_core.proofs.quoting.push_quoted.Given as goal

@@ -1,4 +1,3 @@
-use Rattle.std.specs.Str.Parse.{AllDigits}
 use Rattle.schema_core.proofs.Digits.{AllDigits-front}
 use Rattle.schema_core.proofs.reading.number_at.Goals as goal
 

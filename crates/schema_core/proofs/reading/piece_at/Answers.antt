@@ -1,4 +1,4 @@
-use Rattle.std.proofs.Common.{◌≡◌, ◌⊎◌, inl, inr, Some, None}
+use Rattle.std.proofs.Common.{inl, inr, Some, None}
 use Rattle.schema_core.proofs.Texts.{text_from-lone_escape, text_from-at_escape, text_from-at_break, text_from-plain}
 use Rattle.schema_core.proofs.reading.piece_at.Goals as goal
 

@@ -1,6 +1,4 @@
-use Rattle.std.proofs.Common.{sym, ◌∙◌, ap}
-use Rattle.schema_core.specs.Tokens.{text_from}
-use Rattle.schema_core.proofs.Texts.{with_front, text_from-at_quote, text_from-at_end}
+use Rattle.schema_core.proofs.Texts.{text_from-at_quote, text_from-at_end}
 use Rattle.schema_core.proofs.reading.text_bytes.Goals as goal
 
 pub returns-then-byte-eq39 : goal.returns-then-byte-eq39

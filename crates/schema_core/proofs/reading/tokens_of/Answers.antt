@@ -1,8 +1,8 @@
-use Rattle.std.proofs.Common.{◌<◌, sym, ◌∙◌, ap, subst, arith, length}
+use Rattle.std.proofs.Common.{sym, ◌∙◌, ap, subst, arith}
 use Rattle.std.specs.Str.{IsUtf8}
 use Rattle.std.specs.Option.{option_map}
 use Rattle.schema_core.specs.Tokens.{token_at}
-use Rattle.schema_core.proofs.TokenLemmas.{Left, Left-end, Left-none, Left-touching, Left-token, token_at-Follows, IsUtf8-after_blanks, length-after_blanks, is_nil, is_some}
+use Rattle.schema_core.proofs.TokenLemmas.{Left-end, Left-none, Left-touching, Left-token, token_at-Follows, IsUtf8-after_blanks, length-after_blanks, is_nil, is_some}
 use Rattle.schema_core.proofs.reading.tokens_of.Goals as goal
 
 pub returns-then-is_empty : goal.returns-then-is_empty

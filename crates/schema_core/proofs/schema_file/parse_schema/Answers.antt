@@ -1,6 +1,6 @@
-use Rattle.std.proofs.Common.{sym, ◌∙◌, ap, refl}
+use Rattle.std.proofs.Common.{refl}
 use Rattle.schema_core.proofs.TokenLemmas.{is_nil}
-use Rattle.schema_core.proofs.SchemaFileLemmas.{FileLeft, FileLeft-whole, FileLeft-line, FileLeft-refused, FileLeft-end}
+use Rattle.schema_core.proofs.SchemaFileLemmas.{FileLeft-whole, FileLeft-line, FileLeft-refused, FileLeft-end}
 use Rattle.schema_core.proofs.ValidSchemas.{reads-IsValidSchema}
 use Rattle.schema_core.proofs.schema_file.parse_schema.Goals as goal
 

@@ -1,8 +1,7 @@
-use Rattle.std.proofs.Common.{length, sym, ◌∙◌, ap, refl, arith, ◌++◌, ◌∷◌, []}
-use Rattle.schema_core.specs.TokenLists.{list1_at}
+use Rattle.std.proofs.Common.{sym, ◌∙◌, ap, refl, arith, ◌++◌, ◌∷◌, []}
 use Rattle.schema_core.specs.SchemaLines.{value_at}
 use Rattle.schema_core.proofs.TokenLemmas.{is_nil, is_some}
-use Rattle.schema_core.proofs.ListLemmas.{ListLeft, ListLeft-whole, ListLeft-more, length-behind_comma}
+use Rattle.schema_core.proofs.ListLemmas.{ListLeft-whole, ListLeft-more, length-behind_comma}
 use Rattle.schema_core.proofs.SchemaLineLemmas.{value_at-takes, values_of-none, values_of-ended, values_of-more_follows}
 use Rattle.schema_core.proofs.schema_lines.values_of.Goals as goal
 
