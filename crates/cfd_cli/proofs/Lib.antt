@@ -1,2 +1,4 @@
 pub mod Endings
-pub mod Tables
+pub mod Steps
+pub mod TableLoop
+pub mod Transcripts

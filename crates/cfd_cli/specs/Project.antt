@@ -1,12 +1,6 @@
--- What the code keeps of a project's files, as lists of bytes.
-use Rattle.std.specs.Prelude.{map}
+-- What the code keeps of a project, as contracts see it.
 use Rattle.cfd_cli.specs.declared.project.Project.{Project}
-use Rattle.cfd_cli.specs.Reading.{ProjectFiles}
+use Rattle.cfd_cli.specs.Reading.{Loaded}
 
-abbrev pub files_in : Project → ProjectFiles
-files_in project = record {
-  schema = project.schema;
-  rules = project.rules.items;
-  tables = map (λ bytes. bytes.items) project.tables.items;
-  script = project.script.items;
-}
+abbrev pub loaded_in : Project → Loaded
+loaded_in project = record { bench = project.bench; commands = project.commands }

@@ -1,5 +1,6 @@
 -- What reading a project comes to, where the shelf tells what it holds: a value, or the first refusal.
-use Rattle.std.specs.Prelude.{◌≡◌, ℕ, ◌-◌, List, [], ◌∷◌, length, min, nat_lt, if◌then◌else◌, Option, None, Some, Result, Ok, Err}
+use Rattle.std.specs.Prelude.{◌≡◌, ℕ, ◌-◌, List, [], ◌∷◌, length, min, nat_lt, if◌then◌else◌, Option, None, Some, unwrap_or, Result, Ok, Err, slice_get}
+use Rattle.std.specs.Option.{option_map_or}
 use Rattle.shelf_io.specs.Files.{Files, file_at}
 use Rattle.schema_core.specs.SchemaFiles.{reads}
 use Rattle.schema_core.specs.declared.limits.Limits.{Limits}
@@ -7,6 +8,12 @@ use Rattle.schema_core.specs.declared.schema.Schema.{Schema}
 use Rattle.schema_core.specs.declared.schema.Table.{Table}
 use Rattle.schema_core.specs.declared.schema.SchemaFault.{SchemaFault}
 use Rattle.schema_core.specs.declared.schema.SchemaFault.TheVariants as schema_fault
+use Rattle.rule_model.specs.declared.decl.Decl.{Decl}
+use Rattle.rule_model.specs.Books.{Book}
+use Rattle.csv_tables.specs.TableFiles.{table_of}
+use Rattle.csv_tables.specs.declared.fault.TableFault.{TableFault}
+use Rattle.bench_core.specs.Edited.{BenchState, loaded}
+use Rattle.session.specs.declared.command.Command.{Command}
 use Rattle.cfd_cli.specs.declared.refusal.Cause.{Cause}
 use Rattle.cfd_cli.specs.declared.refusal.Cause.TheVariants as cause
 use Rattle.cfd_cli.specs.declared.refusal.Refusal.{Refusal}
@@ -46,36 +53,68 @@ abbrev pub fetched_if_named : Limits → Files → ℕ → Option (List ℕ) →
 fetched_if_named limits files left None = Ok ([], left)
 fetched_if_named limits files left (Some name) = fetched limits files left name
 
--- the bytes of the tables' files, one after the other
-abbrev pub fetched_tables : Limits → Files → ℕ → List Table → Read (List (List ℕ) × ℕ)
-fetched_tables limits files left [] = Ok ([], left)
-fetched_tables limits files left (table ∷ tables) =
-    fetched limits files left table.file >>= λ file.
-    fetched_tables limits files file.1 tables >>= λ others.
-    Ok (file.0 ∷ others.0, others.1)
-
--- a schema, or its fault as the cause of a refusal; want of memory is no fault of a file
+-- a fault of the schema file as the cause of a refusal; want of memory is no fault of a file
 abbrev pub schema_read : Result Schema SchemaFault → Result Schema Cause
 schema_read (Ok schema) = Ok schema
 schema_read (Err (schema_fault.At line why)) = Err (cause.Schema line why)
 schema_read (Err schema_fault.Memory) = Err cause.TooLarge
 
--- the files of a project
-pub record ProjectFiles : Type 0 where
-  pub schema : Schema
-  pub rules : List ℕ
-  pub tables : List (List ℕ)
-  pub script : List ℕ
+abbrev pub table_read : {X : Type 0} → Result X TableFault → Result X Cause
+table_read (Ok rows) = Ok rows
+table_read (Err fault) = Err (cause.Table fault)
 
--- the files of a project in the order in which they are fetched: schema, rules, tables, script
-unfoldable pub project_files : Limits → Files → List ℕ → Read ProjectFiles
-project_files limits files name =
+-- the rows of a table
+abbrev pub Tuples : Type 0
+Tuples = List (List (List ℕ))
+
+-- the rows of a table's file, and how many bytes the files after it may have
+unfoldable pub read_table : Limits → Files → ℕ → Table → Read (Tuples × ℕ)
+read_table limits files left table =
+    fetched limits files left table.file >>= λ file.
+    about table.file (table_read (table_of table limits file.0)) >>= λ rows.
+    Ok (rows, file.1)
+
+-- the rows of the tables' files, one after the other
+abbrev pub read_tables : Limits → Files → ℕ → List Table → Read (List Tuples × ℕ)
+read_tables limits files left [] = Ok ([], left)
+read_tables limits files left (table ∷ tables) =
+    read_table limits files left table >>= λ first.
+    read_tables limits files first.1 tables >>= λ others.
+    Ok (first.0 ∷ others.0, others.1)
+
+-- the file name of a numbered table
+abbrev pub file_of : Schema → ℕ → List ℕ
+file_of schema table = option_map_or (λ (t : Table). t.file) (slice_get schema.tables table) []
+
+-- What the readers of rules and scripts made of their bytes, and with which table the tables were too many, if any.
+-- Which bytes are read so isn't said here.
+pub record Parsed : Type 0 where
+  pub decls : Result (List Decl) Cause
+  pub full : Option ℕ
+  pub commands : Result (List Command) Cause
+
+-- the tables as they are loaded, or the table with which they are too many
+abbrev pub loaded_or_full : Option ℕ → Book → Limits → List Tuples → Read BenchState
+loaded_or_full None rules limits tables = Ok (loaded rules limits tables)
+loaded_or_full (Some table) rules limits tables = Err (record { what = file_of rules.schema table; cause = cause.RowsFull })
+
+-- a project that was read: its rules and tables, and the commands of its script
+pub record Loaded : Type 0 where
+  pub bench : BenchState
+  pub commands : List Command
+
+-- a project in the order in which its files are fetched and read: schema, rules, tables, script
+unfoldable pub project_read : Parsed → Limits → Files → List ℕ → Read Loaded
+project_read parsed limits files name =
     fetched limits files limits.all_bytes name >>= λ first.
     about name (schema_read (reads limits first.0)) >>= λ schema.
     fetched_if_named limits files first.1 schema.rules >>= λ rules.
-    fetched_tables limits files rules.1 schema.tables >>= λ tables.
+    about (unwrap_or schema.rules name) parsed.decls >>= λ decls.
+    read_tables limits files rules.1 schema.tables >>= λ tables.
+    loaded_or_full parsed.full (record { schema = schema; limits = limits; decls = decls }) limits tables.0 >>= λ bench.
     fetched_if_named limits files tables.1 schema.script >>= λ script.
-    Ok (record { schema = schema; rules = rules.0; tables = tables.0; script = script.0 })
+    about (unwrap_or schema.script name) parsed.commands >>= λ commands.
+    Ok (record { bench = bench; commands = commands })
 
 -- what was read is what reading comes to, unless a fetch failed or memory ran out
 abbrev pub Fails : {Y : Type 0} → Stop → Read Y → Type 0

@@ -7,6 +7,7 @@ mod program;
 mod project;
 mod refusal;
 mod status;
+mod tables;
 mod words;
 
 pub use program::{run, run_with};

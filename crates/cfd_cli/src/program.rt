@@ -2,18 +2,22 @@
 ghost use Rattle.std.specs.Prelude.{◌≡◌, ◌≢◌, ◌+◌, ◌≤◌, ◌⊎◌};
 ghost use Rattle.schema_core.specs.Limits.{AreLimits, standard};
 ghost use Rattle.shelf_io.specs.Rising.{Rose};
-ghost use Rattle.cfd_cli.specs.Output.{Only, Output, Writes, usage_line};
+ghost use Rattle.cfd_cli.specs.Output.{IsAnswered, IsEndOf, Only, Output, Writes, usage_line};
+ghost use Rattle.cfd_cli.specs.Project.{loaded_in};
 ghost use Rattle.cfd_cli.specs.Refusals.{refusal_line};
 ghost use Rattle.cfd_cli.specs.Words.{HasForm};
 
 use crate::fetching::Stop;
-use crate::project::read_project;
+use crate::project::{Project, read_project};
 use crate::refusal::{Refusal, refusal_line};
 use crate::status::Status;
 use crate::words::{Form, form_of, project_of};
+use bench_core::Bench;
 use schema_core::{Limits, Text, Texts};
+use session::{ServeFault, serve};
 use shelf_io::{PutFailed, Shelf, Sink, write_out};
-use std::alloc::Global;
+use std::alloc::{AllocError, Global};
+use violation_report::list;
 
 const USAGE: &str =
     "usage: run PROJECT | report PROJECT | consistent PROJECT TABLE BUDGET | implies PROJECT DEP BUDGET | check PROJECT CERT | generate N | cover PROJECT TABLE BUDGET | find PROJECT TABLE WIDTH SUPPORT | desk PROJECT EVENTS\n";
@@ -87,10 +91,37 @@ fn run_project<S: Shelf, O: Sink>(
     ensures fetches { S.calls shelf.new ≤ S.calls shelf.old + 67 }
 {
     match read_project(alloc, shelf, project_of(words), limits) {
-        Ok(_project) => Status::Clean,
+        Ok(project) => answer(alloc, project, out),
         Err(Stop::Refused(refusal)) => tell_refusal(alloc, &refusal, out),
         Err(Stop::ReadFault) => Status::ReadFault,
         Err(Stop::Memory) => Status::Memory,
+    }
+}
+
+// Answers the script, and tells whether its last state has a violation.
+fn answer<O: Sink>(alloc: Global, project: Project, out: &mut O) -> Status
+    ensures written { Writes (IsAnswered (loaded_in project)) (O.written out.old) (O.written out.new) result }
+    ensures read { result ≢ Status.ReadFault }
+    ensures write_fault { result ≡ Status.WriteFault → Rose (O.faults out.old) (O.faults out.new) }
+{
+    let Project {
+        mut bench,
+        commands,
+    } = project;
+    match serve(alloc, &mut bench, &commands, out) {
+        Ok(()) => end_of(alloc, &bench),
+        Err(ServeFault::WriteFault) => Status::WriteFault,
+        Err(ServeFault::Memory) => Status::Memory,
+    }
+}
+
+fn end_of(alloc: Global, bench: &Bench) -> Status
+    ensures { IsEndOf bench.now result }
+{
+    match list(alloc, bench) {
+        Ok(lines) if lines.as_slice().is_empty() => Status::Clean,
+        Ok(_) => Status::Findings,
+        Err(AllocError) => Status::Memory,
     }
 }
 

@@ -1,10 +1,8 @@
 // A long walk beside two plain lists, and what a caller knows after going back and forward.
-ghost use Rattle.std.specs.Prelude.{◌≡◌, ◌↔◌, ◌≢◌, [], IsTrue};
+ghost use Rattle.std.specs.Prelude.{◌≡◌};
 
-use crate::{Change, Edit, Log};
-use row_store::{RowId, Tuple};
-use schema_core::list::List;
-use schema_core::text::Text;
+use crate::{Change, Log};
+use row_store::RowId;
 use std::test::Fail;
 
 fn change(row: RowId) -> Change {

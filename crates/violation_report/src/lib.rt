@@ -7,3 +7,6 @@ mod listing;
 
 pub use line::{Line, line_text, push_line};
 pub use listing::list;
+
+#[cfg(test)]
+mod tests;

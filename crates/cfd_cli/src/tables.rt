@@ -1,0 +1,80 @@
+// The files of the tables.
+ghost use Rattle.std.specs.Prelude.{◌≡◌, ◌≢◌, ◌+◌, ◌≤◌, ◌^◌, length, All, Some, Ok, Err, IfOk, IfErr};
+ghost use Rattle.std.specs.List.{AllZip};
+ghost use Rattle.schema_core.specs.Limits.{AreLimits};
+ghost use Rattle.schema_core.specs.Rows.{IsRowOf};
+ghost use Rattle.shelf_io.specs.Files.{Files};
+ghost use Rattle.shelf_io.specs.Rising.{Rose};
+ghost use Rattle.csv_tables.specs.TableFiles.{table_of};
+ghost use Rattle.cfd_cli.specs.Fetching.{IsReadFault};
+ghost use Rattle.cfd_cli.specs.Reading.{Gives, about, table_read, read_table, read_tables};
+
+use crate::fetching::{Stop, fetch_file, refused};
+use crate::refusal::Cause;
+use csv_tables::TableFault;
+use schema_core::{Limits, List, Table, Texts};
+use shelf_io::Shelf;
+use std::alloc::Global;
+
+/// The rows of each table, in the order of the schema.
+pub fn read_tables<S: Shelf>(
+    alloc: Global,
+    shelf: &mut S,
+    tables: &[Table],
+    limits: &Limits,
+    left: &mut u64,
+) -> Result<List<List<Texts>>, Stop>
+    requires limits { AreLimits limits.now }
+    requires left { left.old ≤ 2 ^ 32 }
+    ensures tables { (files : Files) → S.holding shelf.old ≡ Some files
+        → Gives (λ all. (all, left.new)) result (read_tables limits.now files left.old tables.now) }
+    ensures valid { IfOk result (λ all. AllZip (λ table rows. All (IsRowOf table.attrs limits.now.cell_bytes) rows) tables.now all) }
+    ensures read_fault { IsReadFault result → Rose (S.faults shelf.old) (S.faults shelf.new) }
+    ensures left { left.new ≤ left.old }
+    ensures faults { S.faults shelf.old ≤ S.faults shelf.new }
+    ensures calls { S.calls shelf.new ≤ S.calls shelf.old + length tables.now }
+    ensures holding { S.holding shelf.new ≡ S.holding shelf.old }
+{
+    let mut all = List::new(alloc);
+    for table in tables {
+        let rows = read_table(alloc, shelf, table, limits, left)?;
+        all.push(rows)?;
+    }
+    Ok(all)
+}
+
+#[tactic(auto, unfolding(crate::specs::Reading::read_table))]
+fn read_table<S: Shelf>(
+    alloc: Global,
+    shelf: &mut S,
+    table: &Table,
+    limits: &Limits,
+    left: &mut u64,
+) -> Result<List<Texts>, Stop>
+    requires limits { AreLimits limits.now }
+    requires left { left.old ≤ 2 ^ 32 }
+    ensures table { (files : Files) → S.holding shelf.old ≡ Some files
+        → Gives (λ rows. (rows, left.new)) result (read_table limits.now files left.old table.now) }
+    ensures valid { IfOk result (All (IsRowOf table.now.attrs limits.now.cell_bytes)) }
+    ensures read_fault { IsReadFault result → Rose (S.faults shelf.old) (S.faults shelf.new) }
+    ensures left { left.new ≤ left.old }
+    ensures faults { S.faults shelf.old ≤ S.faults shelf.new }
+    ensures calls { S.calls shelf.new ≤ S.calls shelf.old + 1 }
+    ensures holding { S.holding shelf.new ≡ S.holding shelf.old }
+{
+    let bytes = fetch_file(shelf, &table.file, limits, left)?;
+    rows_of(alloc, table, &bytes, limits)
+}
+
+fn rows_of(alloc: Global, table: &Table, bytes: &[u8], limits: &Limits) -> Result<List<Texts>, Stop>
+    requires { AreLimits limits.now }
+    ensures rows { Gives (λ rows. rows) result (about table.now.file (table_read (table_of table.now limits.now bytes.now))) }
+    ensures valid { IfOk result (All (IsRowOf table.now.attrs limits.now.cell_bytes)) }
+    ensures no_fetch { IsReadFault result → ⊥ }
+{
+    match csv_tables::read_table(alloc, table, bytes, limits) {
+        Ok(rows) => Ok(rows),
+        Err(TableFault::Memory) => Err(Stop::Memory),
+        Err(fault) => Err(refused(&table.file, Cause::Table(fault))),
+    }
+}
