@@ -1,5 +1,5 @@
 -- Cells in which the tests find nothing are valid.
-use Rattle.std.proofs.Common.{◌≡◌, ℕ, zero, suc, ◌+◌, ◌<◌, Bool, true, false, not, nat_eq, ◌&&◌, ◌||◌, List, [], ◌∷◌, ◌++◌, length, get_or, map, Option, Some, None, All, Contains, refl, sym, ap, ◌∙◌, subst, arith}
+use Rattle.std.proofs.Common.{◌≡◌, ℕ, suc, Bool, true, false, not, nat_eq, ◌&&◌, ◌||◌, List, [], ◌∷◌, length, map, None, Contains, refl, arith}
 use Rattle.std.specs.List.{AllByRecursion, AllZip, list_any, zip}
 use Rattle.std.specs.Str.{bytes_eq}
 use Rattle.schema_core.specs.Names.{IsConstant}
@@ -14,7 +14,7 @@ use Rattle.std.proofs.lemmas.List.Elements.{All-from_recursion, recursion_from_A
 use Rattle.std.proofs.lemmas.Slice.Eq.{bytes_eq-Decides}
 use Rattle.rule_model.specs.declared.decl.CfdRow.{CfdRow}
 use Rattle.rule_model.specs.declared.decl.CfdDecl.{CfdDecl}
-use Rattle.rule_model.specs.Declarations.{constants_of, cells_of, IsAsWide, IsWrittenSet, IsWrittenCell}
+use Rattle.rule_model.specs.Declarations.{constants_of, IsAsWide, IsWrittenSet, IsWrittenCell}
 use Rattle.rule_model.specs.Dependencies.{attr_number, domain_at, IsConstantOf, IsSetOf, IsCellOf}
 use Rattle.rule_model.specs.Faults.{outside_in, outside_in_cell, repeated_in_cell, width_mismatch}
 use Rattle.rule_model.proofs.Passing.{none_if, both_true, all_pass, none_found, map_none, not_false, each_weaker, distinct_if_none}

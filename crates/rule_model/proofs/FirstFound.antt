@@ -1,7 +1,7 @@
 -- The first of several things found, part by part.
-use Rattle.std.proofs.Common.{◌≡◌, ℕ, ◌+◌, ◌<◌, List, [], ◌∷◌, ◌++◌, length, get_or, map, drop, Option, Some, None, Result, Ok, Err, refl, sym, ap, ◌∙◌, subst}
+use Rattle.std.proofs.Common.{◌≡◌, ℕ, ◌+◌, ◌<◌, List, [], ◌∷◌, ◌++◌, length, get_or, map, drop, Option, Some, None, Result, refl, sym, ap, ◌∙◌, subst}
 use Rattle.std.specs.List.{zip}
-use Rattle.std.proofs.lemmas.List.{at_drop_more, drop_more, map-append, get_or-map}
+use Rattle.std.proofs.lemmas.List.{drop_more, map-append, get_or-map}
 use Rattle.rule_model.specs.declared.fault.RuleFault.{RuleFault}
 use Rattle.rule_model.specs.declared.fault.AddFault.{AddFault}
 use Rattle.rule_model.specs.declared.fault.AddFault.TheVariants.{Rule, Memory}

@@ -1,12 +1,12 @@
 -- A declaration in which no fault is found stands for valid dependencies, and joins a book.
-use Rattle.std.proofs.Common.{◌≡◌, ℕ, zero, suc, ◌+◌, ◌<◌, ◌≤◌, Bool, true, false, cond, List, [], ◌∷◌, ◌++◌, length, get_or, take, drop, map, Option, Some, None, Result, Ok, Err, All, sum_by, refl, sym, ap, ◌∙◌, subst, arith, inl, inr}
-use Rattle.std.specs.Prelude.{nat_le, slice_index, unwrap_or}
-use Rattle.std.specs.List.{AllByRecursion, AllZip, slice_get, range_with_len, flat_map, zip}
+use Rattle.std.proofs.Common.{◌≡◌, ℕ, zero, suc, ◌+◌, ◌<◌, ◌≤◌, false, cond, List, [], ◌∷◌, ◌++◌, length, get_or, take, map, Option, Some, None, All, sum_by, refl, sym, ap, ◌∙◌, subst, arith, inl, inr}
+use Rattle.std.specs.Prelude.{slice_index, unwrap_or}
+use Rattle.std.specs.List.{AllByRecursion, AllZip, flat_map, zip}
 use Rattle.std.specs.Option.{is_some}
 use Rattle.std.specs.Str.{bytes_eq}
 use Rattle.std.proofs.lemmas.Bool.{cases_lt, leb-true}
-use Rattle.std.proofs.lemmas.List.{append-nil, length-append, length-map, get_or-map, get_or_append_left, get_or_at, take-append-le, take_at}
-use Rattle.std.proofs.lemmas.List.Concat.{flat_map-append, length-flat_map}
+use Rattle.std.proofs.lemmas.List.{append-nil, length-append, length-map, get_or_append_left, get_or_at, take-append-le, take_at}
+use Rattle.std.proofs.lemmas.List.Concat.{flat_map-append}
 use Rattle.std.proofs.lemmas.List.Elements.{All-from_recursion, recursion_from_All, All-append, All-push, All-nil}
 use Rattle.std.proofs.lemmas.List.FromFn.{get_or-map-range_with_len, length-map-range_with_len}
 use Rattle.std.proofs.lemmas.List.Quantifiers.{position-Some}
@@ -19,20 +19,18 @@ use Rattle.schema_core.specs.declared.limits.Limit.TheVariants.{Deps, TableauRow
 use Rattle.schema_core.specs.declared.schema.Attr.{Attr}
 use Rattle.schema_core.specs.declared.schema.Table.{Table}
 use Rattle.schema_core.specs.declared.schema.Schema.{Schema}
-use Rattle.cfd_semantics.specs.declared.pattern.Pattern.{Pattern}
 use Rattle.cfd_semantics.specs.declared.pattern.Pattern.TheVariants.{Any}
 use Rattle.rule_model.specs.declared.decl.CfdRow.{CfdRow}
 use Rattle.rule_model.specs.declared.decl.CfdDecl.{CfdDecl}
 use Rattle.rule_model.specs.declared.decl.Decl.{Decl}
 use Rattle.rule_model.specs.declared.decl.Decl.TheVariants.{Cfd}
 use Rattle.rule_model.specs.declared.dep.Dep.{Dep}
-use Rattle.rule_model.specs.declared.fault.RuleFault.{RuleFault}
-use Rattle.rule_model.specs.declared.fault.RuleFault.TheVariants.{UnknownTable, TooMany}
+use Rattle.rule_model.specs.declared.fault.RuleFault.TheVariants.{UnknownTable}
 use Rattle.rule_model.specs.Declarations.{cells_of, dep_count, row_count, IsAsWide, IsWrittenCell, IsWrittenRow, IsWrittenCfd, IsWritten}
 use Rattle.rule_model.specs.Dependencies.{table_number, attrs_at, attr_number, domain_at, row_at, dep_at, deps_at, deps_of, AreNumbersOf, IsCellOf, IsValidRow, IsValidDep}
-use Rattle.rule_model.specs.Faults.{or_else, first_of, first_in, outside_in_cell, outside_domain, repeated_in_cell, repeated_constant, width_mismatch, duplicate_rule, unknown_table, unknown_attr, repeated_attr, too_many, fault_in_names, fault_in_rows, fault_in_counts, fault_of_cfd, fault_of}
-use Rattle.rule_model.specs.Books.{Book, with_decl, book_deps, book_fault, AreFaultless, IsBook, IsKept}
-use Rattle.rule_model.proofs.Passing.{both_none, none_in, none_if, map_none, each_weaker, distinct_if_none}
+use Rattle.rule_model.specs.Faults.{first_in, outside_in_cell, outside_domain, repeated_in_cell, repeated_constant, width_mismatch, duplicate_rule, unknown_table, unknown_attr, repeated_attr, too_many, fault_in_names, fault_in_rows, fault_in_counts, fault_of}
+use Rattle.rule_model.specs.Books.{Book, with_decl, book_deps, book_fault, AreFaultless, IsKept}
+use Rattle.rule_model.proofs.Passing.{both_none, none_in, none_if, map_none, distinct_if_none}
 use Rattle.rule_model.proofs.Known.{IsKnown, known_if_none, numbers_within, numbers_distinct}
 use Rattle.rule_model.proofs.Cells.{cells_if_none, wide_if_none}
 

@@ -4,11 +4,11 @@
 #![tactic(auto)]
 
 pub mod book;
-pub mod checks;
+mod checks;
 pub mod decl;
 pub mod dep;
 pub mod fault;
-pub mod numbering;
+mod numbering;
 
 pub use book::RuleBook;
 pub use decl::{Cell, CfdDecl, CfdRow, Decl};

@@ -1,5 +1,8 @@
 //! A book, with ample memory.
 
+ghost use Rattle.std.specs.Prelude.{IfOk};
+ghost use Rattle.rule_model.specs.Declarations.{IsWritten};
+
 use super::*;
 use cfd_semantics::Pattern;
 use schema_core::{Limits, List, Text, parse_schema};

@@ -1,5 +1,7 @@
 //! Rule files with their rule book, or with the line and the cause of their refusal.
 
+ghost use Rattle.schema_core.specs.Limits.{AreLimits};
+
 use super::*;
 use rule_model::RuleFault;
 use schema_core::{Limits, parse_schema};

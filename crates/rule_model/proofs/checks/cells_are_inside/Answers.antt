@@ -1,10 +1,9 @@
-use Rattle.std.proofs.Common.{◌≡◌, ◌+◌, ◌<◌, length, get_or, drop, List, Option, None, sym, ap, subst, ◌∙◌, arith}
+use Rattle.std.proofs.Common.{◌≡◌, ◌+◌, ◌<◌, length, drop, sym, ap, subst, ◌∙◌, arith}
 use Rattle.std.specs.List.{zip}
 use Rattle.std.proofs.lemmas.Result.{err_from_is_err_and}
 use Rattle.schema_core.specs.declared.schema.Domain.{Domain}
 use Rattle.rule_model.specs.Dependencies.{attr_number, domain_at}
 use Rattle.rule_model.specs.Faults.{Tells, or_else, first_in, outside_in, outside_in_cell}
-use Rattle.rule_model.specs.declared.fault.RuleFault.{RuleFault}
 use Rattle.rule_model.proofs.FirstFound.{Tells-or_else, or_else-none, first_in-zip, number_there}
 use Rattle.rule_model.proofs.checks.cells_are_inside.Goals as goal
 use Rattle.rule_model.proofs.checks.cells_are_inside.Goals.{After-cell_is_inside}
