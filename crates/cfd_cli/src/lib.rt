@@ -14,4 +14,6 @@ pub use program::{run, run_with};
 pub use status::Status;
 
 #[cfg(test)]
+mod project_tests;
+#[cfg(test)]
 mod tests;

@@ -1,0 +1,6 @@
+pub mod Around
+pub mod Choices
+pub mod Grown
+pub mod Index
+pub mod Models
+pub mod Weights

@@ -1,0 +1,5 @@
+pub mod Answer
+pub mod Enough
+pub mod Model
+pub mod Places
+pub mod Step

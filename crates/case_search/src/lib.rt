@@ -1,0 +1,14 @@
+// The search for an assignment that makes all clauses true: a model, or a case tree that refutes the clauses, or, where
+// the budget of leaves is spent before, a partial tree. From a budget of `enough` on it never gives up.
+#![tactic(auto)]
+
+mod bound;
+mod occurrences;
+mod search;
+mod step;
+
+pub use bound::enough;
+pub use search::{Found, decide};
+
+#[cfg(test)]
+mod tests;

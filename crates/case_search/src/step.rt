@@ -1,0 +1,264 @@
+// What the search does at a node.
+ghost use Rattle.std.specs.Prelude.{◌≡◌, ◌+◌, ◌^◌, ◌<◌, ◌≢◌, ◌⊎◌, ℕ, Some, None, true, false, length, IfSome, IfNone, IsSomeAnd, slice_get, [], ◌∷◌};
+ghost use Rattle.std.specs.Bool.{MatchBool};
+ghost use Rattle.std.specs.List.{All};
+ghost use Rattle.case_tree.specs.declared.clauses.Literal.{Literal};
+ghost use Rattle.case_tree.specs.declared.tree.Reason.{Reason};
+ghost use Rattle.case_tree.specs.CaseTree.{Holds, IsIn, value_on, var_count};
+ghost use Rattle.case_search.specs.Places.{IsIndexOf};
+ghost use Rattle.case_search.specs.Step.{HasTrue, IsAllChosen, IsForced, IsOpen, IsStep, IsWanted, NoReason, NothingForced, QuietAbove, QuietBut};
+
+use crate::occurrences::Occurrences;
+use case_tree::{Clauses, Literal, Reason, Trail, VarCell, holds};
+
+/// A leaf, since a reason holds; a split; or the end, since all clauses can be made true.
+#[derive(Clone, Copy, Debug, PartialEq, Eq)]
+pub enum Step {
+    Leaf(Reason),
+    Split(usize),
+    Model,
+}
+
+pub fn next_step(clauses: &Clauses, occurrences: &Occurrences, trail: &mut Trail) -> Step
+    requires vars { trail.old.vars ≡ var_count clauses.now.cells }
+    requires index { IsIndexOf clauses.now occurrences.now }
+    requires quiet { QuietAbove clauses.now trail.old.path }
+    ensures step { IsStep clauses.now trail.old.path result }
+    ensures trail { trail.new ≡ trail.old }
+{
+    if let Some(reason) = reason_here(clauses, occurrences, trail) {
+        return Step::Leaf(reason);
+    }
+    if let Some(var) = first_forced(clauses, occurrences, trail) {
+        return Step::Split(var);
+    }
+    match first_wanted(clauses, trail) {
+        Some(var) => Step::Split(var),
+        None => Step::Model,
+    }
+}
+
+// The first reason that holds, where none holds at the parent.
+fn reason_here(clauses: &Clauses, occurrences: &Occurrences, trail: &mut Trail) -> Option<Reason>
+    requires vars { trail.old.vars ≡ var_count clauses.now.cells }
+    requires index { IsIndexOf clauses.now occurrences.now }
+    requires quiet { QuietAbove clauses.now trail.old.path }
+    ensures found { IfSome result (Holds clauses.now trail.old.path) }
+    ensures none { IfNone result (NoReason clauses.now trail.old.path) }
+    ensures trail { trail.new ≡ trail.old }
+{
+    match trail.pop() {
+        Some(last) => {
+            trail.push(last);
+            reason_by(clauses, occurrences, trail, last.var)
+        }
+        None => empty_clause(clauses),
+    }
+}
+
+// At the root only an empty clause is a reason.
+fn empty_clause(clauses: &Clauses) -> Option<Reason>
+    ensures found { IfSome result (Holds clauses.now []) }
+    ensures none { IfNone result (NoReason clauses.now []) }
+{
+    for at in 0..clauses.clause_count() {
+        if clauses.clause(at).is_empty() {
+            return Some(Reason::Clause(at));
+        }
+    }
+    None
+}
+
+// The first reason that holds, where all that hold speak of the variable.
+fn reason_by(
+    clauses: &Clauses,
+    occurrences: &Occurrences,
+    trail: &Trail,
+    var: usize,
+) -> Option<Reason>
+    requires known { var < var_count clauses.now.cells }
+    requires index { IsIndexOf clauses.now occurrences.now }
+    requires quiet { QuietBut clauses.now trail.now.path var }
+    ensures found { IfSome result (Holds clauses.now trail.now.path) }
+    ensures none { IfNone result (NoReason clauses.now trail.now.path) }
+{
+    if let Some(at) = false_clause(clauses, trail, occurrences.of(var)) {
+        return Some(Reason::Clause(at));
+    }
+    let cell = clauses.cell_of(var);
+    if trail.gives(var, true) {
+        return pair_with(clauses, trail, cell, var);
+    }
+    if holds(clauses, trail, Reason::NoneOf(cell)) {
+        return Some(Reason::NoneOf(cell));
+    }
+    None
+}
+
+fn false_clause(clauses: &Clauses, trail: &Trail, places: &[usize]) -> Option<usize>
+    ensures found { IfSome result (λ at. Holds clauses.now trail.now.path (Reason.Clause at)) }
+    ensures none { IfNone result
+        (All (λ at. Holds clauses.now trail.now.path (Reason.Clause at) → ⊥) places.now) }
+{
+    for at in places {
+        if holds(clauses, trail, Reason::Clause(*at)) {
+            return Some(*at);
+        }
+    }
+    None
+}
+
+// Two true variables of the cell, one of them the given one, which is true.
+fn pair_with(clauses: &Clauses, trail: &Trail, at: usize, var: usize) -> Option<Reason>
+    requires there { IsSomeAnd (slice_get clauses.now.cells at) (λ cell. IsIn cell var) }
+    requires is_true { value_on trail.now.path var ≡ Some true }
+    ensures found { IfSome result (Holds clauses.now trail.now.path) }
+    ensures none { IfNone result
+        ((v : ℕ) → v ≢ var → IsSomeAnd (slice_get clauses.now.cells at) (λ cell. IsIn cell v)
+        → value_on trail.now.path v ≡ Some true → ⊥) }
+{
+    match other_true(&clauses.cells()[at], trail, var) {
+        Some(other) => {
+            if other < var {
+                Some(Reason::Two(other, var))
+            } else {
+                Some(Reason::Two(var, other))
+            }
+        }
+        None => None,
+    }
+}
+
+fn other_true(cell: &VarCell, trail: &Trail, var: usize) -> Option<usize>
+    requires { cell.now.first + cell.now.count < 2 ^ 64 }
+    ensures found { IfSome result
+        (λ other. IsIn cell.now other × (other ≢ var) × (value_on trail.now.path other ≡ Some true)) }
+    ensures none { IfNone result
+        ((v : ℕ) → v ≢ var → IsIn cell.now v → value_on trail.now.path v ≡ Some true → ⊥) }
+{
+    for other in cell.first..cell.first + cell.count {
+        if other != var && trail.gives(other, true) {
+            return Some(other);
+        }
+    }
+    None
+}
+
+// The first variable without a value that makes a reason hold at once when it is set, to true or to false.
+fn first_forced(clauses: &Clauses, occurrences: &Occurrences, trail: &mut Trail) -> Option<usize>
+    requires vars { trail.old.vars ≡ var_count clauses.now.cells }
+    requires index { IsIndexOf clauses.now occurrences.now }
+    requires quiet { NoReason clauses.now trail.old.path }
+    ensures open { IfSome result (IsOpen clauses.now trail.old.path) }
+    ensures forced { IfSome result (IsForced clauses.now trail.old.path) }
+    ensures none { IfNone result (NothingForced clauses.now trail.old.path) }
+    ensures trail { trail.new ≡ trail.old }
+{
+    for var in 0..clauses.vars() {
+        if trail.value(var).is_none() && is_forced(clauses, occurrences, trail, var) {
+            return Some(var);
+        }
+    }
+    None
+}
+
+fn is_forced(clauses: &Clauses, occurrences: &Occurrences, trail: &mut Trail, var: usize) -> bool
+    requires vars { trail.old.vars ≡ var_count clauses.now.cells }
+    requires index { IsIndexOf clauses.now occurrences.now }
+    requires quiet { NoReason clauses.now trail.old.path }
+    requires open { IsOpen clauses.now trail.old.path var }
+    ensures forced { MatchBool result (IsForced clauses.now trail.old.path var)
+        ((literal : Literal) → literal.var ≡ var → NoReason clauses.now (literal ∷ trail.old.path)) }
+    ensures trail { trail.new ≡ trail.old }
+{
+    let literal = Literal {
+        var,
+        positive: true,
+    };
+    if makes_reason(clauses, occurrences, trail, literal) {
+        return true;
+    }
+    let literal = Literal {
+        var,
+        positive: false,
+    };
+    makes_reason(clauses, occurrences, trail, literal)
+}
+
+fn makes_reason(
+    clauses: &Clauses,
+    occurrences: &Occurrences,
+    trail: &mut Trail,
+    literal: Literal,
+) -> bool
+    requires vars { trail.old.vars ≡ var_count clauses.now.cells }
+    requires index { IsIndexOf clauses.now occurrences.now }
+    requires quiet { NoReason clauses.now trail.old.path }
+    requires open { IsOpen clauses.now trail.old.path literal.var }
+    ensures made { MatchBool result ((reason : Reason) × Holds clauses.now (literal ∷ trail.old.path) reason)
+        (NoReason clauses.now (literal ∷ trail.old.path)) }
+    ensures trail { trail.new ≡ trail.old }
+{
+    trail.push(literal);
+    let reason = reason_by(clauses, occurrences, trail, literal.var);
+    let _ = trail.pop();
+    reason.is_some()
+}
+
+// The first variable without a value of the first demanded cell with no true variable.
+fn first_wanted(clauses: &Clauses, trail: &Trail) -> Option<usize>
+    requires { NoReason clauses.now trail.now.path }
+    ensures open { IfSome result (IsOpen clauses.now trail.now.path) }
+    ensures wanted { IfSome result (IsWanted clauses.now trail.now.path) }
+    ensures none { IfNone result (IsAllChosen clauses.now trail.now.path) }
+{
+    let cells = clauses.cells();
+    for at in 0..cells.len() {
+        if let Some(var) = wanted_in(&cells[at], trail) {
+            return Some(var);
+        }
+    }
+    None
+}
+
+fn wanted_in(cell: &VarCell, trail: &Trail) -> Option<usize>
+    requires { cell.now.first + cell.now.count < 2 ^ 64 }
+    ensures found { IfSome result (λ v. IsIn cell.now v × (value_on trail.now.path v ≡ None)
+        × (cell.now.demanded ≡ true) × ¬ HasTrue trail.now.path cell.now) }
+    ensures none { IfNone result (cell.now.demanded ≡ true
+        → HasTrue trail.now.path cell.now
+        ⊎ ((v : ℕ) → IsIn cell.now v → value_on trail.now.path v ≡ Some false)) }
+{
+    if !cell.demanded {
+        return None;
+    }
+    if has_true(cell, trail) {
+        return None;
+    }
+    first_open(cell, trail)
+}
+
+fn has_true(cell: &VarCell, trail: &Trail) -> bool
+    requires { cell.now.first + cell.now.count < 2 ^ 64 }
+    ensures { MatchBool result (HasTrue trail.now.path cell.now) (HasTrue trail.now.path cell.now → ⊥) }
+{
+    for var in cell.first..cell.first + cell.count {
+        if trail.gives(var, true) {
+            return true;
+        }
+    }
+    false
+}
+
+fn first_open(cell: &VarCell, trail: &Trail) -> Option<usize>
+    requires { cell.now.first + cell.now.count < 2 ^ 64 }
+    ensures found { IfSome result (λ v. IsIn cell.now v × (value_on trail.now.path v ≡ None)) }
+    ensures none { IfNone result ((v : ℕ) → IsIn cell.now v → value_on trail.now.path v ≢ None) }
+{
+    for var in cell.first..cell.first + cell.count {
+        if trail.value(var).is_none() {
+            return Some(var);
+        }
+    }
+    None
+}

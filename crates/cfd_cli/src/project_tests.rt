@@ -1,0 +1,325 @@
+// Whole projects, each with what the program writes and the status that it ends with.
+//
+// A case is a name, files behind `@`, and behind `=` the status and what is written. Files that a case leaves out are those of one
+// project: a schema, rules, a table with no row and an empty script.
+use super::*;
+use schema_core::{Limits, List, Text};
+use shelf_io::{MemoryShelf, MemorySink};
+use std::alloc::{AllocError, Global};
+use std::process::Abort;
+use std::test::Fail;
+
+const SCHEMA: &str =
+    "table cust 'cust.csv'\nattr CC in '01', '44'\nattr AC\nattr zip\nattr street\nattr city\nrules 'r'\nscript 's'\n";
+
+const RULES: &str =
+    "cfd f1 cust: [CC, zip] -> [street]\nrow '44', _ || _\ncfd f2 cust: [AC] -> [city]\nrow '131' || 'EDI'\n";
+
+const HEADER: &str = "CC,AC,zip,street,city\n";
+
+const PROJECTS: &str = "
+no row and no command
+= 0
+%%
+a pair of rows that differ on the right
+@ cust.csv
+CC,AC,zip,street,city
+44,131,EH4,High St,EDI
+44,131,EH4,Low St,EDI
+@ s
+list
+= 1
+pair f1.1 street cust 1 2
+pair f1.1 street cust 2 1
+listed 2
+%%
+rows that the pattern does not ask about
+@ cust.csv
+CC,AC,zip,street,city
+01,908,EH4,High St,NYC
+01,908,EH4,Low St,NYC
+@ s
+list
+= 0
+listed 0
+%%
+a row that breaks a constant by itself
+@ cust.csv
+CC,AC,zip,street,city
+01,131,A1,s,EDI
+01,131,A2,s,GLA
+@ s
+list
+= 1
+single f2.1 city cust 2
+listed 1
+%%
+the partner that is shown is the least
+@ cust.csv
+CC,AC,zip,street,city
+44,1,Z,a,c
+44,1,Z,a,c
+44,1,Z,b,c
+@ s
+list
+= 1
+pair f1.1 street cust 1 3
+pair f1.1 street cust 2 3
+pair f1.1 street cust 3 1
+listed 3
+%%
+rows that are inserted
+@ p
+table cust 'cust.csv'
+attr CC
+attr zip
+attr street
+rules 'r'
+script 's'
+@ r
+cfd f1 cust: [CC, zip] -> [street]
+row '44', _ || _
+@ cust.csv
+CC,zip,street
+@ s
+insert cust '44', 'EH4', 'High St'
+insert cust '44', 'EH4', 'Low St'
+insert cust '01', 'EH4', 'Mid St'
+list
+= 1
+inserted cust 1
+inserted cust 2
+inserted cust 3
+pair f1.1 street cust 1 2
+pair f1.1 street cust 2 1
+listed 2
+%%
+insertions that are refused, each for its first cause
+@ s
+insert nope 'a', 'b', 'c'
+insert cust 'a'
+insert cust '99', 'a'
+insert cust '99', '1', 'Z', 'a', 'c'
+list
+= 0
+refused UnknownTable
+refused WrongWidth
+refused WrongWidth
+refused NotInDomain CC
+listed 0
+%%
+sets in a tableau
+@ r
+cfd f1 cust: [CC, zip] -> [street]
+row '44', _ || _
+cfd f2 cust: [AC] -> [city]
+row in {'131', '132'} || in {'EDI', 'LEI'}
+@ cust.csv
+CC,AC,zip,street,city
+01,131,A,s,EDI
+01,131,B,s,LEI
+01,131,C,s,GLA
+01,132,D,s,EDI
+@ s
+list
+= 1
+pair f2.1 city cust 1 2
+pair f2.1 city cust 2 1
+single f2.1 city cust 3
+listed 3
+%%
+membership alone
+@ r
+cfd f2 cust: [AC, city] -> [city]
+row '131', _ || in {'EDI', 'LEI'}
+@ cust.csv
+CC,AC,zip,street,city
+01,131,A,s,EDI
+01,131,B,s,LEI
+01,131,C,s,GLA
+01,132,D,s,EDI
+@ s
+list
+= 1
+single f2.1 city cust 3
+listed 1
+%%
+several attributes on the right, a complement, and rules without rows to break them
+@ r
+# street and city follow from the zip code outside 44
+cfd f3 cust: [CC, zip] -> [street, city]
+row not {'44'}, _ || _, not {'?'}
+@ cust.csv
+zip,street,city,AC,CC
+Z,a,x,1,01
+Z,b,?,1,01
+Z,c,?,1,44
+@ s
+list
+= 1
+pair f3.1 street cust 1 2
+pair f3.1 street cust 2 1
+single f3.1 city cust 2
+listed 3
+%%
+no rules and no script
+@ p
+table t 't.csv'
+attr a
+@ t.csv
+a
+x
+= 0
+%%
+a script that the schema names and that is not there
+@ p
+table t 't.csv'
+attr a
+script 'gone'
+@ t.csv
+a
+= 3
+refused 'gone' Absent
+%%
+a line of the schema that lacks its file
+@ p
+table cust
+= 3
+refused 'p' BadLine line 1
+%%
+a table twice
+@ p
+table t 't.csv'
+attr a
+table t 'u.csv'
+attr a
+= 3
+refused 'p' DuplicateName line 3
+%%
+a constant outside its domain
+@ r
+cfd f1 cust: [CC, zip] -> [street]
+row '99', _ || _
+= 3
+refused 'r' ConstantOutsideDomain CC '99' line 1
+%%
+a member that stands twice
+@ r
+cfd f1 cust: [CC, zip] -> [street]
+row '44', _ || _
+cfd f2 cust: [AC] -> [city]
+row in {'131', '131'} || 'EDI'
+= 3
+refused 'r' RepeatedConstant AC '131' line 3
+%%
+a rule of a table that is not there
+@ r
+cfd f1 nope: [CC] -> [street]
+row _ || _
+= 3
+refused 'r' UnknownTable nope line 1
+%%
+an attribute that is not there
+@ r
+cfd f1 cust: [CC] -> [road]
+row _ || _
+= 3
+refused 'r' UnknownAttr road line 1
+%%
+a tableau row that is too short
+@ r
+cfd f1 cust: [CC, zip] -> [street]
+row '44' || _
+= 3
+refused 'r' WidthMismatch line 1
+%%
+a rule without a tableau row
+@ r
+cfd f1 cust: [CC] -> [street]
+= 3
+refused 'r' BadLine line 1
+%%
+a table file without a header
+@ cust.csv
+
+= 3
+refused 'cust.csv' NoHeader
+%%
+a column that is no attribute
+@ cust.csv
+CC,AC,zip,road,city
+= 3
+refused 'cust.csv' HeaderColumn 'road'
+%%
+a column that stands twice
+@ cust.csv
+CC,AC,zip,zip,city
+= 3
+refused 'cust.csv' HeaderRepeats zip
+%%
+an attribute without a column
+@ cust.csv
+CC,AC,zip,street
+= 3
+refused 'cust.csv' HeaderLacks city
+%%
+a record that is too short
+@ cust.csv
+CC,AC,zip,street,city
+44,1,Z,a
+= 3
+refused 'cust.csv' Width record 1
+%%
+a value outside its domain
+@ cust.csv
+CC,AC,zip,street,city
+44,1,Z,a,c
+45,1,Z,a,c
+= 3
+refused 'cust.csv' NotInDomain CC record 2
+%%
+a line of the script that is no command
+@ s
+list
+list all
+= 3
+refused 's' BadLine line 2
+";
+
+// The files of a case, and then those that it leaves out.
+fn shelf_of(alloc: Global, inputs: &str) -> Result<MemoryShelf, AllocError> {
+    let mut shelf = MemoryShelf::new(alloc, Vec::new(alloc));
+    for file in inputs.split("\n@ ").skip(1) {
+        if let Some((name, text)) = file.split_once("\n") {
+            shelf.hold(name, text.as_bytes())?;
+        }
+    }
+    shelf.hold("p", SCHEMA.as_bytes())?;
+    shelf.hold("r", RULES.as_bytes())?;
+    shelf.hold("cust.csv", HEADER.as_bytes())?;
+    shelf.hold("s", b"")?;
+    Ok(shelf)
+}
+
+fn check<R: Abort + AllocGlobal>(rt: &R, inputs: &str, wanted: &str) -> Result<(), AllocError> {
+    let alloc = rt.alloc();
+    let mut shelf = shelf_of(alloc, inputs)?;
+    let mut out = MemorySink::with_room(alloc, 10_000, Vec::new(alloc))?;
+    let mut words = List::new(alloc);
+    words.push(Text::new(alloc, "run")?)?;
+    words.push(Text::new(alloc, "p")?)?;
+    let ended = run(alloc, &words, &mut shelf, &mut out);
+    let mut text = format!(in alloc; "{}\n", ended.number())?.into_bytes();
+    text.extend_from_slice(out.written())?;
+    assert_eq!(rt; text.as_slice(), wanted.as_bytes(), "{inputs}");
+    Ok(())
+}
+
+#[test]
+fn projects(rt: HostRuntime) -> Result<(), Fail> {
+    for case in PROJECTS.split("%%\n") {
+        let (inputs, wanted) = case.split_once("\n= ").ok_or("a case without an answer")?;
+        check(&rt, inputs, wanted)?;
+    }
+    Ok(())
+}
