@@ -1,8 +1,6 @@
 -- A row that no test finds a fault with is a row of its table.
-use Rattle.std.proofs.Common.{◌≡◌, ℕ, ◌+◌, ◌<◌, ◌≤◌, ◌==◌, nat_le, eqb, Bool, true, false, cond, suc, zero, List, [], ◌∷◌, ◌++◌, length, drop, take, get_or, All, Option, Some, None, IsTrue, arith, refl, ap, sym, ◌∙◌, subst}
-use Rattle.std.specs.List.{AllZip, AllPairs, list_all}
-use Rattle.std.proofs.lemmas.Grind.{common_steps}
-use Rattle.std.proofs.lemmas.Bool.Decides.{nat_tests}
+use Rattle.std.proofs.Common.{◌≡◌, ℕ, ◌+◌, ◌<◌, ◌≤◌, true, List, length, drop, take, get_or, arith}
+use Rattle.std.specs.List.{AllZip}
 use Rattle.std.proofs.lemmas.List.{drop_more, take_more}
 use Rattle.std.proofs.lemmas.Slice.Zip.{all_zipped_more}
 use Rattle.std.proofs.lemmas.List.Elements.{All-push}
@@ -11,11 +9,9 @@ use Rattle.schema_core.specs.Rows.{IsRowOf}
 use Rattle.schema_core.specs.Schemas.{admits, Admits}
 use Rattle.schema_core.specs.declared.schema.Attr.{Attr}
 use Rattle.schema_core.specs.declared.schema.Table.{Table}
-use Rattle.rule_model.specs.Faults.{or_else}
 use Rattle.bench_core.specs.State.{Row, IsTableState, with_row}
-use Rattle.bench_core.specs.Edited.{width_fault, length_fault, domain_fault}
+use Rattle.bench_core.specs.Edited.{domain_fault}
 use Rattle.bench_core.specs.declared.rows.TableRows.{TableRows}
-use Rattle.bench_core.specs.declared.edit.EditFault.{EditFault}
 
 -- what is found in the rest of two lists
 pub domain_fault-drop : (attrs : List Attr) (values : List (List ℕ)) (i : ℕ) (a : Attr) (v : List ℕ) → i < length attrs → i < length values → a ≡ get_or attrs i a → v ≡ get_or values i v → admits a.domain v ≡ true

@@ -1,7 +1,6 @@
 -- Loading tables one after another.
-use Rattle.std.proofs.Common.{map-id, ◌≡◌, ℕ, ◌+◌, ◌<◌, ◌≤◌, List, [], ◌∷◌, ◌++◌, length, take, map, get_or, sum_by, All, arith, refl, ap, sym, ◌∙◌, subst, inl}
-use Rattle.std.specs.List.{AllZip, AllPairs, enumerate_from}
-use Rattle.std.proofs.lemmas.Grind.{common_steps}
+use Rattle.std.proofs.Common.{map-id, ◌≡◌, ℕ, ◌+◌, ◌<◌, ◌≤◌, List, [], ◌∷◌, ◌++◌, length, take, map, get_or, All, arith, ap, sym, ◌∙◌, subst, inl}
+use Rattle.std.specs.List.{AllZip, enumerate_from}
 use Rattle.std.proofs.lemmas.List.{take-map, take_more, map-append, length-map}
 use Rattle.std.proofs.lemmas.List.Sums.{sum_by-append, sum_by-cons}
 use Rattle.std.proofs.lemmas.List.FromFn.{length-enumerate_from, get_or-enumerate_from}
@@ -9,7 +8,7 @@ use Rattle.schema_core.specs.Rows.{IsRowOf}
 use Rattle.schema_core.specs.declared.limits.Limits.{Limits}
 use Rattle.schema_core.specs.declared.schema.Table.{Table}
 use Rattle.rule_model.specs.declared.dep.Dep.{Dep}
-use Rattle.bench_core.specs.State.{Row, IsTableState, loaded_table, loaded_tables, rows_in}
+use Rattle.bench_core.specs.State.{IsTableState, loaded_table, loaded_tables, rows_in}
 use Rattle.bench_core.specs.Edited.{IsFirstOver, IsOver, IsWithin}
 use Rattle.bench_core.specs.declared.rows.TableRows.{TableRows}
 

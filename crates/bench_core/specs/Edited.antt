@@ -1,5 +1,5 @@
 -- What an edit does to a bench, and the first cause for which it is refused.
-use Rattle.std.specs.Prelude.{◌≡◌, ℕ, ◌+◌, ◌<◌, ◌≤◌, ◌==◌, nat_le, nat_lt, ◌&&◌, ◌⊎◌, if◌then◌else◌, List, [], ◌∷◌, ◌++◌, length, take, map, All, Option, Some, None, slice_set, Result, Ok, Err}
+use Rattle.std.specs.Prelude.{◌≡◌, ℕ, ◌+◌, ◌<◌, ◌≤◌, ◌==◌, nat_le, nat_lt, ◌&&◌, ◌⊎◌, if◌then◌else◌, List, [], ◌∷◌, length, take, All, Option, Some, None, slice_set, Result, Ok, Err}
 use Rattle.std.specs.List.{AllZip, slice_get, list_all}
 use Rattle.std.specs.Option.{option_map_or}
 use Rattle.schema_core.specs.Schemas.{admits, table_place}
@@ -13,7 +13,7 @@ use Rattle.rule_model.specs.Books.{Book, book_deps}
 use Rattle.rule_model.specs.Dependencies.{attrs_at}
 use Rattle.rule_model.specs.Faults.{first_of}
 use Rattle.rule_model.specs.declared.dep.Dep.{Dep}
-use Rattle.bench_core.specs.State.{Row, loaded_tables, with_row, rows_in, cells_in, weight, IsTableState}
+use Rattle.bench_core.specs.State.{loaded_tables, with_row, rows_in, cells_in, weight, IsTableState}
 use Rattle.bench_core.specs.declared.rows.TableRows.{TableRows}
 use Rattle.bench_core.specs.declared.edit.Edit.{Edit}
 use Rattle.bench_core.specs.declared.edit.Edit.TheVariants.{Insert}

@@ -1,6 +1,6 @@
 -- The state of a bench: for each table its rows by rising ids, and the id that its next row gets.
-use Rattle.std.specs.Prelude.{◌≡◌, ℕ, ◌+◌, ◌*◌, ◌<◌, ◌≤◌, ◌==◌, if◌then◌else◌, List, [], ◌∷◌, ◌++◌, length, map, sum_by, All}
-use Rattle.std.specs.List.{AllZip, AllPairs, enumerate_from}
+use Rattle.std.specs.Prelude.{ℕ, ◌+◌, ◌*◌, ◌<◌, ◌≤◌, ◌==◌, if◌then◌else◌, List, [], ◌∷◌, ◌++◌, length, map, sum_by, All}
+use Rattle.std.specs.List.{AllPairs, enumerate_from}
 use Rattle.schema_core.specs.Rows.{IsRowOf}
 use Rattle.schema_core.specs.declared.schema.Table.{Table}
 use Rattle.rule_model.specs.declared.dep.Dep.{Dep}

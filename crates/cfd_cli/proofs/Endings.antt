@@ -1,9 +1,9 @@
 -- What was written, and how the call ended.
-use Rattle.std.proofs.Common.{◌≡◌, ℕ, List, [], ◌++◌, Option, None, Some, Ok, Err, ◌⊎◌, inl, inr, take, drop, refl, sym, ap, subst, ◌∙◌}
-use Rattle.std.proofs.lemmas.List.{append-nil, take-append-drop}
+use Rattle.std.proofs.Common.{◌≡◌, ℕ, List, ◌++◌, Option, None, Some, Ok, Err, inl, inr, take, drop, refl, sym, ap, subst, ◌∙◌}
+use Rattle.std.proofs.lemmas.List.{take-append-drop}
 use Rattle.schema_core.specs.declared.limits.Limits.{Limits}
 use Rattle.shelf_io.specs.Files.{Files}
-use Rattle.shelf_io.specs.Sink.{appended, AppendsFront}
+use Rattle.shelf_io.specs.Sink.{AppendsFront}
 use Rattle.cfd_cli.specs.declared.status.Status.{Status}
 use Rattle.cfd_cli.specs.declared.status.Status.TheVariants.{Clean, Findings, Usage, Refused, ReadFault, WriteFault, Memory}
 use Rattle.cfd_cli.specs.Output.{Appends, AppendsFrontOf, IsAnswered, MayRead, Only, Output, Writes, usage_line}

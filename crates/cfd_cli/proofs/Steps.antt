@@ -19,7 +19,7 @@ use Rattle.schema_core.specs.declared.limits.Limits.{Limits}
 use Rattle.session.specs.declared.command.Command.{Command}
 use Rattle.rule_model.specs.Books.{Book}
 use Rattle.bench_core.specs.Edited.{BenchState}
-use Rattle.cfd_cli.specs.Reading.{◌>>=◌, Fails, Loaded, Parsed, Read, Tuples, about, fetched, fetched_if_named, file_of, loaded_or_full, project_read, read_tables, schema_read}
+use Rattle.cfd_cli.specs.Reading.{◌>>=◌, Fails, Parsed, Read, Tuples, about, fetched, fetched_if_named, file_of, loaded_or_full, project_read, read_tables, schema_read}
 
 -- the cause of a stop; where there is none, anything will do
 abbrev pub cause_in : {X : Type 0} → List X → Stop → Result (List X) Cause

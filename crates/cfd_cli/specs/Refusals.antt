@@ -1,5 +1,5 @@
 -- The one line that a refusal writes: `refused WHAT CAUSE`.
-use Rattle.std.specs.Prelude.{ℕ, List, [], ◌∷◌, ◌++◌, codes, decimal}
+use Rattle.std.specs.Prelude.{ℕ, List, ◌++◌, codes, decimal}
 use Rattle.schema_core.specs.Tokens.{quoted}
 use Rattle.schema_core.specs.declared.limits.Limit.{Limit}
 use Rattle.schema_core.specs.declared.limits.Limit.TheVariants as limit

@@ -1,5 +1,5 @@
 -- The words of a call, and which of them have a form.
-use Rattle.std.specs.Prelude.{ℕ, Bool, true, false, not, ◌&&◌, List, [], ◌∷◌, Option, None, Some, IsSome, codes, if◌then◌else◌, ◌==◌}
+use Rattle.std.specs.Prelude.{ℕ, Bool, false, not, ◌&&◌, List, [], ◌∷◌, Option, None, Some, IsSome, codes, if◌then◌else◌, ◌==◌}
 use Rattle.std.specs.Str.{bytes_eq}
 use Rattle.cfd_cli.specs.declared.words.Form.{Form}
 use Rattle.cfd_cli.specs.declared.words.Form.TheVariants.{Run}

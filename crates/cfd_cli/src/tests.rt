@@ -88,6 +88,13 @@ fn files_that_are_not_read(rt: HostRuntime) -> Result<(), Fail> {
         Status::Refused,
         "refused 'it\\'s' Absent\n",
     )?;
+    expect(
+        &rt,
+        "run p",
+        &[("p", P)],
+        Status::Refused,
+        "refused 'r' Absent\n",
+    )?;
     Ok(())
 }
 
@@ -99,106 +106,6 @@ const R: &str =
     "cfd f1 cust: [CC, zip] -> [street]\nrow '44', _ || _\ncfd f2 cust: [AC] -> [city]\nrow '131' || 'EDI'\n";
 
 const HEAD: &str = "CC,AC,zip,street,city\n";
-
-fn expect_rows<R: Abort + AllocGlobal>(
-    rt: &R,
-    rules: &str,
-    records: &str,
-    script: &str,
-    status: Status,
-    written: &str,
-) -> Result<(), AllocError> {
-    let table = format!(in rt.alloc(); "{HEAD}{records}")?;
-    let files = [
-        ("p", P),
-        ("r", rules),
-        ("cust.csv", table.as_str()),
-        ("s", script),
-    ];
-    expect(rt, "run p", &files, status, written)
-}
-
-#[test]
-fn violations_are_listed(rt: HostRuntime) -> Result<(), Fail> {
-    expect_rows(&rt, R, "", "", Status::Clean, "")?;
-    expect_rows(
-        &rt,
-        R,
-        "44,131,EH4,High St,EDI\n44,131,EH4,Low St,EDI\n",
-        "list\n",
-        Status::Findings,
-        "pair f1.1 street cust 1 2\npair f1.1 street cust 2 1\nlisted 2\n",
-    )?;
-    expect_rows(
-        &rt,
-        R,
-        "01,908,EH4,High St,NYC\n01,908,EH4,Low St,NYC\n",
-        "list\n",
-        Status::Clean,
-        "listed 0\n",
-    )?;
-    expect_rows(
-        &rt,
-        R,
-        "01,131,A1,s,EDI\n01,131,A2,s,GLA\n",
-        "list\n",
-        Status::Findings,
-        "single f2.1 city cust 2\nlisted 1\n",
-    )?;
-    expect_rows(
-        &rt,
-        R,
-        "44,1,Z,a,c\n44,1,Z,a,c\n44,1,Z,b,c\n",
-        "list\n",
-        Status::Findings,
-        "pair f1.1 street cust 1 3\npair f1.1 street cust 2 3\npair f1.1 street cust 3 1\nlisted 3\n",
-    )?;
-    Ok(())
-}
-
-#[test]
-fn the_first_refusal_is_told(rt: HostRuntime) -> Result<(), Fail> {
-    let wrong_constant = "cfd f1 cust: [CC, zip] -> [street]\nrow '99', _ || _\n";
-    expect_rows(
-        &rt,
-        wrong_constant,
-        "",
-        "",
-        Status::Refused,
-        "refused 'r' ConstantOutsideDomain CC '99' line 1\n",
-    )?;
-    expect_rows(
-        &rt,
-        R,
-        "",
-        "list\nlist all\n",
-        Status::Refused,
-        "refused 's' BadLine line 2\n",
-    )?;
-    expect_rows(
-        &rt,
-        R,
-        "44,1,Z,a\n",
-        "",
-        Status::Refused,
-        "refused 'cust.csv' Width record 1\n",
-    )?;
-    expect(
-        &rt,
-        "run p",
-        &[("p", "table cust\n")],
-        Status::Refused,
-        "refused 'p' BadLine line 1\n",
-    )?;
-    expect(
-        &rt,
-        "run p",
-        &[("p", P)],
-        Status::Refused,
-        "refused 'r' Absent\n",
-    )?;
-    Ok(())
-}
 
 // The call of a device that fails, and how the program ends: four fetches are made, and one put.
 #[test]
@@ -233,30 +140,61 @@ fn devices_that_fail(rt: HostRuntime) -> Result<(), Fail> {
     Ok(())
 }
 
-#[test]
-fn files_that_are_too_large(rt: HostRuntime) -> Result<(), Fail> {
+const INSERTIONS: &str =
+    "insert cust '44', '1', 'Z', 'a', 'c'\ninsert cust '44', '1', 'Z', 'a', 'c'\n";
+
+fn expect_within<R: Abort + AllocGlobal>(
+    rt: &R,
+    bytes: (u64, u64),
+    rows: u64,
+    commands: u64,
+    status: Status,
+    written: &str,
+) -> Result<(), AllocError> {
     let alloc = rt.alloc();
-    for (file_bytes, all_bytes, line) in [
-        (1000, 202, "refused 'r' TooLarge\n"),
-        (1000, 203, "refused 'cust.csv' TooLarge\n"),
-        (103, 1000, "refused 'p' TooLarge\n"),
-    ] {
-        let words = words_of(alloc, "run p")?;
-        let mut shelf = shelf_of(
-            alloc,
-            &[("p", P), ("r", R), ("cust.csv", HEAD), ("s", "")],
-            Vec::new(alloc),
-        )?;
-        let mut out = MemorySink::with_room(alloc, ROOM, Vec::new(alloc))?;
-        let mut limits = Limits::standard();
-        limits.file_bytes = file_bytes;
-        limits.all_bytes = all_bytes;
-        let ended = run_with(alloc, &words, &mut shelf, &mut out, limits);
-        assert_eq!(rt;
-            (ended, out.written()),
-            (Status::Refused, line.as_bytes()),
-            "{line}"
-        );
-    }
+    let words = words_of(alloc, "run p")?;
+    let files = [("p", P), ("r", R), ("cust.csv", HEAD), ("s", INSERTIONS)];
+    let mut shelf = shelf_of(alloc, &files, Vec::new(alloc))?;
+    let mut out = MemorySink::with_room(alloc, ROOM, Vec::new(alloc))?;
+    let mut limits = Limits::standard();
+    limits.file_bytes = limits.file_bytes.min(bytes.0);
+    limits.all_bytes = limits.all_bytes.min(bytes.1);
+    limits.rows = limits.rows.min(rows);
+    limits.commands = limits.commands.min(commands);
+    let ended = run_with(alloc, &words, &mut shelf, &mut out, limits);
+    assert_eq!(rt;
+        (ended, out.written()),
+        (status, written.as_bytes()),
+        "{written}"
+    );
+    Ok(())
+}
+
+// The schema has 104 bytes and the rules have 99.
+#[test]
+fn limits_of_a_call(rt: HostRuntime) -> Result<(), Fail> {
+    let refused = Status::Refused;
+    expect_within(&rt, (1000, 202), 9, 9, refused, "refused 'r' TooLarge\n")?;
+    expect_within(
+        &rt,
+        (1000, 203),
+        9,
+        9,
+        refused,
+        "refused 'cust.csv' TooLarge\n",
+    )?;
+    expect_within(&rt, (103, 1000), 9, 9, refused, "refused 'p' TooLarge\n")?;
+    expect_within(
+        &rt,
+        (1000, 1000),
+        9,
+        1,
+        refused,
+        "refused 's' TooMany commands line 2\n",
+    )?;
+    let full = "inserted cust 1\nrefused RowsFull\n";
+    expect_within(&rt, (1000, 1000), 1, 9, Status::Clean, full)?;
+    let both = "inserted cust 1\ninserted cust 2\n";
+    expect_within(&rt, (1000, 1000), 2, 2, Status::Clean, both)?;
     Ok(())
 }

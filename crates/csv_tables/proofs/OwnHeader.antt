@@ -16,9 +16,15 @@ use Rattle.schema_core.specs.declared.schema.Attr.{Attr}
 use Rattle.schema_core.specs.declared.schema.Domain.{Domain}
 use Rattle.schema_core.specs.declared.schema.Domain.TheVariants.{AnyText, Finite}
 use Rattle.schema_core.specs.declared.schema.Table.{Table}
-use Rattle.csv_tables.specs.TableFiles.{IsRowOf, column_fault, column_place, domain_fault, field_of, header_fault, lacking_fault, record_fault, records_fault, row_of, text_fault}
+use Rattle.schema_core.specs.Rows.{IsRowOf}
+use Rattle.std.proofs.lemmas.Slice.Zip.{AllZip-long}
+use Rattle.csv_tables.specs.TableFiles.{column_fault, column_place, domain_fault, field_of, header_fault, lacking_fault, record_fault, records_fault, row_of, text_fault}
 use Rattle.csv_tables.proofs.FieldFacts.{position-at, position-none-take}
 use Rattle.csv_tables.proofs.HeaderFacts.{column_fault-passes}
+
+-- a row has a text for each attribute
+pub row-width : {attrs : List Attr} {most : ℕ} {row : List (List ℕ)} → IsRowOf attrs most row → length row ≡ length attrs
+row-width {attrs} {most} {row} is = AllZip-long (λ (a : Attr) (text : List ℕ). Admits a.domain text) attrs row is.domains
 
 bytes_eq-own : (xs : List ℕ) → bytes_eq xs xs ≡ true
 bytes_eq-own xs = (bytes_eq-Decides xs xs).1 refl
@@ -111,9 +117,9 @@ module _ (table : Table) (distinct : AreDistinct (names_of_attrs table.attrs)) w
       ∙ get_or_default fields k [] d (omega arith))
 
   -- a row of the table has no fault under this header
-  module _ (limits : Limits) (at : ℕ) (fields : List (List ℕ)) (row : IsRowOf table limits fields) (utf8 : list_all is_utf8 fields ≡ true) (few : at ≤ limits.rows) where
+  module _ (limits : Limits) (at : ℕ) (fields : List (List ℕ)) (row : IsRowOf table.attrs limits.cell_bytes fields) (utf8 : list_all is_utf8 fields ≡ true) (few : at ≤ limits.rows) where
     wide : length fields ≡ length (names_of_attrs table.attrs)
-    wide = row.width ∙ sym (length-map table.attrs (λ (a : Attr). a.name))
+    wide = row-width row ∙ sym (length-map table.attrs (λ (a : Attr). a.name))
 
     own-text : text_fault limits (length (names_of_attrs table.attrs)) at fields ≡ None
     own-text =
@@ -132,7 +138,7 @@ module _ (table : Table) (distinct : AreDistinct (names_of_attrs table.attrs)) w
     record-passes : record_fault table limits (names_of_attrs table.attrs) at fields ≡ None
     record-passes = rw (own-text, own-domains) refl
 
-  pub records-pass : (limits : Limits) (at : ℕ) (rows : List (List (List ℕ))) → All (IsRowOf table limits) rows
+  pub records-pass : (limits : Limits) (at : ℕ) (rows : List (List (List ℕ))) → All (IsRowOf table.attrs limits.cell_bytes) rows
       → All (λ (r : List (List ℕ)). list_all is_utf8 r ≡ true) rows → at + length rows ≤ limits.rows + 1
       → records_fault table limits (names_of_attrs table.attrs) at rows ≡ None
   records-pass limits at [] valid utf8 few = refl

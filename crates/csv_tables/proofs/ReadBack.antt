@@ -19,7 +19,7 @@ use Rattle.csv_tables.specs.Records.{file_records, records_after}
 use Rattle.csv_tables.specs.TableFiles.{header_fault, records_fault, row_of, table_of}
 use Rattle.csv_tables.specs.WrittenFiles.{AreRowsOf, records_text, table_text}
 use Rattle.csv_tables.proofs.RecordFacts.{records_after-none, records_after-some}
-use Rattle.csv_tables.proofs.OwnHeader.{header-passes, own-row, records-pass}
+use Rattle.csv_tables.proofs.OwnHeader.{header-passes, own-row, records-pass, row-width}
 
 -- what the default writer wrote, the reader's records are
 written-records : (rows : List (List (List ℕ))) → records_after st.StartRecord (records_text rows) ≡ map read_back rows
@@ -105,6 +105,6 @@ pub table_of-written : (table : Table) (limits : Limits) (rows : List (List (Lis
     → AreRowsOf table limits rows → list_all is_utf8 (names_of_attrs table.attrs) ≡ true → All (λ (r : List (List ℕ)). list_all is_utf8 r ≡ true) rows
     → table_of table limits (table_text table.attrs rows) ≡ Ok rows
 table_of-written table limits rows valid these names utf8 =
-    let wide : All (λ (r : List (List ℕ)). length r ≡ length table.attrs) rows = λ k d lt. (these.each k d lt).width in
+    let wide : All (λ (r : List (List ℕ)). length r ≡ length table.attrs) rows = λ k d lt. row-width (these.each k d lt) in
     let some : All (λ (r : List (List ℕ)). 1 ≤ length r) rows = λ k d lt. rw (wide k d lt) valid.some in
     table_of-faultless table limits _ (names_of_attrs table.attrs) rows (file_records-written rows some table.attrs valid.some valid.attrs) (header-passes table valid.distinct names) (records-pass table valid.distinct limits 1 rows these.each utf8 (let few = these.few in omega arith)) (own-rows table valid.distinct rows wide)

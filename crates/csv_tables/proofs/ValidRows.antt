@@ -5,7 +5,7 @@ use Rattle.std.specs.Option.{option_or}
 use Rattle.std.specs.Str.{bytes_eq}
 use Rattle.std.proofs.Common.{◌≡◌, ◌≤◌, ◌+◌, ◌∷◌, [], ℕ, zero, suc, List, Bool, Option, Some, None, length, refl, true, false, inl, inr, arith}
 use Rattle.std.proofs.lemmas.Bool.{cases_Bool, cases_lt, eqb-true, false≢true, ltb-false}
-use Rattle.std.proofs.lemmas.List.{get_or_past, length-map}
+use Rattle.std.proofs.lemmas.List.{get_or_past}
 use Rattle.std.proofs.lemmas.Option.{unwrap_or-slice_get}
 use Rattle.std.proofs.lemmas.Slice.Eq.{bytes_eq-Decides}
 use Rattle.schema_core.specs.Schemas.{Admits, admits}
@@ -14,7 +14,8 @@ use Rattle.schema_core.specs.declared.schema.Attr.{Attr}
 use Rattle.schema_core.specs.declared.schema.Domain.{Domain}
 use Rattle.schema_core.specs.declared.schema.Domain.TheVariants.{AnyText, Finite}
 use Rattle.schema_core.specs.declared.schema.Table.{Table}
-use Rattle.csv_tables.specs.TableFiles.{IsRowOf, domain_fault, field_of, record_fault, records_fault, row_of, text_fault}
+use Rattle.schema_core.specs.Rows.{IsRowOf}
+use Rattle.csv_tables.specs.TableFiles.{domain_fault, field_of, record_fault, records_fault, row_of, text_fault}
 
 -- where neither of two faults is there, each is not
 pub neither : {X : Type 0} (a b : Option X) → option_or a b ≡ None → (a ≡ None) × (b ≡ None)
@@ -105,18 +106,17 @@ passes-tests limits width at fields e =
     }
 
 row-is-row : (table : Table) (limits : Limits) (header fields : List (List ℕ)) (at : ℕ) → record_fault table limits header at fields ≡ None
-    → IsRowOf table limits (row_of table.attrs header fields)
+    → IsRowOf table.attrs limits.cell_bytes (row_of table.attrs header fields)
 row-is-row table limits header fields at e =
     let (plain, domains) = neither _ _ e in
     let tests = passes-tests limits (length header) at fields plain in record {
-      width = length-map table.attrs (λ (a : Attr). field_of header fields a.name);
       domains = in-domains table.attrs header at fields domains;
       short = short-row limits.cell_bytes table.attrs header fields tests.short;
     }
 
 -- the rows of records without a fault, and how many there are
 pub all-rows : (table : Table) (limits : Limits) (header : List (List ℕ)) (at : ℕ) (records : List (List (List ℕ)))
-    → records_fault table limits header at records ≡ None → All (IsRowOf table limits) (map (row_of table.attrs header) records)
+    → records_fault table limits header at records ≡ None → All (IsRowOf table.attrs limits.cell_bytes) (map (row_of table.attrs header) records)
 all-rows table limits header at [] e k d inside = absurd (omega arith)
 all-rows table limits header at (fields ∷ rest) e zero d inside = row-is-row table limits header fields at (neither _ _ e).0
 all-rows table limits header at (fields ∷ rest) e (suc k) d inside = all-rows table limits header (at + 1) rest (neither _ _ e).1 k d (omega arith)

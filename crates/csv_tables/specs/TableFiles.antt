@@ -1,10 +1,10 @@
 -- What a table file holds: its first fault, or the rows in the order of the schema. All of it is said over the list of
 -- the file's records, the first of which is the header and has the number 0.
-use Rattle.std.specs.Prelude.{◌≡◌, ◌==◌, ◌+◌, ◌≤◌, if◌then◌else◌, ℕ, List, [], ◌∷◌, ◌++◌, not, length, map, nat_lt, slice_get, unwrap_or, position, find, is_none, is_some, Option, Some, None, option_map, option_and_then, Result, Ok, Err, All}
-use Rattle.std.specs.List.{AllZip, list_all, list_any}
+use Rattle.std.specs.Prelude.{◌==◌, ◌+◌, if◌then◌else◌, ℕ, List, [], ◌∷◌, ◌++◌, not, length, map, nat_lt, slice_get, unwrap_or, position, find, is_none, is_some, Option, Some, None, option_map, option_and_then, Result, Ok, Err}
+use Rattle.std.specs.List.{list_all, list_any}
 use Rattle.std.specs.Option.{option_or}
 use Rattle.std.specs.Str.{bytes_eq, is_utf8}
-use Rattle.schema_core.specs.Schemas.{Admits, admits, attr_place}
+use Rattle.schema_core.specs.Schemas.{admits, attr_place}
 use Rattle.schema_core.specs.declared.limits.Limits.{Limits}
 use Rattle.schema_core.specs.declared.schema.Attr.{Attr}
 use Rattle.schema_core.specs.declared.schema.Table.{Table}
@@ -87,9 +87,3 @@ rows_unless (Some first) rows = Err first
 abbrev pub table_of : Table → Limits → List ℕ → Result (List (List (List ℕ))) TableFault
 table_of table limits bytes =
     rows_unless (file_fault table limits (file_records bytes)) (file_rows table (file_records bytes))
-
--- a row of the table: a text for each attribute, in its domain, and none of them longer than the limit
-pub record IsRowOf (table : Table) (limits : Limits) (row : List (List ℕ)) : Type 0 where
-  pub width : length row ≡ length table.attrs
-  pub domains : AllZip (λ (a : Attr) (text : List ℕ). Admits a.domain text) table.attrs row
-  pub short : All (λ (text : List ℕ). length text ≤ limits.cell_bytes) row

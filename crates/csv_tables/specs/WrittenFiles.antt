@@ -6,7 +6,7 @@ use Rattle.schema_core.specs.Schemas.{names_of_attrs}
 use Rattle.schema_core.specs.declared.limits.Limits.{Limits}
 use Rattle.schema_core.specs.declared.schema.Attr.{Attr}
 use Rattle.schema_core.specs.declared.schema.Table.{Table}
-use Rattle.csv_tables.specs.TableFiles.{IsRowOf}
+use Rattle.schema_core.specs.Rows.{IsRowOf}
 
 -- the text of records, one after the other
 abbrev pub records_text : List (List (List ℕ)) → List ℕ
@@ -18,7 +18,7 @@ table_text attrs rows = records_text (names_of_attrs attrs ∷ rows)
 
 -- rows that a table may have under these limits
 pub record AreRowsOf (table : Table) (limits : Limits) (rows : List (List (List ℕ))) : Type 0 where
-  pub each : All (IsRowOf table limits) rows
+  pub each : All (IsRowOf table.attrs limits.cell_bytes) rows
   pub few : length rows ≤ limits.rows
 
 -- a writer with the crate's defaults that stands between two records

@@ -6,7 +6,8 @@ ghost use Rattle.csv.specs.Records.{fields_of};
 ghost use Rattle.csv.specs.declared.parser.State.TheVariants as st;
 ghost use Rattle.schema_core.specs.Limits.{AreLimits};
 ghost use Rattle.csv_tables.specs.Records.{file_records};
-ghost use Rattle.csv_tables.specs.TableFiles.{IsRowOf, records_fault, row_of, table_of};
+ghost use Rattle.schema_core.specs.Rows.{IsRowOf};
+ghost use Rattle.csv_tables.specs.TableFiles.{records_fault, row_of, table_of};
 ghost use Rattle.csv_tables.specs.declared.fault.TableFault.TheVariants as fault;
 
 use crate::columns::Columns;
@@ -34,7 +35,7 @@ pub fn read_table(
     ensures records { AreRecords default_config st.StartRecord (strip_bom bytes.now) (file_records bytes.now) }
 
     // What callers use of the rows most often follows from `rows`.
-    ensures valid { IfOk result (λ rows. All (IsRowOf table.now limits.now) rows) }
+    ensures valid { IfOk result (λ rows. All (IsRowOf table.now.attrs limits.now.cell_bytes) rows) }
     ensures few { IfOk result (λ rows. length rows ≤ limits.now.rows) }
 {
     let mut records = FileRecords::new(alloc, bytes);
@@ -58,7 +59,7 @@ fn read_rows(
     ensures rows { IfOk result (λ rows. rows ≡ map (row_of columns.now.table.now.attrs (fields_of columns.now.header)) records.entry) }
     ensures refused { IfErr result (λ f. f ≢ fault.Memory
         → records_fault columns.now.table.now limits.now (fields_of columns.now.header) 1 records.entry ≡ Some f) }
-    ensures valid { IfOk result (λ rows. All (IsRowOf columns.now.table.now limits.now) rows) }
+    ensures valid { IfOk result (λ rows. All (IsRowOf columns.now.table.now.attrs limits.now.cell_bytes) rows) }
     ensures few { IfOk result (λ rows. length rows ≤ limits.now.rows) }
 {
     let mut rows = List::new(alloc);

@@ -1,5 +1,5 @@
 -- Declarations read and added one after the other.
-use Rattle.std.proofs.Common.{◌≡◌, ℕ, ◌+◌, ◌≤◌, false, nat_eq, List, [], ◌∷◌, ◌++◌, length, Option, Some, None, Result, Ok, Err, refl, sym, ap, ◌∙◌, arith}
+use Rattle.std.proofs.Common.{◌≡◌, ℕ, ◌≤◌, false, nat_eq, List, [], ◌∷◌, ◌++◌, length, Option, Some, None, Ok, Err, refl, sym, ap, ◌∙◌, arith}
 use Rattle.std.specs.Prelude.{IfSome}
 use Rattle.schema_core.specs.declared.limits.Limits.{Limits}
 use Rattle.schema_core.specs.declared.schema.Schema.{Schema}
@@ -9,7 +9,6 @@ use Rattle.rule_model.specs.declared.decl.Decl.{Decl}
 use Rattle.rule_model.specs.declared.decl.Decl.TheVariants.{Cfd}
 use Rattle.rule_model.specs.Faults.{fault_of}
 use Rattle.rule_model.specs.Books.{Book, book_fault}
-use Rattle.rule_parser.specs.declared.fault.ParseCause.{ParseCause}
 use Rattle.rule_parser.specs.declared.fault.ParseCause.TheVariants.{BadLine}
 use Rattle.rule_parser.specs.declared.fault.ParseFault.{ParseFault}
 use Rattle.rule_parser.specs.declared.fault.ParseFault.TheVariants as faults

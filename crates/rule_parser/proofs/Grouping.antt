@@ -1,14 +1,13 @@
 -- Row lines read one after the other belong to the head line before them.
-use Rattle.std.proofs.Common.{◌≡◌, ℕ, ◌+◌, Bool, true, false, cond, List, [], ◌∷◌, ◌++◌, Option, Some, None, Result, Ok, Err, refl, sym, ap, ◌∙◌, append_assoc}
+use Rattle.std.proofs.Common.{◌≡◌, Bool, true, false, cond, List, [], ◌∷◌, ◌++◌, Option, Some, None, Ok, Err, refl, sym, ap, ◌∙◌, append_assoc}
 use Rattle.std.specs.Prelude.{IfSome}
 use Rattle.std.proofs.lemmas.List.{append-nil}
 use Rattle.rule_model.specs.declared.decl.CfdRow.{CfdRow}
-use Rattle.rule_parser.specs.declared.fault.ParseCause.{ParseCause}
 use Rattle.rule_parser.specs.declared.fault.ParseFault.{ParseFault}
 use Rattle.rule_parser.specs.declared.fault.ParseFault.TheVariants as faults
 use Rattle.rule_parser.specs.declared.lines.Line.{Line}
 use Rattle.rule_parser.specs.Reading.{row_line}
-use Rattle.rule_parser.specs.Files.{Read, ◌>>=◌, Fails, is_row, read_line, rows_in, after_rows, Group, groups_from, groups, rows_of}
+use Rattle.rule_parser.specs.Files.{Read, ◌>>=◌, Fails, is_row, read_line, rows_in, after_rows, groups_from, groups, rows_of}
 
 by_kind : (b : Bool) (head line : Line) (rows lines : List Line) → groups_from head (rows ++ line ∷ []) lines ≡ (head, rows ++ line ∷ [] ++ rows_in lines) ∷ groups (after_rows lines)
     → cond b (groups_from head (rows ++ line ∷ []) lines) ((head, rows) ∷ groups_from line [] lines) ≡ (head, rows ++ cond b (line ∷ rows_in lines) []) ∷ groups (cond b (after_rows lines) (line ∷ lines))

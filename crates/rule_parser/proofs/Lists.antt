@@ -3,7 +3,7 @@ use Rattle.std.proofs.Common.{◌≡◌, ℕ, zero, suc, ◌<◌, ◌≤◌, Lis
 use Rattle.std.specs.Prelude.{option_map, option_and_then}
 use Rattle.schema_core.specs.declared.tokens.Token.{Token}
 use Rattle.schema_core.specs.declared.tokens.Mark.TheVariants.{Comma}
-use Rattle.rule_parser.specs.Reading.{◌>>=◌, after_sign, or_more, items_from, list_of}
+use Rattle.rule_parser.specs.Reading.{after_sign, or_more, items_from, list_of}
 
 -- what was read before, and what is still read
 abbrev pub with_front : {X : Type 0} → List X → Option (List X × List Token) → Option (List X × List Token)

@@ -1,6 +1,6 @@
 -- The name of a declaration is a name.
-use Rattle.std.proofs.Common.{◌≡◌, ℕ, Bool, true, false, cond, List, [], ◌∷◌, Option, Some, None, Result, Ok, Err, refl, sym, ap, ◌∙◌, subst}
-use Rattle.std.specs.Prelude.{codes, option_and_then}
+use Rattle.std.proofs.Common.{◌≡◌, ℕ, List, [], ◌∷◌, Option, Some, None, Ok, refl, sym, subst}
+use Rattle.std.specs.Prelude.{codes}
 use Rattle.std.specs.List.{AllByRecursion}
 use Rattle.std.specs.Str.{bytes_eq}
 use Rattle.std.proofs.lemmas.Option.{option_and_then_some, cond_some}
@@ -14,7 +14,7 @@ use Rattle.schema_core.specs.declared.tokens.LineTokens.TheVariants.{Passed, Not
 use Rattle.schema_core.proofs.GoodTokens.{IsGoodToken, line_tokens-good}
 use Rattle.rule_model.specs.declared.decl.CfdDecl.{CfdDecl}
 use Rattle.rule_parser.specs.declared.tokens.Kind.TheVariants as kinds
-use Rattle.rule_parser.specs.Reading.{◌>>=◌, after_sign, after_word, text_at, texts_from, texts_until, cfd_names, after_arrow, closes, cfd_head}
+use Rattle.rule_parser.specs.Reading.{after_sign, after_word, text_at, texts_from, texts_until, cfd_names, after_arrow, closes, cfd_head}
 use Rattle.rule_parser.specs.Files.{good_or_bad, read_line}
 use Rattle.rule_parser.specs.Upcoming.{IsNamed, HasNames}
 

@@ -1,7 +1,6 @@
 -- The lines that are not passed over, one after the other.
 use Rattle.std.proofs.Common.{◌≡◌, ℕ, ◌+◌, Bool, true, false, cond, not, filter, List, [], ◌∷◌, refl, sym, ap, ◌∙◌}
 use Rattle.schema_core.specs.Lines.{lines}
-use Rattle.schema_core.specs.Tokens.{line_tokens}
 use Rattle.schema_core.specs.declared.tokens.LineTokens.{LineTokens}
 use Rattle.rule_parser.specs.declared.lines.Line.{Line}
 use Rattle.rule_parser.specs.Files.{is_passed_over, numbered, lines_after}

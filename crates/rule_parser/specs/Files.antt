@@ -1,5 +1,5 @@
 -- A rule file, from its lines to its declarations or its first fault.
-use Rattle.std.specs.Prelude.{◌≡◌, ℕ, ◌+◌, ◌==◌, Bool, true, false, not, List, [], ◌∷◌, ◌++◌, length, filter, Option, Some, None, Result, Ok, Err, is_some, if◌then◌else◌, codes}
+use Rattle.std.specs.Prelude.{◌≡◌, ℕ, ◌+◌, Bool, true, false, not, List, [], ◌∷◌, ◌++◌, filter, Option, Some, None, Result, Ok, Err, is_some, if◌then◌else◌, codes}
 use Rattle.schema_core.specs.Lines.{lines}
 use Rattle.schema_core.specs.Tokens.{line_tokens}
 use Rattle.schema_core.specs.declared.limits.Limits.{Limits}

@@ -1,5 +1,5 @@
 -- What is written for a command, and the bench that it leaves. Each line of a reply ends with a line feed.
-use Rattle.std.specs.Prelude.{◌≡◌, ℕ, List, [], ◌∷◌, ◌++◌, length, Option, Some, None, codes, decimal}
+use Rattle.std.specs.Prelude.{◌≡◌, ℕ, List, ◌++◌, length, Option, Some, None, codes, decimal}
 use Rattle.std.specs.List.{flat_map}
 use Rattle.bench_core.specs.Edited.{BenchState, fault_of_edit, edited, applied_by}
 use Rattle.bench_core.specs.declared.edit.Edit.{Edit}

@@ -1,5 +1,5 @@
 -- What is written for the commands of a script.
-use Rattle.std.specs.Prelude.{◌≡◌, ℕ, List, [], ◌∷◌, ◌++◌, length, take, Option, ◌⊎◌}
+use Rattle.std.specs.Prelude.{◌≡◌, ℕ, List, [], ◌∷◌, ◌++◌, take, Option, ◌⊎◌}
 use Rattle.shelf_io.specs.Sink.{appended}
 use Rattle.bench_core.specs.Edited.{BenchState}
 use Rattle.session.specs.Replies.{IsReply}

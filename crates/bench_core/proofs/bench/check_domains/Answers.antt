@@ -1,4 +1,4 @@
-use Rattle.std.proofs.Common.{◌≡◌, ◌<◌, length, true, sym, ◌∙◌, subst, arith}
+use Rattle.std.proofs.Common.{◌≡◌, ◌<◌, length, true, sym, ◌∙◌, arith}
 use Rattle.schema_core.specs.Schemas.{Admits, admits}
 use Rattle.bench_core.proofs.Fits.{domain_fault-drop, domains-more}
 use Rattle.bench_core.proofs.bench.check_domains.Goals as goal

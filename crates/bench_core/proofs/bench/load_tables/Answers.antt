@@ -1,8 +1,7 @@
-use Rattle.std.proofs.Common.{◌≡◌, ◌<◌, ◌++◌, [], ◌∷◌, List, ℕ, length, take, map, get_or, ap, sym, ◌∙◌, subst, arith}
+use Rattle.std.proofs.Common.{length, ap, ◌∙◌, subst, arith}
 use Rattle.std.proofs.lemmas.Iterator.Adapters.{YieldsList-from_vec}
 use Rattle.std.proofs.lemmas.Iterator.Consumers.{YieldsList-turn, YieldsList-so_far}
-use Rattle.bench_core.specs.State.{loaded_table}
-use Rattle.bench_core.specs.Edited.{IsFirstOver, IsOver}
+use Rattle.bench_core.specs.Edited.{IsOver}
 use Rattle.bench_core.proofs.Loads.{first_over-here, over_by_itself}
 use Rattle.bench_core.proofs.bench.load_tables.Goals as goal
 

@@ -1,4 +1,4 @@
-use Rattle.std.proofs.Common.{◌≡◌, ◌-◌, ◌^◌, ◌<◌, min, length, arith}
+use Rattle.std.proofs.Common.{◌-◌, ◌^◌}
 use Rattle.bench_core.proofs.Rooms.{stopped_cells}
 use Rattle.bench_core.proofs.room.count_cells.Goals as goal
 

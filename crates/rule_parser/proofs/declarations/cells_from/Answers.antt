@@ -1,4 +1,4 @@
-use Rattle.std.proofs.Common.{◌∷◌, [], List, subst, sym, All, arith}
+use Rattle.std.proofs.Common.{List, subst, sym, All, arith}
 use Rattle.std.proofs.lemmas.List.Elements.{All-nil, All-push}
 use Rattle.cfd_semantics.specs.declared.pattern.Pattern.{Pattern}
 use Rattle.rule_model.specs.Declarations.{IsWrittenCell}

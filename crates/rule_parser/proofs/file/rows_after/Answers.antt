@@ -1,12 +1,11 @@
-use Rattle.std.proofs.Common.{◌≡◌, ◌+◌, ◌<◌, ◌^◌, ℕ, ◌++◌, ◌∷◌, [], List, length, All, sym, ap, subst, ◌∙◌, arith}
+use Rattle.std.proofs.Common.{◌+◌, ◌<◌, ◌^◌, ℕ, List, length, All, sym, ap, subst, ◌∙◌, arith}
 use Rattle.std.specs.Borrow.{Bor}
 use Rattle.std.proofs.lemmas.List.Elements.{All-push}
-use Rattle.rule_model.specs.declared.decl.CfdRow.{CfdRow}
 use Rattle.rule_model.specs.Declarations.{IsWrittenRow}
 use Rattle.rule_parser.specs.declared.lines.Line.{Line}
 use Rattle.rule_parser.specs.Files.{rows_in, after_rows, rows_of, lines_after}
 use Rattle.rule_parser.specs.Upcoming.{HasNames}
-use Rattle.rule_parser.proofs.Grouping.{with_rows_before, row_read, after_row, three_some}
+use Rattle.rule_parser.proofs.Grouping.{row_read, after_row, three_some}
 use Rattle.rule_parser.proofs.file.rows_after.Goals as goal
 
 pub loop-next-preserved-in_ok-next-2-2 : goal.loop-next-preserved-in_ok-next-2-2

@@ -1,4 +1,4 @@
-use Rattle.std.proofs.Common.{◌≡◌, ◌++◌, ◌∷◌, [], ℕ, List, Some, refl, ap, subst, sym, ◌∙◌, All, arith}
+use Rattle.std.proofs.Common.{◌++◌, ◌∷◌, [], ℕ, List, ap, subst, sym, ◌∙◌, All, arith}
 use Rattle.std.proofs.lemmas.List.Elements.{All-nil, All-push}
 use Rattle.schema_core.specs.Names.{IsConstant}
 use Rattle.rule_parser.specs.Reading.{text_at, texts_from}

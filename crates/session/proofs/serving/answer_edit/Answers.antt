@@ -1,4 +1,4 @@
-use Rattle.std.proofs.Common.{◌≡◌, Result, Ok, Err, Option, inr, refl, sym, subst, OnErr}
+use Rattle.std.proofs.Common.{Ok, Err, Option, inr, refl, sym, subst, OnErr}
 use Rattle.bench_core.specs.Edited.{applied_by}
 use Rattle.bench_core.specs.declared.edit.EditFault.{EditFault}
 use Rattle.session.specs.Replies.{IsEditReply, done_text}

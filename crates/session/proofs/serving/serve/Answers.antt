@@ -1,4 +1,4 @@
-use Rattle.std.proofs.Common.{◌≡◌, ◌<◌, ◌≤◌, ◌+◌, length, take, get_or, Result, Ok, Err, OnErr, sym, ap, ◌∙◌, subst, arith}
+use Rattle.std.proofs.Common.{Ok, Err, OnErr, arith}
 use Rattle.session.specs.Transcript.{AnswersFront}
 use Rattle.session.proofs.Answering.{answers-cut, answers-more}
 use Rattle.session.proofs.serving.serve.Goals as goal

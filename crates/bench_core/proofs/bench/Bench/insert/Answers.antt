@@ -1,6 +1,4 @@
-use Rattle.std.proofs.Common.{arith, List, ◌≡◌, ◌<◌, ◌≤◌, length, get_or, ap, ◌∙◌, sym}
-use Rattle.rule_model.specs.Dependencies.{attrs_at}
-use Rattle.schema_core.specs.Rows.{IsRowOf}
+use Rattle.std.proofs.Common.{arith, List, ◌≡◌, ◌<◌, length, ap, ◌∙◌}
 use Rattle.bench_core.specs.declared.edit.Applied.TheVariants.{Inserted}
 use Rattle.std.specs.List.{slice_set}
 use Rattle.bench_core.specs.declared.rows.TableRows.{TableRows}

@@ -1,6 +1,5 @@
-use Rattle.std.proofs.Common.{◌≡◌, ◌≤◌, sym, subst, arith}
-use Rattle.std.specs.List.{AllZip}
-use Rattle.bench_core.specs.State.{IsTableState, loaded_tables, rows_in}
+use Rattle.std.proofs.Common.{◌≤◌, arith}
+use Rattle.bench_core.specs.State.{loaded_tables, rows_in}
 use Rattle.bench_core.proofs.Loads.{loaded-states}
 use Rattle.bench_core.proofs.bench.Bench.load.Goals as goal
 

@@ -1,4 +1,4 @@
-use Rattle.std.proofs.Common.{◌<◌, length, sym, subst}
+use Rattle.std.proofs.Common.{◌<◌, length}
 use Rattle.bench_core.proofs.States.{rows_there}
 use Rattle.bench_core.proofs.bench.Bench.rows.Goals as goal
 
