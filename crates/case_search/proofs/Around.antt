@@ -1,6 +1,6 @@
 -- What setting one variable can change.
 use Rattle.std.proofs.Common.{◌≡◌, ◌≢◌, ℕ, suc, ◌+◌, ◌<◌, ◌^◌, ◌⊎◌, Bool, true, false, List, [], ◌∷◌, length, get_or, Option, Some, None, refl, sym, ap, ◌∙◌, subst, inl, inr, ⊎_elim, arith}
-use Rattle.std.specs.Prelude.{IsSomeAnd, IfNone, slice_get}
+use Rattle.std.specs.Prelude.{IsSomeAnd, IfNone, IfSome, slice_get}
 use Rattle.std.specs.List.{All, Any, Contains}
 use Rattle.std.proofs.lemmas.Bool.{cases_eq, cases_lt}
 use Rattle.std.proofs.lemmas.List.{get_or_default}
@@ -135,6 +135,11 @@ module _ (set : ClauseSet) (path : List Literal) (v cell : ℕ) (lists : List (L
       ⊎_elim (λ same. not_true (ap (value_on path) (sym same) ∙ held.2)) (λ same. not_true (ap (value_on path) (sym same) ∙ held.3)) (quiet (Two one two) held)
   none_by_other not_true not_none (NoneOf at) held =
       not_none (subst (λ (i : ℕ). Holds set path (NoneOf i)) (cell_is set at cell v well (quiet (NoneOf at) held) v_in) held)
+
+-- a fact of `Some`, weakened
+pub IfSome-weaker : {X : Type 0} (o : Option X) (P Q : X → Type 0) → ((x : X) → P x → Q x) → IfSome o P → IfSome o Q
+IfSome-weaker None P Q weaker fact = tt
+IfSome-weaker (Some x) P Q weaker fact = weaker x fact
 
 -- a fact of `None`, weakened
 pub IfNone-weaker : {X : Type 0} (o : Option X) (P Q : Type 0) → (P → Q) → IfNone o P → IfNone o Q

@@ -15,7 +15,7 @@ use Rattle.case_tree.specs.Walk.{next_path}
 use Rattle.case_tree.proofs.Preorder.{AreTrees, tree_of}
 use Rattle.case_tree.proofs.Walk.{no, paths_after, places_from, places_from-preorder, waiting, waiting_next, yes}
 use Rattle.case_search.specs.Enough.{choices}
-use Rattle.case_search.specs.Step.{IsForced, IsOpen, IsWanted, NoReason, NothingForced, QuietAbove}
+use Rattle.case_search.specs.Step.{IsForced, IsOpen, IsWanted, NoReason, QuietAbove}
 use Rattle.case_search.proofs.Weights.{Fits, halves, root_fits}
 
 -- reading the nodes, with the paths of the subtrees to come before and after
@@ -81,7 +81,7 @@ total (w ∷ ws) = w + total ws
 abbrev pub HasRoom : ClauseSet → List (List Literal) → ℕ → ℕ → Type 0
 HasRoom set paths leaves most = (ws : List ℕ) × Bounded set paths ws × (leaves + total ws ≤ most)
 
-HasRoom-split : (set : ClauseSet) (path : List Literal) (paths : List (List Literal)) (v leaves most : ℕ) → NoReason set path → IsOpen set path v → IsForced set path v ⊎ (NothingForced set path × IsWanted set path v) → suc (length path) ≤ var_count set.cells → HasRoom set (path ∷ paths) leaves most → HasRoom set ((yes v ∷ path) ∷ (no v ∷ path) ∷ paths) leaves most
+HasRoom-split : (set : ClauseSet) (path : List Literal) (paths : List (List Literal)) (v leaves most : ℕ) → NoReason set path → IsOpen set path v → IsForced set path v ⊎ IsWanted set path v → suc (length path) ≤ var_count set.cells → HasRoom set (path ∷ paths) leaves most → HasRoom set ((yes v ∷ path) ∷ (no v ∷ path) ∷ paths) leaves most
 HasRoom-split set path paths v leaves most quiet opens why room ([], are, bound) = absurd are
 HasRoom-split set path paths v leaves most quiet opens why room (w ∷ ws, (fits, are), bound) =
     let both = halves set path v w quiet opens why room fits in
@@ -148,7 +148,7 @@ module _ (set : ClauseSet) (nodes : List Node) (path : List Literal) (leaves mos
   places_push : (node : Node) → places_from (nodes ++ node ∷ []) ([] ∷ []) ≡ places_from nodes ([] ∷ []) ++ record { path = path; node = node } ∷ []
   places_push node = places_from-append nodes (node ∷ []) ([] ∷ []) (path ∷ waiting path) at.written.reads
 
-  pub IsAt-split : (v : ℕ) → NoReason set path → IsOpen set path v → IsForced set path v ⊎ (NothingForced set path × IsWanted set path v) → suc (length path) ≤ var_count set.cells → IsAt set (nodes ++ Split v ∷ []) (yes v ∷ path) leaves most
+  pub IsAt-split : (v : ℕ) → NoReason set path → IsOpen set path v → IsForced set path v ⊎ IsWanted set path v → suc (length path) ≤ var_count set.cells → IsAt set (nodes ++ Split v ∷ []) (yes v ∷ path) leaves most
   IsAt-split v none opens why room = record {
     written = record {
       reads = Reads-push nodes (Split v) ([] ∷ []) path (waiting path) at.written.reads;

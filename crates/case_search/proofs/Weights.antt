@@ -13,7 +13,7 @@ use Rattle.case_tree.specs.CaseTree.{ClauseSet, FollowFrom, Holds, IsIn, value_o
 use Rattle.case_tree.proofs.Paths.{value_on-same, value_on-other}
 use Rattle.case_tree.proofs.Walk.{yes, no}
 use Rattle.case_search.specs.Enough.{choices}
-use Rattle.case_search.specs.Step.{HasTrue, IsForced, IsOpen, IsWanted, NoReason, NothingForced}
+use Rattle.case_search.specs.Step.{HasTrue, IsForced, IsOpen, IsWanted, NoReason}
 use Rattle.case_search.proofs.Around.{false_of, none_holds}
 
 -- the number of the n variables from `first` on that have no value
@@ -149,11 +149,11 @@ abbrev pub Fits : ClauseSet → List Literal → ℕ → Type 0
 Fits set path w =
     (1 ≤ w) × (((reason : Reason) × Holds set path reason) ⊎ ((fs : List ℕ) × (u : ℕ) × AreFactors path set.cells fs × (length path + u ≡ var_count set.cells) × (product fs * (u + 1) ≤ w)))
 
--- where nothing is forced, a wanted cell has two variables to choose from
-two_open : (set : ClauseSet) (path : List Literal) (v k : ℕ) (cell : VarCell) → NothingForced set path → IsOpen set path v → k < length set.cells → get_or set.cells k cell ≡ cell → cell.demanded ≡ true → IsIn cell v → (HasTrue path cell → ⊥) → 2 ≤ open_in path cell.first cell.count
-two_open set path v k cell nothing (there, unset) in_range is demanded inside none =
+-- a wanted variable is forced, or its cell has two variables to choose from
+two_open : (set : ClauseSet) (path : List Literal) (v k : ℕ) (cell : VarCell) → IsOpen set path v → k < length set.cells → get_or set.cells k cell ≡ cell → cell.demanded ≡ true → IsIn cell v → (HasTrue path cell → ⊥) → IsForced set path v ⊎ (2 ≤ open_in path cell.first cell.count)
+two_open set path v k cell (there, unset) in_range is demanded inside none =
     ⊎_elim
-    (λ two. two)
+    (λ two. inr two)
     (λ one.
     let fewer = open_in-here (no v) path cell.first cell.count unset inside.0 inside.1 in
     let all_false : (u : ℕ) → IsIn cell u → value_on (no v ∷ path) u ≡ Some false =
@@ -167,8 +167,11 @@ two_open set path v k cell nothing (there, unset) in_range is demanded inside no
     (λ true_u. none (u, u_in, true_u)))
     (cases_eq v u)
     in
-    absurd (nothing (no v) (there, unset) (NoneOf k)
-    (none_holds set (no v ∷ path) set.cells k cell refl in_range (ap (λ (y : VarCell). y.demanded) is ∙ demanded) (subst (λ (y : VarCell). (u : ℕ) → IsIn y u → value_on (no v ∷ path) u ≡ Some false) (sym is) all_false))))
+    inl (
+      false,
+      NoneOf k,
+      (none_holds set (no v ∷ path) set.cells k cell refl in_range (ap (λ (y : VarCell). y.demanded) is ∙ demanded) (subst (λ (y : VarCell). (u : ℕ) → IsIn y u → value_on (no v ∷ path) u ≡ Some false) (sym is) all_false)),
+    ))
     (cases_lt 1 (open_in path cell.first cell.count))
 
 -- bounds for the two subtrees of a split
@@ -179,10 +182,15 @@ pub record Halves (set : ClauseSet) (path : List Literal) (v w : ℕ) : Type 0 w
   pub false_fits : Fits set (no v ∷ path) if_false
   pub within : if_true + if_false ≤ w
 
-pub halves : (set : ClauseSet) (path : List Literal) (v w : ℕ) → NoReason set path → IsOpen set path v → IsForced set path v ⊎ (NothingForced set path × IsWanted set path v) → suc (length path) ≤ var_count set.cells → Fits set path w → Halves set path v w
-halves set path v w quiet opens why room (pos, inl (reason, held)) = absurd (quiet reason held)
-halves set path v w quiet opens why room (pos, inr (fs, zero, are, counted, bound)) = absurd (omega arith)
-halves set path v w quiet opens (inl (true, reason, held)) room (pos, inr (fs, suc u, are, counted, bound)) =
+-- the variable is of a demanded cell with no true variable and with two variables to choose from
+abbrev HasTwo : ClauseSet → List Literal → ℕ → Type 0
+HasTwo set path v =
+    (k : ℕ) × (cell : VarCell) × (k < length set.cells) × (get_or set.cells k cell ≡ cell) × (cell.demanded ≡ true) × IsIn cell v × (HasTrue path cell → ⊥) × (2 ≤ open_in path cell.first cell.count)
+
+halves_by : (set : ClauseSet) (path : List Literal) (v w : ℕ) → NoReason set path → IsOpen set path v → IsForced set path v ⊎ HasTwo set path v → suc (length path) ≤ var_count set.cells → Fits set path w → Halves set path v w
+halves_by set path v w quiet opens why room (pos, inl (reason, held)) = absurd (quiet reason held)
+halves_by set path v w quiet opens why room (pos, inr (fs, zero, are, counted, bound)) = absurd (omega arith)
+halves_by set path v w quiet opens (inl (true, reason, held)) room (pos, inr (fs, suc u, are, counted, bound)) =
     let some = product_pos path set.cells fs are in
     record {
       if_true = 1;
@@ -191,7 +199,7 @@ halves set path v w quiet opens (inl (true, reason, held)) room (pos, inr (fs, s
       false_fits = (omega (arith, mul-le-mul_left (u + 1) some), inr (fs, u, AreFactors-keep (no v) path set.cells fs opens.1 are, omega arith, omega arith));
       within = omega arith;
     }
-halves set path v w quiet opens (inl (false, reason, held)) room (pos, inr (fs, suc u, are, counted, bound)) =
+halves_by set path v w quiet opens (inl (false, reason, held)) room (pos, inr (fs, suc u, are, counted, bound)) =
     let some = product_pos path set.cells fs are in
     record {
       if_true = product fs * (u + 1);
@@ -200,8 +208,7 @@ halves set path v w quiet opens (inl (false, reason, held)) room (pos, inr (fs, 
       false_fits = (omega arith, inl (reason, held));
       within = omega arith;
     }
-halves set path v w quiet opens (inr (nothing, (k, cell, in_range, is, (demanded, inside, none)))) room (pos, inr (fs, suc u, are, counted, bound)) =
-    let two = two_open set path v k cell nothing opens in_range is demanded inside none in
+halves_by set path v w quiet opens (inr (k, cell, in_range, is, demanded, inside, none, two)) room (pos, inr (fs, suc u, are, counted, bound)) =
     let both = branches path v set.cells k cell fs opens.1 (slice_get-get_or set.cells k cell in_range ∙ ap Some is) demanded inside none two are in
     let true_pos = product_pos (yes v ∷ path) set.cells both.trues both.true_factors in
     let false_pos = product_pos (no v ∷ path) set.cells both.falses both.false_factors in
@@ -212,6 +219,15 @@ halves set path v w quiet opens (inr (nothing, (k, cell, in_range, is, (demanded
       false_fits = (omega (arith, mul-le-mul_left (u + 1) false_pos), inr (both.falses, u, both.false_factors, omega arith, omega arith));
       within = omega (arith, mul-le-mul_left (u + 1) both.within);
     }
+
+-- the bound of a node covers those of the two subtrees of a split on a forced or a wanted variable
+pub halves : (set : ClauseSet) (path : List Literal) (v w : ℕ) → NoReason set path → IsOpen set path v → IsForced set path v ⊎ IsWanted set path v → suc (length path) ≤ var_count set.cells → Fits set path w → Halves set path v w
+halves set path v w quiet opens (inl forced) room fits = halves_by set path v w quiet opens (inl forced) room fits
+halves set path v w quiet opens (inr (k, cell, in_range, is, (demanded, inside, none))) room fits =
+    ⊎_elim
+    (λ forced. halves_by set path v w quiet opens (inl forced) room fits)
+    (λ two. halves_by set path v w quiet opens (inr (k, cell, in_range, is, demanded, inside, none, two)) room fits)
+    (two_open set path v k cell opens in_range is demanded inside none)
 
 -- at the root the bound is the product of the numbers of variables of the demanded cells, times one more than all
 pub record Start (cells : List VarCell) : Type 0 where

@@ -53,10 +53,10 @@ IsWanted set path v = Any (λ (cell : VarCell). (cell.demanded ≡ true) × IsIn
 abbrev pub IsAllChosen : ClauseSet → List Literal → Type 0
 IsAllChosen set path = All (λ (cell : VarCell). cell.demanded ≡ true → HasTrue path cell) set.cells
 
--- A leaf's reason holds. A split comes where no reason holds, on a variable without a value that is forced, or, where
--- nothing is forced, wanted. Else there is a model.
+-- A leaf's reason holds. A split comes where no reason holds, on a variable without a value that is forced or wanted.
+-- Where nothing is forced or wanted there is a model.
 abbrev pub IsStep : ClauseSet → List Literal → Step → Type 0
 IsStep set path (Leaf reason) = Holds set path reason
 IsStep set path (Split v) =
-    NoReason set path × IsOpen set path v × (IsForced set path v ⊎ (NothingForced set path × IsWanted set path v))
+    NoReason set path × IsOpen set path v × (IsForced set path v ⊎ IsWanted set path v)
 IsStep set path Model = NoReason set path × NothingForced set path × IsAllChosen set path

@@ -3,6 +3,7 @@
 #![tactic(auto)]
 
 mod bound;
+mod hints;
 mod occurrences;
 mod search;
 mod step;

@@ -1,10 +1,12 @@
 // The search: a walk down and up the tree of cases, whose nodes are written in preorder as it comes to them.
-ghost use Rattle.std.specs.Prelude.{◌≡◌, ◌<◌, ◌≤◌, ◌++◌, Bool, Some, true, IfOk, length, replicate};
+ghost use Rattle.std.specs.Prelude.{◌≡◌, ◌<◌, ◌≤◌, ◌++◌, Bool, Some, true, IfOk, OnOk, length, replicate};
 ghost use Rattle.std.specs.List.{All, range_with_len};
 ghost use Rattle.case_tree.specs.CaseTree.{IsOneTree, value_on, var_count};
+ghost use Rattle.case_tree.specs.Walk.{next_path};
 ghost use Rattle.case_search.specs.Answer.{HasOneFree, IsAnswer};
 ghost use Rattle.case_search.specs.Model.{values_of};
 
+use crate::hints::Hints;
 use crate::occurrences::Occurrences;
 use crate::step::{Step, next_step};
 use case_tree::{Clauses, Literal, Node, Trail, Tree};
@@ -29,12 +31,13 @@ pub fn decide(alloc: Global, clauses: &Clauses, budget: u64) -> Result<Found, Al
 {
     let occurrences = Occurrences::new(alloc, clauses)?;
     let mut trail = Trail::new(alloc, clauses.vars())?;
+    let mut hints = Hints::new(alloc, clauses, &trail)?;
     let mut nodes = Vec::new(alloc);
     // The subtrees that aren't written yet, the present one among them.
     let mut pending = 1usize;
     let mut leaves = 0u64;
     'walk: loop {
-        match next_step(clauses, &occurrences, &mut trail) {
+        match next_step(clauses, &occurrences, &hints, &mut trail) {
             Step::Model => return Ok(Found::Model(values(alloc, &trail, clauses.vars())?)),
             Step::Split(var) => {
                 nodes.push(Node::Split(var))?;
@@ -43,6 +46,7 @@ pub fn decide(alloc: Global, clauses: &Clauses, budget: u64) -> Result<Found, Al
                     var,
                     positive: true,
                 });
+                hints.update(clauses, &occurrences, &trail, var)?;
             }
             Step::Leaf(reason) => {
                 nodes.push(Node::Leaf(reason))?;
@@ -54,10 +58,35 @@ pub fn decide(alloc: Global, clauses: &Clauses, budget: u64) -> Result<Found, Al
                 if leaves == budget {
                     return Ok(Found::Spent(tree_of(with_open(nodes, pending)?)));
                 }
-                trail.advance();
+                advance(clauses, &occurrences, &mut hints, &mut trail)?;
             }
         }
     }
+}
+
+// Goes on to the subtree after the one that the path leads to, as `Trail::advance` does, and keeps the hints up to date.
+fn advance(
+    clauses: &Clauses,
+    occurrences: &Occurrences,
+    hints: &mut Hints,
+    trail: &mut Trail,
+) -> Result<(), AllocError>
+    requires vars { trail.old.vars ≡ var_count clauses.now.cells }
+    requires counted { length occurrences.now ≡ var_count clauses.now.cells }
+    ensures path { OnOk result (trail.new.path ≡ next_path trail.old.path) }
+    ensures vars { trail.new.vars ≡ trail.old.vars }
+{
+    while let Some(last) = trail.pop() {
+        if last.positive {
+            trail.push(Literal {
+                var: last.var,
+                positive: false,
+            });
+            return hints.update(clauses, occurrences, trail, last.var);
+        }
+        hints.update(clauses, occurrences, trail, last.var)?;
+    }
+    Ok(())
 }
 
 // The assignment in which exactly the variables are true that the path makes true.

@@ -1,5 +1,5 @@
 // What the search does at a node.
-ghost use Rattle.std.specs.Prelude.{◌≡◌, ◌+◌, ◌^◌, ◌<◌, ◌≢◌, ◌⊎◌, ℕ, Some, None, true, false, length, IfSome, IfNone, IsSomeAnd, slice_get, [], ◌∷◌};
+ghost use Rattle.std.specs.Prelude.{◌≡◌, ◌+◌, ◌^◌, ◌<◌, ◌≢◌, ◌⊎◌, ℕ, Some, None, true, false, length, IfSome, IfNone, IsTrue, IsSomeAnd, slice_get, [], ◌∷◌};
 ghost use Rattle.std.specs.Bool.{MatchBool};
 ghost use Rattle.std.specs.List.{All};
 ghost use Rattle.case_tree.specs.declared.clauses.Literal.{Literal};
@@ -8,6 +8,7 @@ ghost use Rattle.case_tree.specs.CaseTree.{Holds, IsIn, value_on, var_count};
 ghost use Rattle.case_search.specs.Places.{IsIndexOf};
 ghost use Rattle.case_search.specs.Step.{HasTrue, IsAllChosen, IsForced, IsOpen, IsStep, IsWanted, NoReason, NothingForced, QuietAbove, QuietBut};
 
+use crate::hints::Hints;
 use crate::occurrences::Occurrences;
 use case_tree::{Clauses, Literal, Reason, Trail, VarCell, holds};
 
@@ -19,7 +20,12 @@ pub enum Step {
     Model,
 }
 
-pub fn next_step(clauses: &Clauses, occurrences: &Occurrences, trail: &mut Trail) -> Step
+pub fn next_step(
+    clauses: &Clauses,
+    occurrences: &Occurrences,
+    hints: &Hints,
+    trail: &mut Trail,
+) -> Step
     requires vars { trail.old.vars ≡ var_count clauses.now.cells }
     requires index { IsIndexOf clauses.now occurrences.now }
     requires quiet { QuietAbove clauses.now trail.old.path }
@@ -29,6 +35,74 @@ pub fn next_step(clauses: &Clauses, occurrences: &Occurrences, trail: &mut Trail
     if let Some(reason) = reason_here(clauses, occurrences, trail) {
         return Step::Leaf(reason);
     }
+    if let Some(var) = hinted_split(clauses, occurrences, hints, trail) {
+        return Step::Split(var);
+    }
+    unhinted_step(clauses, occurrences, trail)
+}
+
+// The split that a hint leads to: on a forced variable, or else on a wanted one.
+fn hinted_split(
+    clauses: &Clauses,
+    occurrences: &Occurrences,
+    hints: &Hints,
+    trail: &mut Trail,
+) -> Option<usize>
+    requires vars { trail.old.vars ≡ var_count clauses.now.cells }
+    requires index { IsIndexOf clauses.now occurrences.now }
+    requires quiet { NoReason clauses.now trail.old.path }
+    ensures open { IfSome result (IsOpen clauses.now trail.old.path) }
+    ensures why { IfSome result
+        (λ v. IsForced clauses.now trail.old.path v ⊎ IsWanted clauses.now trail.old.path v) }
+    ensures trail { trail.new ≡ trail.old }
+{
+    match hints.first_forced() {
+        Some(var) => {
+            if can_force(clauses, occurrences, trail, var) {
+                Some(var)
+            } else {
+                None
+            }
+        }
+        None => wanted_at(clauses, trail, hints.first_wanted()?),
+    }
+}
+
+// Whether the variable has no value and is forced.
+fn can_force(clauses: &Clauses, occurrences: &Occurrences, trail: &mut Trail, var: usize) -> bool
+    requires vars { trail.old.vars ≡ var_count clauses.now.cells }
+    requires index { IsIndexOf clauses.now occurrences.now }
+    requires quiet { NoReason clauses.now trail.old.path }
+    ensures open { IsTrue result → IsOpen clauses.now trail.old.path var }
+    ensures forced { IsTrue result → IsForced clauses.now trail.old.path var }
+    ensures trail { trail.new ≡ trail.old }
+{
+    var < clauses.vars()
+        && trail.value(var).is_none()
+        && is_forced(clauses, occurrences, trail, var)
+}
+
+// A variable without a value of the cell, where it is demanded and has no true variable.
+fn wanted_at(clauses: &Clauses, trail: &Trail, at: usize) -> Option<usize>
+    ensures open { IfSome result (IsOpen clauses.now trail.now.path) }
+    ensures wanted { IfSome result (IsWanted clauses.now trail.now.path) }
+{
+    let cells = clauses.cells();
+    if at < cells.len() {
+        wanted_in(&cells[at], trail)
+    } else {
+        None
+    }
+}
+
+// The step that needs no hints, and looks through all variables and cells.
+fn unhinted_step(clauses: &Clauses, occurrences: &Occurrences, trail: &mut Trail) -> Step
+    requires vars { trail.old.vars ≡ var_count clauses.now.cells }
+    requires index { IsIndexOf clauses.now occurrences.now }
+    requires quiet { NoReason clauses.now trail.old.path }
+    ensures step { IsStep clauses.now trail.old.path result }
+    ensures trail { trail.new ≡ trail.old }
+{
     if let Some(var) = first_forced(clauses, occurrences, trail) {
         return Step::Split(var);
     }
@@ -238,7 +312,8 @@ fn wanted_in(cell: &VarCell, trail: &Trail) -> Option<usize>
     first_open(cell, trail)
 }
 
-fn has_true(cell: &VarCell, trail: &Trail) -> bool
+/// Whether the path makes a variable of the cell true.
+pub fn has_true(cell: &VarCell, trail: &Trail) -> bool
     requires { cell.now.first + cell.now.count < 2 ^ 64 }
     ensures { MatchBool result (HasTrue trail.now.path cell.now) (HasTrue trail.now.path cell.now → ⊥) }
 {

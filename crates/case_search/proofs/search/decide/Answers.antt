@@ -29,8 +29,8 @@ pub overflow_add-pending : goal.overflow_add-pending
 overflow_add-pending c =
     omega (arith, c.walk.invariant.pending, pending_bound _ _ _ _ _ c.walk.invariant.at, c.walk.nodes.ok.0, c.walk.nodes.small)
 
-pub walk-preserved-in-Split : goal.walk-preserved-in-Split
-walk-preserved-in-Split c =
+pub walk-preserved-in_ok-update-in-Split : goal.walk-preserved-in_ok-update-in-Split
+walk-preserved-in_ok-update-in-Split c =
     let v = c.in-Split.var in
     let walked = c.walk.invariant in
     let same_vars : c.next_step.new.trail.vars ≡ c.walk.trail.vars = ap (λ (way : Way). way.vars) c.in-Split.ensures.trail in
@@ -83,7 +83,7 @@ walk-preserved c =
     let written = IsWritten-leaf _ _ _ _ _ walked.at c.in-Leaf.reason c.in-Leaf.ensures.step in
     let some : 0 < length (waiting c.walk.trail.path) = omega (arith, walked.pending, c.if-pending-eq0.false) in
     let same_vars : c.next_step.new.trail.vars ≡ c.walk.trail.vars = ap (λ (way : Way). way.vars) c.in-Leaf.ensures.trail in
-    let path_is : c.advance.new.self.path ≡ next_path c.walk.trail.path = c.advance.ensures.path ∙ ap (λ (way : Way). next_path way.path) c.in-Leaf.ensures.trail in
+    let path_is : c.advance.new.trail.path ≡ next_path c.walk.trail.path = c.in_ok-advance-in-Leaf.ensures.path ∙ ap (λ (way : Way). next_path way.path) c.in-Leaf.ensures.trail in
     let vars_are = c.advance.ensures.vars ∙ same_vars ∙ walked.vars in
     record {
       at = rw (c.in_ok-push-in-Leaf.ensures.items, path_is) (IsAt-next _ _ _ _ _ walked.at.quiet some written);

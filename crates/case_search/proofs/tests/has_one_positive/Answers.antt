@@ -1,6 +1,5 @@
-use Rattle.std.proofs.Common.{◌≡◌, ℕ, ◌<◌, true, below_more, List, sym, subst, arith}
+use Rattle.std.proofs.Common.{◌≡◌, ℕ, true, below_more, sym, arith}
 use Rattle.std.proofs.lemmas.List.Elements.{All-contains}
-use Rattle.std.proofs.lemmas.Option.{slice_get-get_or}
 use Rattle.std.specs.Prelude.{IsSomeAnd, slice_get}
 use Rattle.std.specs.List.{All}
 use Rattle.case_tree.specs.declared.clauses.Literal.{Literal}
