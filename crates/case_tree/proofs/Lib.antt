@@ -1,0 +1,10 @@
+pub mod Cells
+pub mod Course
+pub mod Lists
+pub mod Paths
+pub mod Preorder
+pub mod Soundness
+pub mod Trails
+pub mod Verdicts
+pub mod Walk
+pub mod Walked

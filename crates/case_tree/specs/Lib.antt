@@ -1,0 +1,3 @@
+pub mod CaseTree
+pub mod Verdict
+pub mod Walk

@@ -1,0 +1,8 @@
+use Rattle.std.proofs.Common.{rules}
+use Rattle.indexmap.proofs.CallerLemmas.{insert_entry-new}
+use Rattle.marked_map.proofs.entry.find_or_push.Goals as goal
+
+-- what an entry's `insert` leaves at a new key is the entries and its own
+pub returns-in-Ok-Vacant-clause-pushed : goal.returns-in-Ok-Vacant-clause-pushed
+returns-in-Ok-Vacant-clause-pushed g c none =
+    rw (← insert_entry-new g.K.PartialEq.eq c.args.map.now c.args.key c.args.fresh none) (search rules)

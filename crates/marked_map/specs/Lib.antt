@@ -1,0 +1,2 @@
+pub mod MarkedMap
+pub mod Lending

@@ -1,0 +1,95 @@
+// The real files under the working folder.
+ghost use Rattle.std.specs.Prelude.{◌≡◌, ◌+◌, ◌≤◌, ℕ, length, Option, None, Some, IsSome, IfOk, IfSome, IsErrOf};
+ghost use Rattle.shelf_io.specs.Counts.{no_counts, counts_after};
+ghost use Rattle.shelf_io.specs.Files.{file_at, front_at};
+ghost use Rattle.shelf_io.specs.Rising.{Rose};
+
+use crate::counts::FetchCounts;
+use crate::{FetchFault, Shelf};
+use std::alloc::Global;
+use std::fs;
+use std::io::{ErrorKind, Read};
+use std::marker::Model;
+use std::rt::Files;
+
+// How many bytes are asked for at a time.
+const CHUNK: usize = 65_536;
+
+/// The real files under the working folder. It tells no content, and counts each failure and each absence.
+#[derive(Drop)]
+pub struct FolderShelf<R: Files> {
+    alloc: Global,
+    rt: R,
+    pub(crate) counts: FetchCounts,
+}
+
+impl<R: Files> Model for FolderShelf<R> {
+    ghost use Rattle.shelf_io.specs.declared.counts.FetchCounts.{FetchCounts};
+
+    ghost Value = { FetchCounts };
+
+    ghost view = { λ shelf. shelf.counts };
+}
+
+impl<R: Files> FolderShelf<R> {
+    pub fn new(alloc: Global, rt: R) -> Self
+        ensures { result ≡ no_counts }
+    {
+        FolderShelf {
+            alloc,
+            rt,
+            counts: FetchCounts::new(),
+        }
+    }
+}
+
+impl<R: Files> Shelf for FolderShelf<R> {
+    ghost holding = { λ _. None };
+
+    ghost faults = { λ shelf. shelf.faults };
+
+    ghost absences = { λ shelf. shelf.absences };
+
+    ghost calls = { λ shelf. shelf.calls };
+
+    fn fetch(&mut self, name: &str, most: usize) -> Result<Vec<u8>, FetchFault>
+        ensures length { IfOk result (λ bytes. length bytes.items ≤ most) }
+        ensures counts { self.new ≡ counts_after result self.old }
+    {
+        let answer = match fs::open(&self.rt, name) {
+            Ok(mut file) => read_front(self.alloc, &mut file, most),
+            Err(e) => Err(fault_of(e.kind())),
+        };
+        self.counts.add(&answer);
+        answer
+    }
+}
+
+// "No such file" alone is an absence: a name with a NUL or one that is too long, a folder in place of a file and
+// a want of rights are failures.
+fn fault_of(kind: ErrorKind) -> FetchFault {
+    match kind {
+        ErrorKind::NotFound => FetchFault::Absent,
+        ErrorKind::OutOfMemory => FetchFault::Memory,
+        _ => FetchFault::Failed,
+    }
+}
+
+// Reads until the file's end, which is a read that gives nothing, or until there are `most` bytes.
+fn read_front(alloc: Global, file: &mut impl Read, most: usize) -> Result<Vec<u8>, FetchFault>
+    ensures { IfOk result (λ bytes. length bytes.items ≤ most) }
+{
+    let mut chunk = vec![in alloc; 0u8; CHUNK.min(most)]?;
+    let mut bytes = Vec::new(alloc);
+    while bytes.len() < most {
+        let asked = chunk.len().min(most - bytes.len());
+        let got = file
+            .read(&mut chunk[..asked])
+            .map_err(|_| FetchFault::Failed)?;
+        if got == 0 {
+            break;
+        }
+        bytes.extend_from_slice(&chunk[..got])?;
+    }
+    Ok(bytes)
+}

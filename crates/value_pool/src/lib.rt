@@ -1,0 +1,91 @@
+// Interned texts. A pool is a list of distinct texts, and the id of a text is its place in it, so two
+// values are equal exactly where their ids are. An id never changes its text.
+#![tactic(auto)]
+
+ghost use Rattle.std.specs.Prelude.{◌≡◌, ◌<◌, [], length, IfSome, IfNone, IfOk, OnOk, OnErr};
+ghost use Rattle.value_pool.specs.Pool.{AreDistinct, HasId, Interns, IsNew, KeepsIds};
+
+use indexmap::IndexSet;
+use std::alloc::{AllocError, Global};
+use std::marker::Model;
+
+/// The place of a text in its pool.
+pub type ValueId = usize;
+
+/// Texts that are stored once, and named by numbers.
+///
+/// Contracts see the list of its texts, each as its bytes.
+#[derive(Drop)]
+pub struct Pool {
+    texts: IndexSet<String>,
+}
+
+impl Model for Pool {
+    ghost use Rattle.std.specs.Prelude.{List, map, ℕ, string_bytes};
+    ghost use Rattle.value_pool.specs.Pool.{AreDistinct};
+
+    ghost Value = { List (List ℕ) };
+
+    ghost view = { λ pool. map string_bytes pool.texts.keys };
+
+    ghost invariant = { λ pool. AreDistinct (map string_bytes pool.texts.keys) };
+}
+
+impl Pool {
+    /// An empty pool, which takes no memory yet.
+    pub fn new(alloc: Global) -> Pool
+        ensures { result ≡ [] }
+    {
+        Pool {
+            texts: IndexSet::new(alloc),
+        }
+    }
+
+    /// How many texts there are. Each number below it is the id of one.
+    pub fn len(&self) -> usize
+        ensures len { result ≡ length self.now }
+        ensures distinct { AreDistinct self.now }
+    {
+        self.texts.len()
+    }
+
+    /// The id of a text, which is added where it is new.
+    pub fn intern(&mut self, text: &str) -> Result<ValueId, AllocError>
+        ensures id { IfOk result (HasId self.new text.now) }
+        ensures within { IfOk result (λ id. id < length self.new) }
+        ensures interned { OnOk result (Interns self.old text.now self.new) }
+        ensures err { OnErr result (self.new ≡ self.old) }
+
+        // Whatever the outcome, no id changes its text.
+        ensures kept { KeepsIds self.old self.new }
+        ensures distinct { AreDistinct self.new }
+    {
+        if let Some(id) = self.find(text) {
+            return Ok(id);
+        }
+        let owned = String::from_str(*self.texts.allocator(), text)?;
+        let (id, _) = self.texts.insert_full(owned)?;
+        Ok(id)
+    }
+
+    /// The id of a text, if it is there. It takes no memory.
+    pub fn find(&self, text: &str) -> Option<ValueId>
+        ensures found { IfSome result (HasId self.now text.now) }
+        ensures within { IfSome result (λ id. id < length self.now) }
+        ensures absent { IfNone result (IsNew self.now text.now) }
+        ensures distinct { AreDistinct self.now }
+    {
+        self.texts.get_index_of(text)
+    }
+
+    /// The text with this id. It takes no memory.
+    pub fn text(&self, id: ValueId) -> &str
+        requires { id < length self.now }
+        ensures { HasId self.now result.now id }
+    {
+        self.texts.as_slice()[id].as_str()
+    }
+}
+
+#[cfg(test)]
+mod tests;
