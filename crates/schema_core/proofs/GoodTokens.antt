@@ -1,14 +1,15 @@
 -- The names and texts among the tokens of a line, and among what a schema line says.
-use Rattle.std.proofs.Common.{inl, inr, ◌≡◌, ℕ, zero, suc, ◌+◌, ◌≤◌, Bool, true, false, cond, eqb, ◌&&◌, List, [], ◌∷◌, length, take, Option, Some, None, refl, ap, sym, ◌∙◌, subst, arith}
-use Rattle.std.specs.Prelude.{not}
+use Rattle.std.proofs.Common.{inl, inr, ◌≡◌, ℕ, zero, suc, ◌+◌, ◌≤◌, Bool, true, false, cond, eqb, ◌&&◌, List, [], ◌∷◌, length, take, Option, Some, None, Result, Ok, Err, refl, ap, sym, ◌∙◌, subst, arith}
+use Rattle.std.specs.Prelude.{not, IfOk}
 use Rattle.std.specs.Str.{IsUtf8, is_utf8}
 use Rattle.std.specs.Char.{is_ascii_alphabetic, is_ascii_digit}
 use Rattle.std.specs.List.{prefix_len, list_all, AllByRecursion}
-use Rattle.std.proofs.lemmas.Bool.{cases_Bool, cases_eq, cond-true, cond-false, cond_both, and_from, le-leb}
+use Rattle.std.proofs.lemmas.Bool.{cases_Bool, cases_eq, cond-true, cond-false, cond_both, and_from, le-leb, not-false}
 use Rattle.std.proofs.lemmas.List.{length-take}
 use Rattle.std.proofs.lemmas.Str.{IsUtf8-from_is_utf8}
 use Rattle.std.proofs.lemmas.Option.{none-some, some_pair_parts}
 use Rattle.schema_core.specs.Names.{is_name_byte, IsName}
+use Rattle.schema_core.specs.GoodTokens.{IsGoodToken, HasGoodTokens}
 use Rattle.schema_core.specs.declared.tokens.Mark.{Mark}
 use Rattle.schema_core.specs.declared.tokens.Token.{Token}
 use Rattle.schema_core.specs.declared.tokens.Token.TheVariants.{Name, Number, Quoted, Sign}
@@ -19,13 +20,6 @@ use Rattle.schema_core.proofs.Runs.{prefix_len-le}
 use Rattle.schema_core.proofs.Utf8.{IsUtf8-tail}
 use Rattle.schema_core.proofs.Texts.{text_from-IsUtf8}
 use Rattle.schema_core.proofs.TokenLemmas.{token_at-nil, token_at-letter, token_at-zero, token_at-digit, token_at-quote, token_at-mark, quoted_token-some, letter-is_name_byte, token_at-Follows, IsUtf8-after_blanks}
-
--- a name is one, and a text is UTF-8
-abbrev pub IsGoodToken : Token → Type 0
-IsGoodToken (Name name) = IsName name
-IsGoodToken (Number n) = Unit {0}
-IsGoodToken (Quoted text) = IsUtf8 text
-IsGoodToken (Sign mark) = Unit {0}
 
 -- ---- the token at the front
 
@@ -77,53 +71,44 @@ token_at-good (b ∷ bytes) rest token utf8 e =
 
 -- ---- the tokens of a line
 
-Tokens-nil : (tokens : List Token) → ◌≡◌ {A = LineTokens} (Tokens []) (Tokens tokens) → AllByRecursion IsGoodToken tokens
-Tokens-nil tokens e = let same : [] ≡ tokens = cc in subst (AllByRecursion IsGoodToken) same tt
+with_token-good : (t : Token) (rest : LineTokens) → IsGoodToken t → HasGoodTokens rest → HasGoodTokens (with_token t rest)
+with_token-good t Passed good others = tt
+with_token-good t NotUtf8 good others = tt
+with_token-good t (BadTokens ts) good others = (good, others)
+with_token-good t (Tokens ts) good others = (good, others)
 
-bad_tokens : (tokens : List Token) → ◌≡◌ {A = LineTokens} (BadTokens []) (Tokens tokens) → ⊥
-bad_tokens tokens e = cc
+and_then-good : (touches : Bool) (o : Option (Token × List ℕ)) (rest : Bool → List ℕ → LineTokens)
+    → ((t : Token) (left : List ℕ) → o ≡ Some (t, left) → IsGoodToken t) → ((t : Token) (left : List ℕ) → o ≡ Some (t, left) → HasGoodTokens (rest (is_word t) left)) → HasGoodTokens (and_then touches o rest)
+and_then-good touches None rest good further = tt
+and_then-good touches (Some found) rest good further =
+    cond_both (touches && is_word found.0) (BadTokens []) (with_token found.0 (rest (is_word found.0) found.1)) HasGoodTokens
+    (λ bad. tt)
+    (λ apart. with_token-good found.0 (rest (is_word found.0) found.1) (good found.0 found.1 refl) (further found.0 found.1 refl))
 
-passed_tokens : (tokens : List Token) → ◌≡◌ {A = LineTokens} Passed (Tokens tokens) → ⊥
-passed_tokens tokens e = cc
-
-not_utf8_tokens : (tokens : List Token) → ◌≡◌ {A = LineTokens} NotUtf8 (Tokens tokens) → ⊥
-not_utf8_tokens tokens e = cc
-
-with_token-Tokens : (t : Token) (rest : LineTokens) (tokens : List Token) → with_token t rest ≡ Tokens tokens → (others : List Token) × (rest ≡ Tokens others) × (t ∷ others ≡ tokens)
-with_token-Tokens t Passed tokens e = absurd cc
-with_token-Tokens t NotUtf8 tokens e = absurd cc
-with_token-Tokens t (BadTokens ts) tokens e = absurd cc
-with_token-Tokens t (Tokens ts) tokens e = (ts, refl, cc)
-
-and_then-good : (touches : Bool) (o : Option (Token × List ℕ)) (rest : Bool → List ℕ → LineTokens) (tokens : List Token) → and_then touches o rest ≡ Tokens tokens
-    → ((t : Token) (left : List ℕ) → o ≡ Some (t, left) → IsGoodToken t) → ((t : Token) (left : List ℕ) (others : List Token) → o ≡ Some (t, left) → rest (is_word t) left ≡ Tokens others → AllByRecursion IsGoodToken others) → AllByRecursion IsGoodToken tokens
-and_then-good touches None rest tokens e good further = absurd cc
-and_then-good touches (Some found) rest tokens e good further =
-    elim (cases_Bool (touches && is_word found.0)) [
-      | inl bad ↦ absurd (bad_tokens tokens (sym (cond-true _ (BadTokens []) (with_token found.0 (rest (is_word found.0) found.1)) bad) ∙ e))
-      | inr apart ↦ (
-          let parts = with_token-Tokens found.0 (rest (is_word found.0) found.1) tokens (sym (cond-false _ (BadTokens []) (with_token found.0 (rest (is_word found.0) found.1)) apart) ∙ e) in
-          subst (AllByRecursion IsGoodToken) parts.2 (good found.0 found.1 refl, further found.0 found.1 parts.0 refl parts.1))
-    ]
-
-tokens_from-good : (room : ℕ) (after_word : Bool) (bytes : List ℕ) (tokens : List Token) → IsUtf8 bytes → tokens_from room after_word bytes ≡ Tokens tokens → AllByRecursion IsGoodToken tokens
+tokens_from-good : (room : ℕ) (after_word : Bool) (bytes : List ℕ) → IsUtf8 bytes → HasGoodTokens (tokens_from room after_word bytes)
 unfolding tokens_from
-tokens_from-good zero after_word bytes tokens utf8 e = Tokens-nil tokens e
-tokens_from-good (suc room) after_word bytes tokens utf8 e =
-    elim (cases_Bool (eqb (length (after_blanks bytes)) 0)) [
-      | inl ended ↦ Tokens-nil tokens (sym (cond-true _ _ _ ended) ∙ e)
-      | inr more ↦ and_then-good (after_word && not (begins_blank bytes)) (token_at (after_blanks bytes)) (tokens_from room) tokens (sym (cond-false _ _ _ more) ∙ e)
-          (λ t left found. token_at-good (after_blanks bytes) left t (IsUtf8-after_blanks bytes utf8) found)
-          (λ t left others found rest. tokens_from-good room (is_word t) left others (token_at-Follows (after_blanks bytes) left t (IsUtf8-after_blanks bytes utf8) found).utf8 rest)
-    ]
+tokens_from-good zero after_word bytes utf8 = tt
+tokens_from-good (suc room) after_word bytes utf8 =
+    let front = after_blanks bytes in
+    let at_front = IsUtf8-after_blanks bytes utf8 in
+    cond_both (eqb (length front) 0) (Tokens []) (and_then (after_word && not (begins_blank bytes)) (token_at front) (tokens_from room)) HasGoodTokens
+    (λ ended. tt)
+    (λ more. and_then-good (after_word && not (begins_blank bytes)) (token_at front) (tokens_from room)
+        (λ t left found. token_at-good front left t at_front found)
+        (λ t left found. tokens_from-good room (is_word t) left (token_at-Follows front left t at_front found).utf8))
+
+pub line_tokens-are_good : (line : List ℕ) → HasGoodTokens (line_tokens line)
+unfolding line_tokens
+line_tokens-are_good line =
+    cond_both (not (is_utf8 line)) NotUtf8 (cond (is_passed line) Passed (tokens_from (length line) false line)) HasGoodTokens
+    (λ bad. tt)
+    (λ utf8. cond_both (is_passed line) Passed (tokens_from (length line) false line) HasGoodTokens
+        (λ passed. tt)
+        (λ kept. tokens_from-good (length line) false line (IsUtf8-from_is_utf8 line (not-false (is_utf8 line) utf8))))
 
 pub line_tokens-good : (line : List ℕ) (tokens : List Token) → line_tokens line ≡ Tokens tokens → AllByRecursion IsGoodToken tokens
-unfolding line_tokens
-line_tokens-good line tokens e =
-    elim (cases_Bool (is_utf8 line)) [
-      | inl utf8 ↦ elim (cases_Bool (is_passed line)) [
-        | inl passed ↦ absurd (passed_tokens tokens (sym (ap (λ u. cond (not u) NotUtf8 (cond (is_passed line) Passed (tokens_from (length line) false line))) utf8 ∙ cond-true (is_passed line) _ _ passed) ∙ e))
-        | inr kept ↦ tokens_from-good (length line) false line tokens (IsUtf8-from_is_utf8 line utf8) (sym (ap (λ u. cond (not u) NotUtf8 (cond (is_passed line) Passed (tokens_from (length line) false line))) utf8 ∙ cond-false (is_passed line) _ _ kept) ∙ e)
-      ]
-      | inr bad ↦ absurd (not_utf8_tokens tokens (sym (ap (λ u. cond (not u) NotUtf8 (cond (is_passed line) Passed (tokens_from (length line) false line))) bad) ∙ e))
-    ]
+line_tokens-good line tokens e = subst HasGoodTokens e (line_tokens-are_good line)
+
+pub found-good : {E : Type 0} (r : Result LineTokens E) (room : ℕ) (line : List ℕ) → IsUtf8 line → IfOk r (λ found. found ≡ tokens_from room false line) → IfOk r HasGoodTokens
+found-good (Ok found) room line utf8 e = subst HasGoodTokens (sym e) (tokens_from-good room false line utf8)
+found-good (Err error) room line utf8 e = tt

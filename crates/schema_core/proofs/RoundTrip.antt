@@ -8,9 +8,9 @@ use Rattle.std.proofs.lemmas.List.{append-nil}
 use Rattle.std.proofs.lemmas.List.Elements.{recursion_from_All}
 use Rattle.schema_core.specs.Limits.{standard}
 use Rattle.schema_core.specs.Names.{IsName, IsFileName, IsConstant}
-use Rattle.schema_core.specs.TokenLists.{list1_within, list1_at, in_front, and_others}
+use Rattle.schema_core.specs.TokenLists.{list1_within, list1_at, in_front, and_others, none_after}
 use Rattle.schema_core.specs.Schemas.{AreDistinct, IsValidDomain, IsValidAttr, IsValidTable, IsValidSchema, HasFewValues, HasFewAttrs, names_of_tables, names_of_attrs}
-use Rattle.schema_core.specs.SchemaLines.{is_file_name, is_constant, lone_file, value_at, none_after, values_of, named_table, attr_in, file_line, schema_line}
+use Rattle.schema_core.specs.SchemaLines.{is_file_name, is_constant, lone_file, value_at, values_of, named_table, attr_in, file_line, schema_line}
 use Rattle.schema_core.specs.SchemaFiles.{has_text, has_table, has_attr, has_twice, empty_draft, closed, schema_of, domain_fault, has_too_many_values, or_attr_limit, with_attr, reopened, add_line, counts_as_attr, or_later, attr_follows, read_line, at_line, read_lines, reads}
 use Rattle.schema_core.specs.Spelling.{line_text}
 use Rattle.schema_core.specs.SchemaText.{value_tokens, domain_tokens, attr_text, table_word, head_text, table_lines, file_lines, schema_lines, canonical}

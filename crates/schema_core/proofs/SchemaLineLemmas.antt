@@ -5,8 +5,8 @@ use Rattle.std.proofs.lemmas.Bool.{ne_eqb, eq-eqb, cond-true, cond-false}
 use Rattle.std.proofs.lemmas.Option.{none-some, cond_some}
 use Rattle.schema_core.specs.declared.tokens.Token.{Token}
 use Rattle.schema_core.specs.declared.tokens.Token.TheVariants.{Quoted}
-use Rattle.schema_core.specs.TokenLists.{behind_comma, list1_at}
-use Rattle.schema_core.specs.SchemaLines.{is_constant, value_at, none_after, values_of}
+use Rattle.schema_core.specs.TokenLists.{behind_comma, list1_at, none_after}
+use Rattle.schema_core.specs.SchemaLines.{is_constant, value_at, values_of}
 use Rattle.schema_core.proofs.ListLemmas.{ListLeft, ListLeft-none, ListLeft-last, list1_within-none}
 
 pub value_at-takes : (tokens rest : List Token) (value : List ℕ) → value_at tokens ≡ Some (value, rest) → length rest < length tokens

@@ -11,9 +11,9 @@ use Rattle.schema_core.specs.Limits.{AreLimits}
 use Rattle.schema_core.specs.Names.{IsName, IsFileName, IsConstant}
 use Rattle.schema_core.specs.Lines.{lines}
 use Rattle.schema_core.specs.Tokens.{line_tokens}
-use Rattle.schema_core.specs.TokenLists.{list1_within, list1_at, list_at, in_front, or_others, and_others, behind_comma}
+use Rattle.schema_core.specs.TokenLists.{list1_within, list1_at, list_at, in_front, or_others, and_others, behind_comma, none_after}
 use Rattle.schema_core.specs.Schemas.{AreDistinct, IsValidDomain, IsValidAttr, IsValidTable, IsValidSchema, HasFewValues, HasFewAttrs, names_of_tables, names_of_attrs}
-use Rattle.schema_core.specs.SchemaLines.{is_file_name, is_constant, lone_file, value_at, none_after, values_of, named_table, table_line, attr_in, attr_line, file_line, schema_line}
+use Rattle.schema_core.specs.SchemaLines.{is_file_name, is_constant, lone_file, value_at, values_of, named_table, table_line, attr_in, attr_line, file_line, schema_line}
 use Rattle.schema_core.specs.SchemaFiles.{has_table, has_attr, has_twice, empty_draft, with_latest, closed, schema_of, add_table, domain_fault, has_too_many_values, or_attr_limit, with_attr, reopened, add_attr, add_rules, add_script, add_line, begins_attr, counts_as_attr, or_later, attr_follows, read_line, at_line, read_lines, reads}
 use Rattle.schema_core.specs.declared.tokens.Mark.TheVariants.{Comma}
 use Rattle.schema_core.specs.declared.tokens.Token.{Token}
@@ -31,7 +31,8 @@ use Rattle.schema_core.specs.declared.schema.SchemaFault.{SchemaFault}
 use Rattle.schema_core.specs.declared.schema_lines.SchemaLine.{SchemaLine}
 use Rattle.schema_core.specs.declared.schema_lines.SchemaLine.TheVariants as says
 use Rattle.schema_core.specs.declared.draft.Draft.{Draft}
-use Rattle.schema_core.proofs.GoodTokens.{IsGoodToken, line_tokens-good}
+use Rattle.schema_core.specs.GoodTokens.{IsGoodToken}
+use Rattle.schema_core.proofs.GoodTokens.{line_tokens-good}
 use Rattle.schema_core.proofs.DistinctLemmas.{bytes_eq-true, none_equal, AreDistinct-nil, AreDistinct-push, AreDistinct-from_test}
 
 -- ---- what a line says is well formed

@@ -4,6 +4,7 @@ pub mod Rows
 pub mod Schemas
 pub mod Lines
 pub mod Tokens
+pub mod GoodTokens
 pub mod TokenLists
 pub mod SchemaLines
 pub mod SchemaFiles

@@ -7,7 +7,7 @@
 -- FILE is a text of 1 to 1,024 bytes, VALUE a text of at most 1,024 bytes.
 use Rattle.std.specs.Prelude.{ℕ, Bool, true, false, ◌&&◌, List, [], ◌∷◌, length, Option, Some, None, if◌then◌else◌, ◌==◌, nat_le, codes}
 use Rattle.std.specs.Str.{bytes_eq}
-use Rattle.schema_core.specs.TokenLists.{Reader, list_at}
+use Rattle.schema_core.specs.TokenLists.{Reader, list_at, none_after}
 use Rattle.schema_core.specs.declared.tokens.Token.{Token}
 use Rattle.schema_core.specs.declared.tokens.Token.TheVariants.{Name, Quoted}
 use Rattle.schema_core.specs.declared.schema.Domain.TheVariants.{AnyText, Finite}
@@ -31,10 +31,6 @@ lone_file _ = None
 abbrev pub value_at : Reader (List ℕ)
 value_at (Quoted value ∷ rest) = if is_constant value then Some (value, rest) else None
 value_at _ = None
-
-abbrev pub none_after : {A : Type 0} → Option (A × List Token) → Option A
-none_after None = None
-none_after (Some found) = if length found.1 == 0 then Some found.0 else None
 
 -- LIST(VALUE) to the end of the line
 abbrev pub values_of : List Token → Option (List (List ℕ))

@@ -1,5 +1,5 @@
 -- Lists in the grammar of a line: LIST(p) is no p, or several with `,` between them; LIST1(p) has at least one.
-use Rattle.std.specs.Prelude.{ℕ, zero, suc, List, [], ◌∷◌, length, Option, Some, None, is_some, if◌then◌else◌}
+use Rattle.std.specs.Prelude.{ℕ, zero, suc, List, [], ◌∷◌, length, Option, Some, None, is_some, if◌then◌else◌, ◌==◌}
 use Rattle.schema_core.specs.declared.tokens.Mark.TheVariants.{Comma}
 use Rattle.schema_core.specs.declared.tokens.Token.{Token}
 use Rattle.schema_core.specs.declared.tokens.Token.TheVariants.{Sign}
@@ -39,3 +39,8 @@ list1_at p tokens = list1_within p (length tokens) tokens
 -- LIST(p) at the front: where no p stands there, it is empty
 abbrev pub list_at : {A : Type 0} → Reader A → List Token → Option (List A × List Token)
 list_at p tokens = if is_some (p tokens) then list1_at p tokens else Some ([], tokens)
+
+-- what was read, where no token is left after it
+abbrev pub none_after : {A : Type 0} → Option (A × List Token) → Option A
+none_after None = None
+none_after (Some found) = if length found.1 == 0 then Some found.0 else None

@@ -7,6 +7,7 @@ ghost use Rattle.std.specs.Str.{IsUtf8, is_utf8};
 ghost use Rattle.std.specs.Str.Parse.{digits_value, AllDigits};
 ghost use Rattle.schema_core.specs.Names.{is_name_byte};
 ghost use Rattle.schema_core.specs.Tokens.{is_blank, after_blanks, begins_blank, is_passed, escaped, with_byte, text_from, one_mark, two_marks, mark_at, name_len, digits_len, quoted_token, token_at, is_word, tokens_from, line_tokens};
+ghost use Rattle.schema_core.specs.GoodTokens.{HasGoodTokens};
 
 use crate::list::List;
 use crate::text::Text;
@@ -320,7 +321,8 @@ fn tokens_of(alloc: Global, line: &[u8]) -> Result<LineTokens, AllocError>
 /// comment.
 #[tactic(auto, unfolding(crate::specs::Tokens::line_tokens))]
 pub fn read_tokens(alloc: Global, line: &[u8]) -> Result<LineTokens, AllocError>
-    ensures { IfOk result (λ found. found ≡ line_tokens line.now) }
+    ensures tokens { IfOk result (λ found. found ≡ line_tokens line.now) }
+    ensures good { IfOk result HasGoodTokens }
 {
     if !is_utf8(line) {
         Ok(LineTokens::NotUtf8)

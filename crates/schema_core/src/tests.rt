@@ -99,12 +99,17 @@ fn tokens_of_lines(rt: HostRuntime) -> Result<(), Fail> {
 
 #[test]
 fn longest_names(rt: HostRuntime) -> Result<(), Fail> {
-    let cases = [(64, "", ""), (65, "bad", ""), (64, "", "_")];
-    for (len, wanted, behind) in cases {
-        let name = vec![in rt.alloc(); b'x'; 64]?;
+    let cases = [
+        (63, "", " "),
+        (64, "", " "),
+        (65, "", "bad "),
+        (64, "_", " "),
+    ];
+    for (len, behind, wanted) in cases {
+        let name = vec![in rt.alloc(); b'x'; len.min(64)]?;
         let mut line = vec![in rt.alloc(); b'x'; len]?;
         line.extend_from_slice(behind.as_bytes())?;
-        let mut text = format!(in rt.alloc(); "{wanted} ")?;
+        let mut text = format!(in rt.alloc(); "{wanted}")?;
         text.push_str(String::from_utf8(name)?.as_str())?;
         if behind == "_" {
             text.push_str(" Underscore")?;
@@ -225,6 +230,82 @@ fn refused_files(rt: HostRuntime) {
     for (bytes, wanted) in cases {
         assert_eq!(rt; refusal(&rt, bytes, &two), wanted, "{bytes:?}");
     }
+}
+
+/// How a file is refused, under the standard limits, that has so many tables, each with so many attributes, each
+/// with so many values.
+fn refused_for(
+    rt: &(impl Abort + AllocGlobal),
+    tables: usize,
+    attrs: usize,
+    values: usize,
+) -> Result<Option<(usize, SchemaCause)>, Fail> {
+    let mut text = String::new(rt.alloc());
+    for table in 0..tables {
+        write!(text, "table t{table} 't'\n")?;
+        for attr in 0..attrs {
+            write!(text, "attr a{attr} in '0'")?;
+            push_values(&mut text, values)?;
+        }
+    }
+    Ok(refusal(rt, text.as_bytes(), &Limits::standard()))
+}
+
+fn push_values(text: &mut String, values: usize) -> Result<(), Fail> {
+    for value in 1..values {
+        write!(text, ",'{value}'")?;
+    }
+    text.push_str("\n")?;
+    Ok(())
+}
+
+#[test]
+fn counts_about_their_limits(rt: HostRuntime) -> Result<(), Fail> {
+    use SchemaCause::*;
+    let cases = [
+        (63, 1, 1, None),
+        (64, 1, 1, None),
+        (65, 1, 1, Some((129, TooMany(Limit::Tables)))),
+        (1, 63, 1, None),
+        (1, 64, 1, None),
+        (1, 65, 1, Some((66, TooMany(Limit::Attrs)))),
+        (1, 1, 63, None),
+        (1, 1, 64, None),
+        (1, 1, 65, Some((2, TooMany(Limit::Values)))),
+    ];
+    for (tables, attrs, values, wanted) in cases {
+        assert_eq!(rt; refused_for(&rt, tables, attrs, values)?, wanted);
+    }
+    Ok(())
+}
+
+/// How a file is refused whose file name and whose only value have so many bytes.
+fn refused_at(
+    rt: &(impl Abort + AllocGlobal),
+    file: usize,
+    value: usize,
+) -> Result<Option<(usize, SchemaCause)>, Fail> {
+    let file = String::from_utf8(vec![in rt.alloc(); b'f'; file]?)?;
+    let value = String::from_utf8(vec![in rt.alloc(); b'v'; value]?)?;
+    let (file, value) = (file.as_str(), value.as_str());
+    let text = format!(in rt.alloc(); "table t '{file}'\nattr a in '{value}'\n")?;
+    Ok(refusal(rt, text.as_bytes(), &Limits::standard()))
+}
+
+#[test]
+fn lengths_about_their_limits(rt: HostRuntime) -> Result<(), Fail> {
+    let cases = [
+        (0, 0, Some((1, SchemaCause::BadLine))),
+        (1, 0, None),
+        (1023, 1023, None),
+        (1024, 1024, None),
+        (1025, 1024, Some((1, SchemaCause::BadLine))),
+        (1024, 1025, Some((2, SchemaCause::BadLine))),
+    ];
+    for (file, value, wanted) in cases {
+        assert_eq!(rt; refused_at(&rt, file, value)?, wanted);
+    }
+    Ok(())
 }
 
 #[test]

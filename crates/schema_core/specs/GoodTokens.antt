@@ -1,0 +1,23 @@
+-- What the tokens of a line hold, whatever the line.
+use Rattle.std.specs.Prelude.{ℕ, List}
+use Rattle.std.specs.List.{AllByRecursion}
+use Rattle.std.specs.Str.{IsUtf8}
+use Rattle.schema_core.specs.Names.{IsName}
+use Rattle.schema_core.specs.declared.tokens.Token.{Token}
+use Rattle.schema_core.specs.declared.tokens.Token.TheVariants.{Name, Number, Quoted, Sign}
+use Rattle.schema_core.specs.declared.tokens.LineTokens.{LineTokens}
+use Rattle.schema_core.specs.declared.tokens.LineTokens.TheVariants.{Passed, NotUtf8, BadTokens, Tokens}
+
+-- a name is one, and a text is UTF-8
+abbrev pub IsGoodToken : Token → Type 0
+IsGoodToken (Name name) = IsName name
+IsGoodToken (Number n) = Unit {0}
+IsGoodToken (Quoted text) = IsUtf8 text
+IsGoodToken (Sign mark) = Unit {0}
+
+-- each of the tokens that are given is so
+abbrev pub HasGoodTokens : LineTokens → Type 0
+HasGoodTokens Passed = Unit {0}
+HasGoodTokens NotUtf8 = Unit {0}
+HasGoodTokens (BadTokens tokens) = AllByRecursion IsGoodToken tokens
+HasGoodTokens (Tokens tokens) = AllByRecursion IsGoodToken tokens
