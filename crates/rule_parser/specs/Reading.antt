@@ -1,6 +1,6 @@
 -- The lines of a rule file, read token by token from left to right. A line that is not read so is a bad line.
 -- LIST(p) is nothing, or several p with `,` between them; LIST1(p) is at least one.
-use Rattle.std.specs.Prelude.{ℕ, zero, suc, nat_eq, nat_le, Bool, false, ◌==◌, List, [], ◌∷◌, length, Option, Some, None, if◌then◌else◌, option_and_then, option_map, codes}
+use Rattle.std.specs.Prelude.{ℕ, nat_eq, nat_le, Bool, false, ◌==◌, List, [], ◌∷◌, length, Option, Some, None, if◌then◌else◌, option_and_then, option_map, codes}
 use Rattle.std.specs.Option.{option_map_or}
 use Rattle.std.specs.Str.{bytes_eq}
 use Rattle.schema_core.specs.TokenLists.{Reader, list1_at, list_at, none_after}

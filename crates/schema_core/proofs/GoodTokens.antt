@@ -1,10 +1,10 @@
 -- The names and texts among the tokens of a line, and among what a schema line says.
-use Rattle.std.proofs.Common.{inl, inr, ◌≡◌, ℕ, zero, suc, ◌+◌, ◌≤◌, Bool, true, false, cond, eqb, ◌&&◌, List, [], ◌∷◌, length, take, Option, Some, None, Result, Ok, Err, refl, ap, sym, ◌∙◌, subst, arith}
+use Rattle.std.proofs.Common.{inl, inr, ◌≡◌, ℕ, zero, suc, ◌+◌, ◌≤◌, Bool, true, false, cond, eqb, ◌&&◌, List, [], ◌∷◌, length, take, Option, Some, None, Result, Ok, Err, refl, sym, ◌∙◌, subst, arith}
 use Rattle.std.specs.Prelude.{not, IfOk}
 use Rattle.std.specs.Str.{IsUtf8, is_utf8}
 use Rattle.std.specs.Char.{is_ascii_alphabetic, is_ascii_digit}
 use Rattle.std.specs.List.{prefix_len, list_all, AllByRecursion}
-use Rattle.std.proofs.lemmas.Bool.{cases_Bool, cases_eq, cond-true, cond-false, cond_both, and_from, le-leb, not-false}
+use Rattle.std.proofs.lemmas.Bool.{cases_Bool, cases_eq, cond-true, cond_both, and_from, le-leb, not-false}
 use Rattle.std.proofs.lemmas.List.{length-take}
 use Rattle.std.proofs.lemmas.Str.{IsUtf8-from_is_utf8}
 use Rattle.std.proofs.lemmas.Option.{none-some, some_pair_parts}
@@ -12,7 +12,7 @@ use Rattle.schema_core.specs.Names.{is_name_byte, IsName}
 use Rattle.schema_core.specs.GoodTokens.{IsGoodToken, HasGoodTokens}
 use Rattle.schema_core.specs.declared.tokens.Mark.{Mark}
 use Rattle.schema_core.specs.declared.tokens.Token.{Token}
-use Rattle.schema_core.specs.declared.tokens.Token.TheVariants.{Name, Number, Quoted, Sign}
+use Rattle.schema_core.specs.declared.tokens.Token.TheVariants.{Sign}
 use Rattle.schema_core.specs.declared.tokens.LineTokens.{LineTokens}
 use Rattle.schema_core.specs.declared.tokens.LineTokens.TheVariants.{Passed, NotUtf8, BadTokens, Tokens}
 use Rattle.schema_core.specs.Tokens.{after_blanks, begins_blank, is_passed, text_from, mark_or, one_mark, two_marks, mark_at, name_len, token_at, is_word, with_token, and_then, tokens_from, line_tokens}

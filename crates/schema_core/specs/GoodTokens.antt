@@ -1,5 +1,4 @@
 -- What the tokens of a line hold, whatever the line.
-use Rattle.std.specs.Prelude.{ℕ, List}
 use Rattle.std.specs.List.{AllByRecursion}
 use Rattle.std.specs.Str.{IsUtf8}
 use Rattle.schema_core.specs.Names.{IsName}

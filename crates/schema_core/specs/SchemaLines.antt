@@ -5,7 +5,7 @@
 --     rules FILE           script FILE
 --
 -- FILE is a text of 1 to 1,024 bytes, VALUE a text of at most 1,024 bytes.
-use Rattle.std.specs.Prelude.{ℕ, Bool, true, false, ◌&&◌, List, [], ◌∷◌, length, Option, Some, None, if◌then◌else◌, ◌==◌, nat_le, codes}
+use Rattle.std.specs.Prelude.{ℕ, Bool, true, false, ◌&&◌, List, [], ◌∷◌, length, Option, Some, None, if◌then◌else◌, nat_le, codes}
 use Rattle.std.specs.Str.{bytes_eq}
 use Rattle.schema_core.specs.TokenLists.{Reader, list_at, none_after}
 use Rattle.schema_core.specs.declared.tokens.Token.{Token}
