@@ -3,6 +3,7 @@
 use Rattle.std.specs.Prelude.{ℕ, nat_eq, nat_le, Bool, false, ◌==◌, List, [], ◌∷◌, length, Option, Some, None, if◌then◌else◌, option_and_then, option_map, codes}
 use Rattle.std.specs.Option.{option_map_or}
 use Rattle.std.specs.Str.{bytes_eq}
+use Rattle.schema_core.specs.Spelling.{mark_text}
 use Rattle.schema_core.specs.TokenLists.{Reader, list1_at, list_at, none_after}
 use Rattle.schema_core.specs.declared.tokens.Mark.{Mark}
 use Rattle.schema_core.specs.declared.tokens.Mark.TheVariants.{Colon, Comma, OpenBracket, CloseBracket, Semicolon, Equals, Differs, Arrow, Bars, Underscore, Dot, OpenBrace, CloseBrace}
@@ -21,24 +22,9 @@ o >>= f = option_and_then f o
 
 -- ---- marks, words and texts
 
--- marks by number, to compare them
-abbrev pub mark_number : Mark → ℕ
-mark_number Colon = 0
-mark_number Comma = 1
-mark_number OpenBracket = 2
-mark_number CloseBracket = 3
-mark_number Semicolon = 4
-mark_number Equals = 5
-mark_number Differs = 6
-mark_number Arrow = 7
-mark_number Bars = 8
-mark_number Underscore = 9
-mark_number Dot = 10
-mark_number OpenBrace = 11
-mark_number CloseBrace = 12
-
+-- two marks are one where they are written alike
 abbrev pub same_mark : Mark → Mark → Bool
-same_mark left right = nat_eq (mark_number left) (mark_number right)
+same_mark left right = bytes_eq (mark_text left) (mark_text right)
 
 -- what follows the mark at the front
 abbrev pub after_sign : Mark → List Token → Option (List Token)

@@ -2,10 +2,6 @@ use super::*;
 use std::process::Abort;
 use std::test::Fail;
 
-/// A schema in canonical text, with each form of line and each escape.
-const SCHEMA: &str =
-    "table cust 'cust.csv'\nattr CC in '01', '44'\nattr AC\nattr zip\nattr street\nattr city\nmaster area 'a\\'\\\\\\n\\rb'\nattr code in ''\nrules 'r'\nscript 's'\n";
-
 /// What a line is, in words: its tokens with a blank between two.
 fn shown(rt: &(impl Abort + AllocGlobal), line: &[u8]) -> Result<String, Fail> {
     let mut text = String::new(rt.alloc());
@@ -93,6 +89,34 @@ fn tokens_of_lines(rt: HostRuntime) -> Result<(), Fail> {
     ];
     for (line, wanted) in cases {
         assert_eq!(rt; shown(&rt, line)?.as_str(), wanted, "{line:?}");
+    }
+    Ok(())
+}
+
+/// Each pair of kinds as neighbours: name, number, text, mark.
+#[test]
+fn neighbours(rt: HostRuntime) -> Result<(), Fail> {
+    let cases: [(&[u8], &str, &[u8], &str); 16] = [
+        (b"ab", " ab", b"a b", " a b"),
+        (b"a1", " a1", b"a 1", " a 1"),
+        (b"a't'", " a 't'", b"a 't'", " a 't'"),
+        (b"a:", " a Colon", b"a\t:", " a Colon"),
+        (b"1a", "bad 1", b"1 a", " 1 a"),
+        (b"12", " 12", b"1\t2", " 1 2"),
+        (b"1't'", " 1 't'", b"1 't'", " 1 't'"),
+        (b"1:", " 1 Colon", b"1 :", " 1 Colon"),
+        (b"'t'a", " 't' a", b"'t' a", " 't' a"),
+        (b"'t'1", " 't' 1", b"'t' 1", " 't' 1"),
+        (b"'t''u'", " 't' 'u'", b"'t' \t 'u'", " 't' 'u'"),
+        (b"'t':", " 't' Colon", b"'t' :", " 't' Colon"),
+        (b":a", " Colon a", b": a", " Colon a"),
+        (b":1", " Colon 1", b": 1", " Colon 1"),
+        (b":'t'", " Colon 't'", b": 't'", " Colon 't'"),
+        (b"::", " Colon Colon", b": :", " Colon Colon"),
+    ];
+    for (touching, wanted, apart, wanted_apart) in cases {
+        assert_eq!(rt; shown(&rt, touching)?.as_str(), wanted, "{touching:?}");
+        assert_eq!(rt; shown(&rt, apart)?.as_str(), wanted_apart, "{apart:?}");
     }
     Ok(())
 }
@@ -308,12 +332,42 @@ fn lengths_about_their_limits(rt: HostRuntime) -> Result<(), Fail> {
     Ok(())
 }
 
+/// Customers with a finite domain, rules and a script.
+const CUSTOMERS: &str =
+    "table cust 'cust.csv'\nattr CC in '01', '44'\nattr AC\nattr zip\nattr street\nattr city\nrules 'r'\nscript 's'\n";
+
+/// A file is read, and printed as this text, which is read as the same schema.
+fn printed_as(rt: &(impl Abort + AllocGlobal), file: &[u8], canonical: &str) -> Result<(), Fail> {
+    let schema = parse_schema(rt.alloc(), file, &Limits::standard())?;
+    let printed = print_schema(rt.alloc(), &schema)?;
+    assert_eq!(rt; printed.as_slice(), canonical.as_bytes());
+    let again = parse_schema(rt.alloc(), printed.as_slice(), &Limits::standard())?;
+    assert!(rt; again == schema);
+    Ok(())
+}
+
 #[test]
 fn printed_and_read_again(rt: HostRuntime) -> Result<(), Fail> {
-    let schema = parse_schema(rt.alloc(), SCHEMA.as_bytes(), &Limits::standard())?;
-    assert_eq!(rt; schema.table_named("area"), Some(1));
-    assert_eq!(rt; schema.table_named("are"), None);
-    assert_eq!(rt; schema.tables.as_slice().len(), 2);
+    printed_as(&rt, CUSTOMERS.as_bytes(), CUSTOMERS)?;
+    printed_as(&rt, b"", "")?;
+    printed_as(
+        &rt,
+        b"script 's'\nmaster t 't'\n\n# c\nattr a\nrules 'r'",
+        "master t 't'\nattr a\nrules 'r'\nscript 's'\n",
+    )?;
+    printed_as(
+        &rt,
+        b"table t'a\\'\\\\\\n\\rb'\r\n\tattr a  in'x' ,''\r\nattr b\ntable u't'\nattr a\n",
+        "table t 'a\\'\\\\\\n\\rb'\nattr a in 'x', ''\nattr b\ntable u 't'\nattr a\n",
+    )
+}
+
+#[test]
+fn looked_up(rt: HostRuntime) -> Result<(), Fail> {
+    let schema = parse_schema(rt.alloc(), CUSTOMERS.as_bytes(), &Limits::standard())?;
+    assert_eq!(rt; schema.table_named("cust"), Some(0));
+    assert_eq!(rt; schema.table_named("cus"), None);
+    assert_eq!(rt; schema.tables.as_slice().len(), 1);
     let table = &schema.tables.as_slice()[0];
     assert_eq!(rt; table.attr_named("city"), Some(4));
     assert_eq!(rt; table.attr_named("City"), None);
@@ -322,10 +376,6 @@ fn printed_and_read_again(rt: HostRuntime) -> Result<(), Fail> {
         [] => false,
     };
     assert!(rt; admitted);
-    let printed = print_schema(rt.alloc(), &schema)?;
-    assert_eq!(rt; printed.as_slice(), SCHEMA.as_bytes());
-    let again = parse_schema(rt.alloc(), printed.as_slice(), &Limits::standard())?;
-    assert!(rt; again == schema);
     Ok(())
 }
 
