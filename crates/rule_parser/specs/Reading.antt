@@ -1,7 +1,9 @@
 -- The lines of a rule file, read token by token from left to right. A line that is not read so is a bad line.
+-- LIST(p) is nothing, or several p with `,` between them; LIST1(p) is at least one.
 use Rattle.std.specs.Prelude.{ℕ, zero, suc, nat_eq, nat_le, Bool, false, ◌==◌, List, [], ◌∷◌, length, Option, Some, None, if◌then◌else◌, option_and_then, option_map, codes}
 use Rattle.std.specs.Option.{option_map_or}
 use Rattle.std.specs.Str.{bytes_eq}
+use Rattle.schema_core.specs.TokenLists.{Reader, list1_at, list_at, none_after}
 use Rattle.schema_core.specs.declared.tokens.Mark.{Mark}
 use Rattle.schema_core.specs.declared.tokens.Mark.TheVariants.{Colon, Comma, OpenBracket, CloseBracket, Semicolon, Equals, Differs, Arrow, Bars, Underscore, Dot, OpenBrace, CloseBrace}
 use Rattle.schema_core.specs.declared.tokens.Token.{Token}
@@ -55,7 +57,7 @@ after_word word (tokens.Quoted text ∷ rest) = None
 after_word word (tokens.Sign mark ∷ rest) = None
 
 -- the name at the front, or the value of at most 1,024 bytes, and what follows it
-abbrev pub text_at : Kind → List Token → Option (List ℕ × List Token)
+abbrev pub text_at : Kind → Reader (List ℕ)
 text_at kind [] = None
 text_at kinds.Name (tokens.Name name ∷ rest) = Some (name, rest)
 text_at kinds.Name (tokens.Number number ∷ rest) = None
@@ -68,36 +70,18 @@ text_at kinds.Value (tokens.Sign mark ∷ rest) = None
 
 -- ---- lists
 
--- the item alone, or with the items behind the comma that follows it
-abbrev pub or_more : {X : Type 0} → X × List Token → Option (List Token) → (List Token → Option (List X × List Token)) → Option (List X × List Token)
-or_more found None items = Some (found.0 ∷ [], found.1)
-or_more found (Some behind) items = option_map (λ more. (found.0 ∷ more.0, more.1)) (items behind)
-
--- one item or several with commas between them, at most `room`, and what follows the last
-unfoldable pub items_from : {X : Type 0} → (List Token → Option (X × List Token)) → ℕ → List Token → Option (List X × List Token)
-items_from item zero tokens = None
-items_from item (suc room) tokens = item tokens >>= λ found. or_more found (after_sign Comma found.1) (items_from item room)
-
--- as many items as there are: an item takes at least a token
-unfoldable pub list_of : {X : Type 0} → (List Token → Option (X × List Token)) → List Token → Option (List X × List Token)
-list_of item tokens = items_from item (length tokens) tokens
-
 abbrev pub closed : {X : Type 0} → Mark → List X × List Token → Option (List X × List Token)
 closed mark list = option_map (λ rest. (list.0, rest)) (after_sign mark list.1)
 
--- nothing before the mark, or a list, and then the mark
-abbrev pub or_list : {X : Type 0} → Option (List Token) → Option (List X × List Token) → Option (List X × List Token)
-or_list None list = list
-or_list (Some rest) list = Some ([], rest)
+-- LIST(p) and then the mark
+unfoldable pub list_until : {X : Type 0} → Reader X → Mark → List Token → Option (List X × List Token)
+list_until item mark tokens = list_at item tokens >>= closed mark
 
-unfoldable pub list_until : {X : Type 0} → (List Token → Option (X × List Token)) → Mark → List Token → Option (List X × List Token)
-list_until item mark tokens = or_list (after_sign mark tokens) (list_of item tokens >>= closed mark)
+abbrev pub texts_from : Kind → Reader (List (List ℕ))
+texts_from kind = list1_at (text_at kind)
 
-abbrev pub texts_from : Kind → List Token → Option (List (List ℕ) × List Token)
-texts_from kind tokens = list_of (text_at kind) tokens
-
-abbrev pub texts_until : Kind → Mark → List Token → Option (List (List ℕ) × List Token)
-texts_until kind mark tokens = list_until (text_at kind) mark tokens
+abbrev pub texts_until : Kind → Mark → Reader (List (List ℕ))
+texts_until kind mark = list_until (text_at kind) mark
 
 -- ---- cells
 
@@ -106,7 +90,7 @@ abbrev pub few : List (List ℕ) × List Token → Option (List (List ℕ) × Li
 few set = if nat_le (length set.0) 64 then Some set else None
 
 -- a set in braces, and what follows it
-unfoldable pub set_at : List Token → Option (List (List ℕ) × List Token)
+unfoldable pub set_at : Reader (List (List ℕ))
 set_at tokens = do
   inside ← after_sign OpenBrace tokens
   values ← texts_from kinds.Value inside
@@ -120,7 +104,7 @@ words_cell word rest =
     else (if bytes_eq word (codes "not") then option_map (λ set. (NotIn set.0, set.1)) (set_at rest)
     else None)
 
-unfoldable pub cell_at : List Token → Option (Pattern (List ℕ) × List Token)
+unfoldable pub cell_at : Reader (Pattern (List ℕ))
 cell_at [] = None
 cell_at (tokens.Sign mark ∷ rest) = if same_mark mark Underscore then Some (Any, rest) else None
 cell_at (tokens.Quoted value ∷ rest) = if nat_le (length value) 1024 then Some (Is value, rest) else None
@@ -129,16 +113,13 @@ cell_at (tokens.Number number ∷ rest) = None
 
 -- ---- lines
 
-abbrev pub at_end : {X : Type 0} → X × List Token → Option X
-at_end found = if length found.1 == 0 then Some found.0 else None
-
 -- a tableau row: `row`, cells for the left list, `||`, and a cell or more for the right list
 unfoldable pub row_line : List Token → Option CfdRow
 row_line tokens = do
   rest ← after_word (codes "row") tokens
   x ← list_until cell_at Bars rest
-  y ← list_of cell_at x.1
-  at_end (record { x = x.0; y = y.0 }, y.1)
+  y ← none_after (list1_at cell_at x.1)
+  Some (record { x = x.0; y = y })
 
 -- the names of a declaration and of its table, and what follows the bracket that opens its left list
 abbrev pub cfd_names : List Token → Option (List ℕ × List ℕ × List Token)

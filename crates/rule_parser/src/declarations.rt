@@ -2,7 +2,8 @@
 
 ghost use Rattle.std.specs.Prelude.{◌≡◌, ◌<◌, ◌≤◌, length, IfOk, IfSome, All, option_map};
 ghost use Rattle.rule_model.specs.Declarations.{IsWrittenSet, IsWrittenCell, IsWrittenRow};
-ghost use Rattle.rule_parser.specs.Reading.{set_at, words_cell, cell_at, list_of, list_until, row_line, cfd_names, after_arrow, closes, cfd_head};
+ghost use Rattle.schema_core.specs.TokenLists.{list1_at};
+ghost use Rattle.rule_parser.specs.Reading.{set_at, words_cell, cell_at, list_until, row_line, cfd_names, after_arrow, closes, cfd_head};
 
 use crate::tokens::{
     Kind, after_sign, after_word, is_constant, same_mark, same_text, text_at, texts_from,
@@ -85,7 +86,7 @@ fn cell_at(alloc: Global, tokens: &[Token]) -> Result<Option<(Cell, &[Token])>, 
 
 /// One cell or several with commas between them, and what follows the last.
 fn cells_from(alloc: Global, tokens: &[Token]) -> Result<Option<(List<Cell>, &[Token])>, AllocError>
-    ensures found { IfOk result (λ found. option_map (λ x. (x.0, x.1.now)) found ≡ list_of cell_at tokens.now) }
+    ensures found { IfOk result (λ found. option_map (λ x. (x.0, x.1.now)) found ≡ list1_at cell_at tokens.now) }
     ensures written { IfOk result (λ found. IfSome found (λ x. All IsWrittenCell x.0)) }
 {
     let mut cells = List::new(alloc);
@@ -102,23 +103,18 @@ fn cells_from(alloc: Global, tokens: &[Token]) -> Result<Option<(List<Cell>, &[T
     }
 }
 
-/// Nothing, or cells with commas between them, then the mark, and what follows it.
-#[tactic(auto, unfolding(crate::specs::Reading::list_until))]
-fn cells_until(
-    alloc: Global,
-    tokens: &[Token],
-    mark: Mark,
-) -> Result<Option<(List<Cell>, &[Token])>, AllocError>
-    ensures found { IfOk result (λ found. option_map (λ x. (x.0, x.1.now)) found ≡ list_until cell_at mark tokens.now) }
+/// The cells in front of `||`, of which there may be none, and what follows it.
+fn left_cells(alloc: Global, tokens: &[Token]) -> Result<Option<(List<Cell>, &[Token])>, AllocError>
+    ensures found { IfOk result (λ found. option_map (λ x. (x.0, x.1.now)) found ≡ list_until cell_at Mark.Bars tokens.now) }
     ensures written { IfOk result (λ found. IfSome found (λ x. All IsWrittenCell x.0)) }
 {
-    if let Some(rest) = after_sign(tokens, mark) {
+    if let Some(rest) = after_sign(tokens, Mark::Bars) {
         return Ok(Some((List::new(alloc), rest)));
     }
     let Some((cells, after)) = cells_from(alloc, tokens)? else {
         return Ok(None);
     };
-    let Some(rest) = after_sign(after, mark) else {
+    let Some(rest) = after_sign(after, Mark::Bars) else {
         return Ok(None);
     };
     Ok(Some((cells, rest)))
@@ -133,7 +129,7 @@ pub fn row_line(alloc: Global, tokens: &[Token]) -> Result<Option<CfdRow>, Alloc
     let Some(rest) = after_word(tokens, "row") else {
         return Ok(None);
     };
-    let Some((x, rest)) = cells_until(alloc, rest, Mark::Bars)? else {
+    let Some((x, rest)) = left_cells(alloc, rest)? else {
         return Ok(None);
     };
     let Some((y, rest)) = cells_from(alloc, rest)? else {

@@ -7,7 +7,8 @@ ghost use Rattle.rule_model.specs.Books.{book_fault};
 ghost use Rattle.rule_model.specs.Declarations.{IsWrittenCfd, IsWrittenRow};
 ghost use Rattle.rule_parser.specs.Reading.{row_line, cfd_head};
 ghost use Rattle.rule_parser.specs.Files.{Gives, Fails, read_line, rows_in, after_rows, rows_of, declaration, told_at, joined, lines_after, declarations};
-ghost use Rattle.rule_parser.specs.Upcoming.{upcoming, HasNames};
+ghost use Rattle.schema_core.specs.GoodTokens.{HasGoodTokens};
+ghost use Rattle.rule_parser.specs.Upcoming.{upcoming};
 
 use crate::declarations::{cfd_head, row_line};
 use crate::fault::{ParseCause, ParseFault};
@@ -71,7 +72,7 @@ fn rows_after(
     ensures written { IfOk result (λ x. All IsWrittenRow x.0) }
     ensures fits { IfOk result (λ x. IfSome x.1 (λ y. y.0.number + length y.1.now < 2 ^ 64)) }
     ensures shorter { IfOk result (λ x. IfSome x.1 (λ y. length y.1.now < length bytes.now)) }
-    ensures names { IfOk result (λ x. IfSome x.1 (λ y. HasNames y.0.tokens)) }
+    ensures good { IfOk result (λ x. IfSome x.1 (λ y. HasGoodTokens y.0.tokens)) }
 {
     let mut rows = List::new(alloc);
     let mut next = next_line(alloc, bytes, before)?;
@@ -92,13 +93,13 @@ fn read_declaration<'a>(
     bytes: &'a [u8],
 ) -> Result<(CfdDecl, Option<(Line, &'a [u8])>), ParseFault>
     requires fits { head.now.number + length bytes.now < 2 ^ 64 }
-    requires names { HasNames head.now.tokens }
+    requires good { HasGoodTokens head.now.tokens }
     ensures cfd { Gives (λ x. x.0) result (declaration (head.now, rows_in (lines_after head.now.number bytes.now))) }
     ensures written { IfOk result (λ x. IsWrittenCfd x.0) }
     ensures rest { IfOk result (λ x. upcoming x.1 ≡ after_rows (lines_after head.now.number bytes.now)) }
     ensures fits { IfOk result (λ x. IfSome x.1 (λ y. y.0.number + length y.1.now < 2 ^ 64)) }
     ensures shorter { IfOk result (λ x. IfSome x.1 (λ y. length y.1.now < length bytes.now)) }
-    ensures names { IfOk result (λ x. IfSome x.1 (λ y. HasNames y.0.tokens)) }
+    ensures good { IfOk result (λ x. IfSome x.1 (λ y. HasGoodTokens y.0.tokens)) }
 {
     let mut cfd = head_of(alloc, head)?;
     let (rows, next) = rows_after(alloc, bytes, head.number)?;
@@ -134,14 +135,14 @@ fn add_declaration<'a>(
     bytes: &'a [u8],
 ) -> Result<Option<(Line, &'a [u8])>, ParseFault>
     requires fits { head.now.number + length bytes.now < 2 ^ 64 }
-    requires names { HasNames head.now.tokens }
+    requires good { HasGoodTokens head.now.tokens }
     ensures ok { OnOk result (joined book.old.schema book.old.limits book.old.decls (head.now, rows_in (lines_after head.now.number bytes.now)) ≡ Ok book.new.decls) }
     ensures fault { IfErr result (λ e. Fails e (joined book.old.schema book.old.limits book.old.decls (head.now, rows_in (lines_after head.now.number bytes.now)))) }
     ensures same { OnOk result ((book.new.schema ≡ book.old.schema) × (book.new.limits ≡ book.old.limits)) }
     ensures rest { IfOk result (λ next. upcoming next ≡ after_rows (lines_after head.now.number bytes.now)) }
     ensures fits { IfOk result (λ next. IfSome next (λ x. x.0.number + length x.1.now < 2 ^ 64)) }
     ensures shorter { IfOk result (λ next. IfSome next (λ x. length x.1.now < length bytes.now)) }
-    ensures names { IfOk result (λ next. IfSome next (λ x. HasNames x.0.tokens)) }
+    ensures good { IfOk result (λ next. IfSome next (λ x. HasGoodTokens x.0.tokens)) }
 {
     let (cfd, next) = read_declaration(alloc, head, bytes)?;
     join(book, head.number, cfd)?;

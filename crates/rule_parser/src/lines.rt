@@ -2,7 +2,8 @@
 
 ghost use Rattle.std.specs.Prelude.{◌≡◌, ◌+◌, ◌<◌, ◌^◌, ◌≤◌, length, IfOk, IfSome};
 ghost use Rattle.rule_parser.specs.Files.{is_passed_over, lines_after, is_row, begins_row};
-ghost use Rattle.rule_parser.specs.Upcoming.{upcoming, IsFirstLine, HasNames};
+ghost use Rattle.schema_core.specs.GoodTokens.{HasGoodTokens};
+ghost use Rattle.rule_parser.specs.Upcoming.{upcoming, IsFirstLine};
 
 use crate::tokens::after_word;
 use schema_core::{LineTokens, Token, line_end, read_tokens};
@@ -42,7 +43,7 @@ fn first_line(alloc: Global, bytes: &[u8]) -> Result<(LineTokens, &[u8]), AllocE
     requires { 0 < length bytes.now }
     ensures line { IfOk result (λ x. IsFirstLine bytes.now x.0 x.1.now) }
     ensures shorter { IfOk result (λ x. length x.1.now < length bytes.now) }
-    ensures names { IfOk result (λ x. HasNames x.0) }
+    ensures good { IfOk result (λ x. HasGoodTokens x.0) }
 {
     let (end, next) = line_end(bytes, 0);
     let tokens = read_tokens(alloc, &bytes[..end])?;
@@ -59,7 +60,7 @@ pub fn next_line(
     ensures lines { IfOk result (λ found. upcoming found ≡ lines_after before bytes.now) }
     ensures fits { IfOk result (λ found. IfSome found (λ x. x.0.number + length x.1.now < 2 ^ 64)) }
     ensures shorter { IfOk result (λ found. IfSome found (λ x. length x.1.now < length bytes.now)) }
-    ensures names { IfOk result (λ found. IfSome found (λ x. HasNames x.0.tokens)) }
+    ensures good { IfOk result (λ found. IfSome found (λ x. HasGoodTokens x.0.tokens)) }
 {
     let mut number = before;
     let mut rest = bytes;

@@ -3,7 +3,8 @@
 ghost use Rattle.std.specs.Prelude.{◌≡◌, ◌<◌, ◌≤◌, nat_le, IsTrue, length, IfOk, IfSome, All, option_map};
 ghost use Rattle.std.specs.Str.{bytes_eq};
 ghost use Rattle.schema_core.specs.Names.{IsConstant};
-ghost use Rattle.rule_parser.specs.Reading.{same_mark, after_sign, after_word, text_at, texts_from, texts_until, list_of, list_until};
+ghost use Rattle.schema_core.specs.TokenLists.{list1_at};
+ghost use Rattle.rule_parser.specs.Reading.{same_mark, after_sign, after_word, text_at, texts_from, texts_until, list_until};
 
 use schema_core::{List, Mark, Text, Texts, Token};
 use std::alloc::{AllocError, Global};
@@ -101,7 +102,6 @@ pub fn texts_from(
 }
 
 /// Nothing, or texts with commas between them, then the mark, and what follows it.
-#[tactic(auto, unfolding(crate::specs::Reading::list_until))]
 pub fn texts_until(
     alloc: Global,
     tokens: &[Token],

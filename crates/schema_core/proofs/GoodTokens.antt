@@ -94,8 +94,8 @@ tokens_from-good (suc room) after_word bytes utf8 =
     cond_both (eqb (length front) 0) (Tokens []) (and_then (after_word && not (begins_blank bytes)) (token_at front) (tokens_from room)) HasGoodTokens
     (λ ended. tt)
     (λ more. and_then-good (after_word && not (begins_blank bytes)) (token_at front) (tokens_from room)
-        (λ t left found. token_at-good front left t at_front found)
-        (λ t left found. tokens_from-good room (is_word t) left (token_at-Follows front left t at_front found).utf8))
+    (λ t left found. token_at-good front left t at_front found)
+    (λ t left found. tokens_from-good room (is_word t) left (token_at-Follows front left t at_front found).utf8))
 
 pub line_tokens-are_good : (line : List ℕ) → HasGoodTokens (line_tokens line)
 unfolding line_tokens
@@ -103,8 +103,8 @@ line_tokens-are_good line =
     cond_both (not (is_utf8 line)) NotUtf8 (cond (is_passed line) Passed (tokens_from (length line) false line)) HasGoodTokens
     (λ bad. tt)
     (λ utf8. cond_both (is_passed line) Passed (tokens_from (length line) false line) HasGoodTokens
-        (λ passed. tt)
-        (λ kept. tokens_from-good (length line) false line (IsUtf8-from_is_utf8 line (not-false (is_utf8 line) utf8))))
+    (λ passed. tt)
+    (λ kept. tokens_from-good (length line) false line (IsUtf8-from_is_utf8 line (not-false (is_utf8 line) utf8))))
 
 pub line_tokens-good : (line : List ℕ) (tokens : List Token) → line_tokens line ≡ Tokens tokens → AllByRecursion IsGoodToken tokens
 line_tokens-good line tokens e = subst HasGoodTokens e (line_tokens-are_good line)

@@ -44,34 +44,42 @@ list1_within-none p (suc room) rest none = rw none refl
 pub ListLeft-none : {A : Type 0} (p : Reader A) (whole : Option (List A × List Token)) (read : List A) (rest : List Token) → ListLeft p whole read rest → p rest ≡ None → None ≡ whole
 ListLeft-none p whole read rest left none = sym (ap (all_in_front read) (list1_within-none p left.room rest none) ∙ all_in_front-none read) ∙ left.same
 
-less_room : {A : Type 0} (p : Reader A) → TakesToken p → (room : ℕ) (rest after : List Token) (x : A) → length rest ≤ room → p rest ≡ Some (x, after) → (k : ℕ) × (room ≡ suc k)
-less_room p takes zero rest after x enough found = absurd (omega (arith, takes rest after x found))
-less_room p takes (suc room) rest after x enough found = (room, refl)
+less_room : (room : ℕ) (rest after : List Token) → length rest ≤ room → length after < length rest → (k : ℕ) × (room ≡ suc k)
+less_room zero rest after enough shorter = absurd (omega arith)
+less_room (suc room) rest after enough shorter = (room, refl)
 
 list1_within-some : {A : Type 0} (p : Reader A) (room : ℕ) (rest after : List Token) (x : A) → p rest ≡ Some (x, after) → list1_within p (suc room) rest ≡ or_others (list1_within p room) x after (behind_comma after)
 list1_within-some p room rest after x found = rw found refl
 
 -- where no `,` stands behind p, it is the last
-pub ListLeft-last : {A : Type 0} (p : Reader A) → TakesToken p → (whole : Option (List A × List Token)) (read : List A) (rest after : List Token) (x : A) → ListLeft p whole read rest → p rest ≡ Some (x, after) → behind_comma after ≡ None
+pub ListLeft-ends : {A : Type 0} (p : Reader A) (whole : Option (List A × List Token)) (read : List A) (rest after : List Token) (x : A) → ListLeft p whole read rest → length after < length rest → p rest ≡ Some (x, after) → behind_comma after ≡ None
     → Some (read ++ x ∷ [], after) ≡ whole
-ListLeft-last p takes whole read rest after x left found last =
-    let less = less_room p takes left.room rest after x left.enough found in
+ListLeft-ends p whole read rest after x left shorter found last =
+    let less = less_room left.room rest after left.enough shorter in
     let step : list1_within p left.room rest ≡ Some (x ∷ [], after) = ap (λ (k : ℕ). list1_within p k rest) less.1 ∙ list1_within-some p less.0 rest after x found ∙ ap (or_others (list1_within p less.0) x after) last in
     sym (ap (all_in_front read) step ∙ all_in_front-some read (x ∷ []) after) ∙ left.same
+
+pub ListLeft-last : {A : Type 0} (p : Reader A) → TakesToken p → (whole : Option (List A × List Token)) (read : List A) (rest after : List Token) (x : A) → ListLeft p whole read rest → p rest ≡ Some (x, after) → behind_comma after ≡ None
+    → Some (read ++ x ∷ [], after) ≡ whole
+ListLeft-last p takes whole read rest after x left found last = ListLeft-ends p whole read rest after x left (takes rest after x found) found last
 
 pub length-behind_comma : (tokens rest : List Token) → behind_comma tokens ≡ Some rest → length rest < length tokens
 length-behind_comma [] rest e = absurd (none-some _ e)
 length-behind_comma (Sign Comma ∷ tokens) rest e = rw (← same_Some tokens rest e) (omega arith)
 length-behind_comma (t ∷ tokens) rest e = absurd (none-some _ e)
 
-pub ListLeft-more : {A : Type 0} (p : Reader A) → TakesToken p → (whole : Option (List A × List Token)) (read : List A) (rest after behind : List Token) (x : A) → ListLeft p whole read rest → p rest ≡ Some (x, after) → behind_comma after ≡ Some behind
+pub ListLeft-goes_on : {A : Type 0} (p : Reader A) (whole : Option (List A × List Token)) (read : List A) (rest after behind : List Token) (x : A) → ListLeft p whole read rest → length after < length rest → p rest ≡ Some (x, after) → behind_comma after ≡ Some behind
     → ListLeft p whole (read ++ x ∷ []) behind
-ListLeft-more p takes whole read rest after behind x left found more =
-    let less = less_room p takes left.room rest after x left.enough found in
+ListLeft-goes_on p whole read rest after behind x left shorter found more =
+    let less = less_room left.room rest after left.enough shorter in
     let step : list1_within p left.room rest ≡ in_front x (list1_within p less.0 behind) = ap (λ (k : ℕ). list1_within p k rest) less.1 ∙ list1_within-some p less.0 rest after x found ∙ ap (or_others (list1_within p less.0) x after) more in
-    let fits : length behind ≤ less.0 = omega (arith, takes rest after x found, length-behind_comma after behind more, left.enough, less.1) in
+    let fits : length behind ≤ less.0 = omega (arith, shorter, length-behind_comma after behind more, left.enough, less.1) in
     record {
       room = less.0;
       enough = fits;
       same = all_in_front-push read x (list1_within p less.0 behind) ∙ ap (all_in_front read) (sym step) ∙ left.same;
     }
+
+pub ListLeft-more : {A : Type 0} (p : Reader A) → TakesToken p → (whole : Option (List A × List Token)) (read : List A) (rest after behind : List Token) (x : A) → ListLeft p whole read rest → p rest ≡ Some (x, after) → behind_comma after ≡ Some behind
+    → ListLeft p whole (read ++ x ∷ []) behind
+ListLeft-more p takes whole read rest after behind x left found more = ListLeft-goes_on p whole read rest after behind x left (takes rest after x found) found more

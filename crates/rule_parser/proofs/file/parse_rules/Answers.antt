@@ -3,7 +3,8 @@ use Rattle.std.specs.Borrow.{Bor}
 use Rattle.std.proofs.lemmas.Result.{err_from_is_err_and}
 use Rattle.rule_parser.specs.declared.lines.Line.{Line}
 use Rattle.rule_parser.specs.Files.{lines_after, declarations}
-use Rattle.rule_parser.specs.Upcoming.{upcoming, HasNames}
+use Rattle.schema_core.specs.GoodTokens.{HasGoodTokens}
+use Rattle.rule_parser.specs.Upcoming.{upcoming}
 use Rattle.rule_parser.proofs.Adding.{file_step, file_stops, two_some}
 use Rattle.rule_parser.proofs.file.parse_rules.Goals as goal
 
@@ -24,7 +25,7 @@ loop-next-preserved-in_ok-next-2 c =
     let so_far = rw c.in-Some.is at c.loop-next.invariant in
     let told = c.in_ok-next-2.ensures in
     let s = file_step c.args.schema c.args.limits.now c.loop-next.book c.add_declaration.new.book head lines (upcoming c.in_ok-next-2.next) total so_far.0 so_far.1 so_far.2 told.ok told.same told.rest in
-    (s.0, s.1, s.2, two_some c.in_ok-next-2.next _ _ (λ (x : Line × Bor (List ℕ)). (x.0.number + length x.1.now < 2 ^ 64) × HasNames x.0.tokens) told.fits told.names (λ x fits names. (fits, names)))
+    (s.0, s.1, s.2, two_some c.in_ok-next-2.next _ _ (λ (x : Line × Bor (List ℕ)). (x.0.number + length x.1.now < 2 ^ 64) × HasGoodTokens x.0.tokens) told.fits told.good (λ x fits good. (fits, good)))
 
 pub loop-next-preserved-in_ok-next-2-2 : goal.loop-next-preserved-in_ok-next-2-2
 loop-next-preserved-in_ok-next-2-2 c =
@@ -34,7 +35,7 @@ loop-next-preserved-in_ok-next-2-2 c =
     let so_far = rw c.in-Some.is at c.loop-next.invariant in
     let told = c.in_ok-next-2.ensures in
     let s = file_step c.args.schema c.args.limits.now c.loop-next.book c.add_declaration.new.book head lines (upcoming c.in_ok-next-2.next) total so_far.0 so_far.1 so_far.2 told.ok told.same told.rest in
-    (s.0, s.1, s.2, two_some c.in_ok-next-2.next _ _ (λ (x : Line × Bor (List ℕ)). (x.0.number + length x.1.now < 2 ^ 64) × HasNames x.0.tokens) told.fits told.names (λ x fits names. (fits, names)))
+    (s.0, s.1, s.2, two_some c.in_ok-next-2.next _ _ (λ (x : Line × Bor (List ℕ)). (x.0.number + length x.1.now < 2 ^ 64) × HasGoodTokens x.0.tokens) told.fits told.good (λ x fits good. (fits, good)))
 
 pub loop-next-preserved : goal.loop-next-preserved
 loop-next-preserved c =
@@ -44,4 +45,4 @@ loop-next-preserved c =
     let so_far = rw c.in-Some.is at c.loop-next.invariant in
     let told = c.in_ok-next-2.ensures in
     let s = file_step c.args.schema c.args.limits.now c.loop-next.book c.add_declaration.new.book head lines (upcoming c.in_ok-next-2.next) total so_far.0 so_far.1 so_far.2 told.ok told.same told.rest in
-    (s.0, s.1, s.2, two_some c.in_ok-next-2.next _ _ (λ (x : Line × Bor (List ℕ)). (x.0.number + length x.1.now < 2 ^ 64) × HasNames x.0.tokens) told.fits told.names (λ x fits names. (fits, names)))
+    (s.0, s.1, s.2, two_some c.in_ok-next-2.next _ _ (λ (x : Line × Bor (List ℕ)). (x.0.number + length x.1.now < 2 ^ 64) × HasGoodTokens x.0.tokens) told.fits told.good (λ x fits good. (fits, good)))

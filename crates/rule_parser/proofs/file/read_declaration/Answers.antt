@@ -35,7 +35,7 @@ returns-clause-written c =
     let head = c.args.head.now in
     let some : 1 ≤ length c.in_ok-rows.rows = omega (arith, ap length c.as_slice.ensures, some_if_not_empty c.as_slice.result.now (sym c.if-is_empty.ensures)) in
     record {
-      name = line_named head.number head.tokens c.in_ok-cfd.cfd c.in_ok-cfd.ensures.head c.requires.names;
+      name = line_named head.number head.tokens c.in_ok-cfd.cfd c.in_ok-cfd.ensures.head c.requires.good;
       right = c.in_ok-cfd.ensures.right;
       rows = some;
       each_row = c.in_ok-rows.ensures.written;
