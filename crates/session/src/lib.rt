@@ -10,3 +10,6 @@ pub mod serving;
 pub use command::{Command, ScriptCause, ScriptFault, ServeFault};
 pub use script::parse_script;
 pub use serving::serve;
+
+#[cfg(test)]
+mod tests;

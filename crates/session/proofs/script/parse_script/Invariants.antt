@@ -1,8 +1,9 @@
-use Rattle.std.proofs.Common.{◌-◌, ◌≤◌, length}
+use Rattle.std.proofs.Common.{length}
+use Rattle.session.proofs.ScriptLemmas.{ScriptLeft}
 use Rattle.session.proofs.script.parse_script.Given as goal
 
-abbrev pub invariant-loop-from : goal.invariant-loop-from
-invariant-loop-from l = (l.line ≤ l.from) × (l.from ≤ length l.bytes) × (length l.commands ≤ l.limits.commands)
+abbrev pub invariant-loop-rest : goal.invariant-loop-rest
+invariant-loop-rest l = ScriptLeft l.limits l.bytes l.number l.commands l.rest
 
-abbrev pub decreases-loop-from : goal.decreases-loop-from
-decreases-loop-from l = length l.bytes - l.from
+abbrev pub decreases-loop-rest : goal.decreases-loop-rest
+decreases-loop-rest l = length l.rest
