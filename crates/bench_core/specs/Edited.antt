@@ -1,6 +1,6 @@
 -- What an edit does to a bench, and the first cause for which it is refused.
-use Rattle.std.specs.Prelude.{◌≡◌, ℕ, ◌+◌, ◌<◌, ◌≤◌, ◌==◌, nat_le, nat_lt, ◌&&◌, ◌⊎◌, if◌then◌else◌, List, [], ◌∷◌, length, take, All, Option, Some, None, slice_set, Result, Ok, Err}
-use Rattle.std.specs.List.{AllZip, slice_get, list_all}
+use Rattle.std.specs.Prelude.{◌≡◌, ℕ, ◌+◌, ◌==◌, nat_le, nat_lt, ◌&&◌, ◌||◌, ◌⊎◌, Bool, if◌then◌else◌, List, [], ◌∷◌, length, take, All, Option, Some, None, slice_set, Result, Ok, Err}
+use Rattle.std.specs.List.{AllZip, slice_get, list_all, position, range_with_len}
 use Rattle.std.specs.Option.{option_map_or}
 use Rattle.schema_core.specs.Schemas.{admits, table_place}
 use Rattle.schema_core.specs.Limits.{AreLimits}
@@ -45,24 +45,18 @@ AreTables schema cell_bytes tables = AllZip (λ (table : Table) rows. All (IsRow
 abbrev pub loaded : Book → Limits → List (List (List (List ℕ))) → BenchState
 loaded rules limits tables = record { rules = rules; limits = limits; tables = loaded_tables tables }
 
--- the tables have no more rows and cells than the limits say
-abbrev pub IsWithin : Limits → List Dep → List TableRows → Type 0
-IsWithin limits deps tables = (rows_in tables ≤ limits.rows) × (cells_in deps tables ≤ limits.index_cells)
+-- the tables have more rows, or more cells, than the limits say
+abbrev pub is_over : Limits → List Dep → List TableRows → Bool
+is_over limits deps tables = nat_lt limits.rows (rows_in tables) || nat_lt limits.index_cells (cells_in deps tables)
 
--- the tables have too many rows, or too many cells
-abbrev pub IsOver : Limits → List Dep → List TableRows → Type 0
-IsOver limits deps tables = (limits.rows < rows_in tables) ⊎ (limits.index_cells < cells_in deps tables)
-
--- the first table with which the rows so far are too many
-pub record IsFirstOver (limits : Limits) (deps : List Dep) (tables : List TableRows) (table : ℕ) : Type 0 where
-  pub there : table < length tables
-  pub before : IsWithin limits deps (take table tables)
-  pub with_it : IsOver limits deps (take (table + 1) tables)
+-- the place of the first table with which the tables so far are too many, if there is one
+abbrev pub first_over : Limits → List Dep → List TableRows → Option ℕ
+first_over limits deps tables = position (λ place. is_over limits deps (take (place + 1) tables)) (range_with_len 0 (length tables))
 
 -- why tables are not loaded: memory, or the first table with which they are too many
 abbrev pub IsLoadFault : Limits → List Dep → List TableRows → LoadFault → Type 0
 IsLoadFault limits deps tables load_fault.Memory = Unit {0}
-IsLoadFault limits deps tables (load_fault.RowsFull table) = IsFirstOver limits deps tables table
+IsLoadFault limits deps tables (load_fault.RowsFull table) = first_over limits deps tables ≡ Some table
 
 -- ---- the tests of an insertion, in the order in which they are made
 

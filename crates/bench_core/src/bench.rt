@@ -2,14 +2,13 @@
 
 ghost use Rattle.std.specs.Prelude.{◌≡◌, ◌-◌, ◌^◌, ◌<◌, ◌≤◌, [], ◌∷◌, ◌++◌, length, All, OnOk, OnErr, IfOk, IfErr, AllPairs, nat_le};
 ghost use Rattle.std.specs.List.{AllZip, HoldsAt, list_all};
-ghost use Rattle.std.specs.Bool.{OnTrue, OnFalse};
 ghost use Rattle.schema_core.specs.Limits.{AreLimits};
 ghost use Rattle.schema_core.specs.Rows.{IsRowOf};
 ghost use Rattle.schema_core.specs.Schemas.{Admits};
 ghost use Rattle.rule_model.specs.Books.{book_deps};
 ghost use Rattle.rule_model.specs.Dependencies.{attrs_at};
 ghost use Rattle.bench_core.specs.State.{loaded_table, loaded_tables};
-ghost use Rattle.bench_core.specs.Edited.{AreTables, IsLoadFault, IsOver, IsWithin, Finds, applied_by, domain_fault, edited, fault_of_edit, ids_fault, length_fault, inserted, loaded, next_id_at, rows_fault, width_fault};
+ghost use Rattle.bench_core.specs.Edited.{AreTables, IsLoadFault, Finds, applied_by, domain_fault, edited, fault_of_edit, first_over, ids_fault, is_over, length_fault, inserted, loaded, next_id_at, rows_fault, width_fault};
 
 use crate::edit::{Applied, Edit, EditFault, LoadFault};
 use crate::room::{count_cells, count_rows, weight_of};
@@ -41,8 +40,7 @@ impl Model for Bench {
 /// Whether the tables have more rows, or more cells, than the limits say.
 fn is_over(deps: &[Dep], tables: &[TableRows], limits: &Limits) -> bool
     requires { AreLimits limits.now }
-    ensures over { OnTrue result (IsOver limits.now deps.now tables.now) }
-    ensures within { OnFalse result (IsWithin limits.now deps.now tables.now) }
+    ensures { result ≡ is_over limits.now deps.now tables.now }
 {
     count_rows(tables) > limits.rows || count_cells(deps, tables) > limits.index_cells
 }
@@ -68,7 +66,8 @@ fn load_tables(
     limits: &Limits,
 ) -> Result<Vec<TableRows>, LoadFault>
     requires { AreLimits limits.now }
-    ensures ok { IfOk result (λ rows. (rows.items ≡ loaded_tables tables) × IsWithin limits.now deps.now rows.items) }
+    ensures ok { IfOk result (λ rows. rows.items ≡ loaded_tables tables) }
+    ensures within { IfOk result (λ rows. first_over limits.now deps.now rows.items ≡ None) }
     ensures fault { IfErr result (IsLoadFault limits.now deps.now (loaded_tables tables)) }
 {
     let mut loaded = Vec::new(alloc);
@@ -173,7 +172,7 @@ impl Bench {
         requires limits { AreLimits limits }
         requires tables { AreTables rules.schema limits.cell_bytes tables }
         ensures ok { IfOk result (λ bench. bench ≡ loaded rules limits tables) }
-        ensures within { OnOk result (IsWithin limits (book_deps rules) (loaded_tables tables)) }
+        ensures within { OnOk result (first_over limits (book_deps rules) (loaded_tables tables) ≡ None) }
         ensures fault { IfErr result (IsLoadFault limits (book_deps rules) (loaded_tables tables)) }
     {
         let tables = load_tables(alloc, rules.deps().as_slice(), tables, &limits)?;

@@ -9,7 +9,7 @@ use Rattle.cfd_cli.specs.declared.status.Status.TheVariants.{Clean, Findings, Us
 use Rattle.cfd_cli.specs.Output.{Appends, AppendsFrontOf, IsAnswered, MayRead, Only, Output, Writes, usage_line}
 use Rattle.cfd_cli.specs.Refusals.{refusal_line}
 use Rattle.cfd_cli.specs.declared.refusal.Refusal.{Refusal}
-use Rattle.cfd_cli.specs.Reading.{Read, Parsed, Loaded, project_read}
+use Rattle.cfd_cli.specs.Reading.{Read, Loaded, project_read}
 use Rattle.cfd_cli.specs.Words.{HasForm, project_word}
 
 -- the same under a wider allowance
@@ -51,8 +51,6 @@ answer_output limits holding words project form read bytes WriteFault h = absurd
 answer_output limits holding words project form read bytes Memory h = absurd h
 
 -- what was read is what reading may have come to, whether the shelf tells what it holds or not
-pub MayRead-from : (limits : Limits) (holding : Option Files) (words : List (List ℕ)) (project : List ℕ) (outcome : Read Loaded) → project ≡ project_word words → ((files : Files) → holding ≡ Some files → (parsed : Parsed) × (project_read parsed limits files project ≡ outcome)) → MayRead limits holding words outcome
+pub MayRead-from : (limits : Limits) (holding : Option Files) (words : List (List ℕ)) (project : List ℕ) (outcome : Read Loaded) → project ≡ project_word words → ((files : Files) → holding ≡ Some files → project_read limits files project ≡ outcome) → MayRead limits holding words outcome
 MayRead-from limits None words project outcome named told = tt
-MayRead-from limits (Some files) words project outcome named told =
-    let found = told files refl in
-    (found.0, ap (project_read found.0 limits files) (sym named) ∙ found.1)
+MayRead-from limits (Some files) words project outcome named told = ap (project_read limits files) (sym named) ∙ told files refl

@@ -1,4 +1,4 @@
 pub mod Endings
-pub mod Steps
+pub mod FullTables
 pub mod TableLoop
 pub mod Transcripts

@@ -9,7 +9,7 @@ use Rattle.session.specs.Transcript.{IsTranscript}
 use Rattle.cfd_cli.specs.declared.refusal.Refusal.{Refusal}
 use Rattle.cfd_cli.specs.declared.status.Status.{Status}
 use Rattle.cfd_cli.specs.declared.status.Status.TheVariants.{Clean, Findings, Usage, Refused, ReadFault, WriteFault, Memory}
-use Rattle.cfd_cli.specs.Reading.{Read, Parsed, Loaded, project_read}
+use Rattle.cfd_cli.specs.Reading.{Read, Loaded, project_read}
 use Rattle.cfd_cli.specs.Refusals.{refusal_line}
 use Rattle.cfd_cli.specs.Words.{HasForm, project_word}
 
@@ -17,10 +17,10 @@ use Rattle.cfd_cli.specs.Words.{HasForm, project_word}
 abbrev pub usage_line : List ℕ
 usage_line = codes "usage: run PROJECT | report PROJECT | consistent PROJECT TABLE BUDGET | implies PROJECT DEP BUDGET | check PROJECT CERT | generate N | cover PROJECT TABLE BUDGET | find PROJECT TABLE WIDTH SUPPORT | desk PROJECT EVENTS\n"
 
--- What reading the project may have come to. Where the shelf tells what it holds, that is what its files come to.
+-- What reading the project may have come to: where the shelf tells what it holds, what its files come to.
 abbrev pub MayRead : Limits → Option Files → List (List ℕ) → Read Loaded → Type 0
 MayRead limits None words outcome = Unit {0}
-MayRead limits (Some files) words outcome = (parsed : Parsed) × (project_read parsed limits files (project_word words) ≡ outcome)
+MayRead limits (Some files) words outcome = project_read limits files (project_word words) ≡ outcome
 
 -- a transcript of the commands, with a status that says whether the bench that they leave has a violation
 abbrev pub IsAnswered : Loaded → List ℕ → Status → Type 0

@@ -9,10 +9,16 @@ use Rattle.schema_core.specs.declared.schema.Table.{Table}
 use Rattle.schema_core.specs.declared.schema.SchemaFault.{SchemaFault}
 use Rattle.schema_core.specs.declared.schema.SchemaFault.TheVariants as schema_fault
 use Rattle.rule_model.specs.declared.decl.Decl.{Decl}
-use Rattle.rule_model.specs.Books.{Book}
+use Rattle.rule_model.specs.Books.{Book, book_deps}
+use Rattle.rule_parser.specs.Files.{declarations}
+use Rattle.rule_parser.specs.declared.fault.ParseCause.{ParseCause}
 use Rattle.csv_tables.specs.TableFiles.{table_of}
 use Rattle.csv_tables.specs.declared.fault.TableFault.{TableFault}
-use Rattle.bench_core.specs.Edited.{BenchState, loaded}
+use Rattle.bench_core.specs.Edited.{BenchState, first_over, loaded}
+use Rattle.bench_core.specs.State.{loaded_tables}
+use Rattle.session.specs.Scripts.{script_of}
+use Rattle.session.specs.declared.command.ScriptFault.{ScriptFault}
+use Rattle.session.specs.declared.command.ScriptFault.TheVariants as script_fault
 use Rattle.session.specs.declared.command.Command.{Command}
 use Rattle.cfd_cli.specs.declared.refusal.Cause.{Cause}
 use Rattle.cfd_cli.specs.declared.refusal.Cause.TheVariants as cause
@@ -59,6 +65,16 @@ schema_read (Ok schema) = Ok schema
 schema_read (Err (schema_fault.At line why)) = Err (cause.Schema line why)
 schema_read (Err schema_fault.Memory) = Err cause.TooLarge
 
+-- the rule book of a schema with these declarations, or a fault of the rule file as the cause of a refusal
+abbrev pub rules_read : Schema → Limits → Result (List Decl) (ℕ × ParseCause) → Result Book Cause
+rules_read schema limits (Ok decls) = Ok (record { schema = schema; limits = limits; decls = decls })
+rules_read schema limits (Err fault) = Err (cause.Rules fault.0 fault.1)
+
+abbrev pub script_read : Result (List Command) ScriptFault → Result (List Command) Cause
+script_read (Ok commands) = Ok commands
+script_read (Err (script_fault.At line why)) = Err (cause.Script line why)
+script_read (Err script_fault.Memory) = Err cause.TooLarge
+
 abbrev pub table_read : {X : Type 0} → Result X TableFault → Result X Cause
 table_read (Ok rows) = Ok rows
 table_read (Err fault) = Err (cause.Table fault)
@@ -86,13 +102,6 @@ read_tables limits files left (table ∷ tables) =
 abbrev pub file_of : Schema → ℕ → List ℕ
 file_of schema table = option_map_or (λ (t : Table). t.file) (slice_get schema.tables table) []
 
--- What the readers of rules and scripts made of their bytes, and with which table the tables were too many, if any.
--- Which bytes are read so isn't said here.
-pub record Parsed : Type 0 where
-  pub decls : Result (List Decl) Cause
-  pub full : Option ℕ
-  pub commands : Result (List Command) Cause
-
 -- the tables as they are loaded, or the table with which they are too many
 abbrev pub loaded_or_full : Option ℕ → Book → Limits → List Tuples → Read BenchState
 loaded_or_full None rules limits tables = Ok (loaded rules limits tables)
@@ -103,18 +112,41 @@ pub record Loaded : Type 0 where
   pub bench : BenchState
   pub commands : List Command
 
+-- the schema of the named file, and how many bytes the files after it may have
+unfoldable pub project_schema : Limits → Files → ℕ → List ℕ → Read (Schema × ℕ)
+project_schema limits files left name =
+    fetched limits files left name >>= λ file.
+    about name (schema_read (reads limits file.0)) >>= λ schema.
+    Ok (schema, file.1)
+
+-- the rule book of the schema's rule file, and how many bytes the files after it may have
+unfoldable pub project_rules : Limits → Files → ℕ → List ℕ → Schema → Read (Book × ℕ)
+project_rules limits files left name schema =
+    fetched_if_named limits files left schema.rules >>= λ file.
+    about (unwrap_or schema.rules name) (rules_read schema limits (declarations schema limits file.0)) >>= λ rules.
+    Ok (rules, file.1)
+
+-- the bench of the tables' files, and how many bytes the files after them may have
+unfoldable pub project_bench : Limits → Files → ℕ → Book → Read (BenchState × ℕ)
+project_bench limits files left rules =
+    read_tables limits files left rules.schema.tables >>= λ tables.
+    loaded_or_full (first_over limits (book_deps rules) (loaded_tables tables.0)) rules limits tables.0 >>= λ bench.
+    Ok (bench, tables.1)
+
+-- the commands of the schema's script
+unfoldable pub project_commands : Limits → Files → ℕ → List ℕ → Schema → Read (List Command)
+project_commands limits files left name schema =
+    fetched_if_named limits files left schema.script >>= λ file.
+    about (unwrap_or schema.script name) (script_read (script_of limits file.0))
+
 -- a project in the order in which its files are fetched and read: schema, rules, tables, script
-unfoldable pub project_read : Parsed → Limits → Files → List ℕ → Read Loaded
-project_read parsed limits files name =
-    fetched limits files limits.all_bytes name >>= λ first.
-    about name (schema_read (reads limits first.0)) >>= λ schema.
-    fetched_if_named limits files first.1 schema.rules >>= λ rules.
-    about (unwrap_or schema.rules name) parsed.decls >>= λ decls.
-    read_tables limits files rules.1 schema.tables >>= λ tables.
-    loaded_or_full parsed.full (record { schema = schema; limits = limits; decls = decls }) limits tables.0 >>= λ bench.
-    fetched_if_named limits files tables.1 schema.script >>= λ script.
-    about (unwrap_or schema.script name) parsed.commands >>= λ commands.
-    Ok (record { bench = bench; commands = commands })
+unfoldable pub project_read : Limits → Files → List ℕ → Read Loaded
+project_read limits files name =
+    project_schema limits files limits.all_bytes name >>= λ schema.
+    project_rules limits files schema.1 name schema.0 >>= λ rules.
+    project_bench limits files rules.1 rules.0 >>= λ bench.
+    project_commands limits files bench.1 name bench.0.rules.schema >>= λ commands.
+    Ok (record { bench = bench.0; commands = commands })
 
 -- what was read is what reading comes to, unless a fetch failed or memory ran out
 abbrev pub Fails : {Y : Type 0} → Stop → Read Y → Type 0

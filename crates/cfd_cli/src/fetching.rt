@@ -3,12 +3,12 @@ ghost use Rattle.std.specs.Prelude.{◌≡◌, ◌+◌, ◌≤◌, ◌^◌, Some
 ghost use Rattle.shelf_io.specs.Rising.{Rose};
 ghost use Rattle.shelf_io.specs.Files.{Files};
 ghost use Rattle.cfd_cli.specs.Fetching.{IsReadFault, RefusesOnly};
-ghost use Rattle.cfd_cli.specs.Reading.{Gives, fetched};
+ghost use Rattle.cfd_cli.specs.Reading.{Gives, fetched, fetched_if_named};
 
 use crate::refusal::{Cause, Refusal};
 use schema_core::{Limits, Text};
 use shelf_io::{FetchFault, Shelf};
-use std::alloc::{AllocError, AllocFailed};
+use std::alloc::{AllocError, AllocFailed, Global};
 
 /// Why a project isn't answered.
 #[derive(Debug, Drop)]
@@ -80,5 +80,28 @@ pub fn fetch_file<S: Shelf>(
         Err(FetchFault::Absent) => Err(refused(name, Cause::Absent)),
         Err(FetchFault::Failed) => Err(Stop::ReadFault),
         Err(FetchFault::Memory) => Err(Stop::Memory),
+    }
+}
+
+/// A file that the schema may leave out, and which then is empty.
+pub fn fetch_if_named<S: Shelf>(
+    alloc: Global,
+    shelf: &mut S,
+    name: &Option<Text>,
+    limits: &Limits,
+    left: &mut u64,
+) -> Result<Vec<u8>, Stop>
+    requires { left.old ≤ 2 ^ 32 }
+    ensures file { (files : Files) → S.holding shelf.old ≡ Some files
+        → Gives (λ bytes. (bytes.items, left.new)) result (fetched_if_named limits.now files left.old name.now) }
+    ensures read_fault { IsReadFault result → Rose (S.faults shelf.old) (S.faults shelf.new) }
+    ensures left { left.new ≤ left.old }
+    ensures faults { S.faults shelf.old ≤ S.faults shelf.new }
+    ensures calls { S.calls shelf.new ≤ S.calls shelf.old + 1 }
+    ensures holding { S.holding shelf.new ≡ S.holding shelf.old }
+{
+    match name {
+        Some(name) => fetch_file(shelf, name, limits, left),
+        None => Ok(Vec::new(alloc)),
     }
 }

@@ -1,22 +1,23 @@
 // A project's files, in the order in which they are fetched and read: schema, rules, tables, script.
-ghost use Rattle.std.specs.Prelude.{◌≡◌, ◌+◌, ◌≤◌, ◌^◌, length, map, Some, unwrap_or, IfOk, IfErr};
+ghost use Rattle.std.specs.Prelude.{◌≡◌, ◌+◌, ◌≤◌, ◌^◌, Some, unwrap_or, IfOk};
 ghost use Rattle.schema_core.specs.Limits.{AreLimits};
 ghost use Rattle.schema_core.specs.Schemas.{IsValidSchema};
 ghost use Rattle.schema_core.specs.SchemaFiles.{reads};
+ghost use Rattle.rule_parser.specs.Files.{declarations};
+ghost use Rattle.session.specs.Scripts.{script_of};
 ghost use Rattle.shelf_io.specs.Files.{Files};
 ghost use Rattle.shelf_io.specs.Rising.{Rose};
-ghost use Rattle.bench_core.specs.Edited.{AreTables, loaded};
-ghost use Rattle.cfd_cli.specs.Fetching.{IsReadFault, RefusesSome, RefusesTables};
+ghost use Rattle.cfd_cli.specs.Fetching.{IsReadFault};
 ghost use Rattle.cfd_cli.specs.Project.{loaded_in};
-ghost use Rattle.cfd_cli.specs.Reading.{Gives, Parsed, about, schema_read, fetched_if_named, project_read};
+ghost use Rattle.cfd_cli.specs.Reading.{Gives, about, schema_read, rules_read, script_read, project_schema, project_rules, project_bench, project_commands, project_read};
 
-use crate::fetching::{Stop, fetch_file, refused};
+use crate::fetching::{Stop, fetch_file, fetch_if_named, refused};
 use crate::refusal::Cause;
-use crate::tables::read_tables;
-use bench_core::{Bench, LoadFault};
+use crate::tables::{load, read_tables};
+use bench_core::Bench;
 use rule_model::RuleBook;
 use rule_parser::{ParseFault, parse_rules};
-use schema_core::{Limits, List, Schema, SchemaFault, Text, Texts, parse_schema};
+use schema_core::{Limits, List, Schema, SchemaFault, Text, parse_schema};
 use session::{Command, ScriptFault, parse_script};
 use shelf_io::Shelf;
 use std::alloc::{AllocError, Global};
@@ -37,39 +38,111 @@ pub fn read_project<S: Shelf>(
     limits: &Limits,
 ) -> Result<Project, Stop>
     requires { AreLimits limits.now }
+
+    // Where the shelf tells what it holds, the answer is that of the held files.
     ensures project { (files : Files) → S.holding shelf.old ≡ Some files
-        → (parsed : Parsed) × Gives loaded_in result (project_read parsed limits.now files project.now) }
+        → Gives loaded_in result (project_read limits.now files project.now) }
     ensures read_fault { IsReadFault result → Rose (S.faults shelf.old) (S.faults shelf.new) }
     ensures calls { S.calls shelf.new ≤ S.calls shelf.old + 67 }
 {
     let mut left = limits.all_bytes;
-    let bytes = fetch_file(shelf, project, limits, &mut left)?;
-    let schema = read_schema(alloc, project, &bytes, limits)?;
-    let bytes = fetch_if_named(alloc, shelf, &schema.rules, limits, &mut left)?;
-    let rules = read_rules(alloc, project, schema, &bytes, limits)?;
-    let tables = read_tables(
-        alloc,
-        shelf,
-        rules.schema().tables.as_slice(),
-        limits,
-        &mut left,
-    )?;
-    let bench = load(alloc, rules, tables, limits)?;
-    let bytes = fetch_if_named(
-        alloc,
-        shelf,
-        &bench.rules().schema().script,
-        limits,
-        &mut left,
-    )?;
-    let commands = read_script(
-        alloc,
-        project,
-        &bench.rules().schema().script,
-        &bytes,
-        limits,
-    )?;
+    let schema = fetch_schema(alloc, shelf, project, limits, &mut left)?;
+    let rules = fetch_rules(alloc, shelf, project, schema, limits, &mut left)?;
+    let bench = fetch_bench(alloc, shelf, rules, limits, &mut left)?;
+    let schema = bench.rules().schema();
+    let commands = fetch_commands(alloc, shelf, project, schema, limits, &mut left)?;
     Ok(Project { bench, commands })
+}
+
+// Each of these fetches files and reads them. `left` is how many bytes the files that are still to come may have
+// together.
+
+#[tactic(auto, unfolding(crate::specs::Reading::project_schema))]
+fn fetch_schema<S: Shelf>(
+    alloc: Global,
+    shelf: &mut S,
+    project: &Text,
+    limits: &Limits,
+    left: &mut u64,
+) -> Result<Schema, Stop>
+    requires limits { AreLimits limits.now }
+    requires left { left.old ≤ 2 ^ 32 }
+    ensures schema { (files : Files) → S.holding shelf.old ≡ Some files
+        → Gives (λ schema. (schema, left.new)) result (project_schema limits.now files left.old project.now) }
+    ensures valid { IfOk result IsValidSchema }
+    ensures read_fault { IsReadFault result → Rose (S.faults shelf.old) (S.faults shelf.new) }
+    ensures left { left.new ≤ left.old }
+    ensures faults { S.faults shelf.old ≤ S.faults shelf.new }
+    ensures calls { S.calls shelf.new ≤ S.calls shelf.old + 1 }
+    ensures holding { S.holding shelf.new ≡ S.holding shelf.old }
+{
+    let bytes = fetch_file(shelf, project, limits, left)?;
+    read_schema(alloc, project, &bytes, limits)
+}
+
+#[tactic(auto, unfolding(crate::specs::Reading::project_rules))]
+fn fetch_rules<S: Shelf>(
+    alloc: Global,
+    shelf: &mut S,
+    project: &Text,
+    schema: Schema,
+    limits: &Limits,
+    left: &mut u64,
+) -> Result<RuleBook, Stop>
+    requires valid { IsValidSchema schema }
+    requires limits { AreLimits limits.now }
+    requires left { left.old ≤ 2 ^ 32 }
+    ensures rules { (files : Files) → S.holding shelf.old ≡ Some files
+        → Gives (λ rules. (rules, left.new)) result (project_rules limits.now files left.old project.now schema) }
+    ensures read_fault { IsReadFault result → Rose (S.faults shelf.old) (S.faults shelf.new) }
+    ensures left { left.new ≤ left.old }
+    ensures faults { S.faults shelf.old ≤ S.faults shelf.new }
+    ensures calls { S.calls shelf.new ≤ S.calls shelf.old + 1 }
+    ensures holding { S.holding shelf.new ≡ S.holding shelf.old }
+{
+    let bytes = fetch_if_named(alloc, shelf, &schema.rules, limits, left)?;
+    read_rules(alloc, project, schema, &bytes, limits)
+}
+
+#[tactic(auto, unfolding(crate::specs::Reading::project_bench))]
+fn fetch_bench<S: Shelf>(
+    alloc: Global,
+    shelf: &mut S,
+    rules: RuleBook,
+    limits: &Limits,
+    left: &mut u64,
+) -> Result<Bench, Stop>
+    requires limits { AreLimits limits.now }
+    requires left { left.old ≤ 2 ^ 32 }
+    ensures bench { (files : Files) → S.holding shelf.old ≡ Some files
+        → Gives (λ bench. (bench, left.new)) result (project_bench limits.now files left.old rules) }
+    ensures read_fault { IsReadFault result → Rose (S.faults shelf.old) (S.faults shelf.new) }
+    ensures left { left.new ≤ left.old }
+    ensures faults { S.faults shelf.old ≤ S.faults shelf.new }
+    ensures calls { S.calls shelf.new ≤ S.calls shelf.old + 64 }
+    ensures holding { S.holding shelf.new ≡ S.holding shelf.old }
+{
+    let tables = read_tables(alloc, shelf, rules.schema().tables.as_slice(), limits, left)?;
+    load(alloc, rules, tables, limits)
+}
+
+#[tactic(auto, unfolding(crate::specs::Reading::project_commands))]
+fn fetch_commands<S: Shelf>(
+    alloc: Global,
+    shelf: &mut S,
+    project: &Text,
+    schema: &Schema,
+    limits: &Limits,
+    left: &mut u64,
+) -> Result<List<Command>, Stop>
+    requires { left.old ≤ 2 ^ 32 }
+    ensures commands { (files : Files) → S.holding shelf.old ≡ Some files
+        → Gives (λ commands. commands) result (project_commands limits.now files left.old project.now schema.now) }
+    ensures read_fault { IsReadFault result → Rose (S.faults shelf.old) (S.faults shelf.new) }
+    ensures calls { S.calls shelf.new ≤ S.calls shelf.old + 1 }
+{
+    let bytes = fetch_if_named(alloc, shelf, &schema.script, limits, left)?;
+    read_script(alloc, project, &schema.script, &bytes, limits)
 }
 
 fn read_schema(alloc: Global, project: &Text, bytes: &[u8], limits: &Limits) -> Result<Schema, Stop>
@@ -85,29 +158,6 @@ fn read_schema(alloc: Global, project: &Text, bytes: &[u8], limits: &Limits) -> 
             Cause::Schema { line, cause },
         )),
         Err(SchemaFault::Memory) => Err(Stop::Memory),
-    }
-}
-
-// A file that the schema may leave out, and which then is empty.
-fn fetch_if_named<S: Shelf>(
-    alloc: Global,
-    shelf: &mut S,
-    name: &Option<Text>,
-    limits: &Limits,
-    left: &mut u64,
-) -> Result<Vec<u8>, Stop>
-    requires { left.old ≤ 2 ^ 32 }
-    ensures file { (files : Files) → S.holding shelf.old ≡ Some files
-        → Gives (λ bytes. (bytes.items, left.new)) result (fetched_if_named limits.now files left.old name.now) }
-    ensures read_fault { IsReadFault result → Rose (S.faults shelf.old) (S.faults shelf.new) }
-    ensures left { left.new ≤ left.old }
-    ensures faults { S.faults shelf.old ≤ S.faults shelf.new }
-    ensures calls { S.calls shelf.new ≤ S.calls shelf.old + 1 }
-    ensures holding { S.holding shelf.new ≡ S.holding shelf.old }
-{
-    match name {
-        Some(name) => fetch_file(shelf, name, limits, left),
-        None => Ok(Vec::new(alloc)),
     }
 }
 
@@ -129,46 +179,14 @@ fn read_rules(
 ) -> Result<RuleBook, Stop>
     requires valid { IsValidSchema schema }
     requires limits { AreLimits limits.now }
-    ensures book { IfOk result (λ book. (book.schema ≡ schema) × (book.limits ≡ limits.now)) }
-    ensures refused { IfErr result (RefusesSome (unwrap_or schema.rules project.now)) }
+    ensures rules { Gives (λ rules. rules) result (about (unwrap_or schema.rules project.now) (rules_read schema limits.now (declarations schema limits.now bytes.now))) }
+    ensures no_fetch { IsReadFault result → ⊥ }
 {
     let name = name_or(&schema.rules, project)?;
     match parse_rules(alloc, schema, bytes, limits) {
         Ok(rules) => Ok(rules),
         Err(ParseFault::At { line, cause }) => Err(refused(&name, Cause::Rules { line, cause })),
         Err(ParseFault::Memory) => Err(Stop::Memory),
-    }
-}
-
-fn file_names(alloc: Global, schema: &Schema) -> Result<Texts, AllocError>
-    ensures { IfOk result (λ names. names ≡ map (λ table. table.file) schema.now.tables) }
-{
-    let mut names = List::new(alloc);
-    for table in schema.tables.as_slice() {
-        names.push(table.file.clone()?)?;
-    }
-    Ok(names)
-}
-
-fn load(
-    alloc: Global,
-    rules: RuleBook,
-    tables: List<List<Texts>>,
-    limits: &Limits,
-) -> Result<Bench, Stop>
-    requires limits { AreLimits limits.now }
-    requires tables { AreTables rules.schema limits.now.cell_bytes tables }
-    ensures bench { IfOk result (λ bench. bench ≡ loaded rules limits.now tables) }
-    ensures refused { IfErr result (RefusesTables rules.schema) }
-{
-    let names = file_names(alloc, rules.schema())?;
-    match Bench::load(alloc, rules, tables, *limits) {
-        Ok(bench) => Ok(bench),
-        Err(LoadFault::RowsFull { table }) => Err(refused(
-            &names.as_slice()[table],
-            Cause::RowsFull,
-        )),
-        Err(LoadFault::Memory) => Err(Stop::Memory),
     }
 }
 
@@ -179,7 +197,8 @@ fn read_script(
     bytes: &[u8],
     limits: &Limits,
 ) -> Result<List<Command>, Stop>
-    ensures refused { IfErr result (RefusesSome (unwrap_or name.now project.now)) }
+    ensures commands { Gives (λ commands. commands) result (about (unwrap_or name.now project.now) (script_read (script_of limits.now bytes.now))) }
+    ensures no_fetch { IsReadFault result → ⊥ }
 {
     match parse_script(alloc, bytes, limits) {
         Ok(commands) => Ok(commands),

@@ -1,20 +1,25 @@
-// The files of the tables.
-ghost use Rattle.std.specs.Prelude.{◌≡◌, ◌≢◌, ◌+◌, ◌≤◌, ◌^◌, length, All, Some, Ok, Err, IfOk, IfErr};
+// The files of the tables, and the bench of what they hold.
+ghost use Rattle.std.specs.Prelude.{◌≡◌, ◌≢◌, ◌+◌, ◌≤◌, ◌^◌, length, map, All, Some, Ok, Err, IfOk, IfErr};
 ghost use Rattle.std.specs.List.{AllZip};
 ghost use Rattle.schema_core.specs.Limits.{AreLimits};
 ghost use Rattle.schema_core.specs.Rows.{IsRowOf};
 ghost use Rattle.shelf_io.specs.Files.{Files};
 ghost use Rattle.shelf_io.specs.Rising.{Rose};
+ghost use Rattle.rule_model.specs.Books.{book_deps};
+ghost use Rattle.bench_core.specs.Edited.{AreTables, first_over};
+ghost use Rattle.bench_core.specs.State.{loaded_tables};
 ghost use Rattle.csv_tables.specs.TableFiles.{table_of};
 ghost use Rattle.cfd_cli.specs.Fetching.{IsReadFault};
-ghost use Rattle.cfd_cli.specs.Reading.{Gives, about, table_read, read_table, read_tables};
+ghost use Rattle.cfd_cli.specs.Reading.{Gives, about, loaded_or_full, table_read, read_table, read_tables};
 
 use crate::fetching::{Stop, fetch_file, refused};
 use crate::refusal::Cause;
+use bench_core::{Bench, LoadFault};
 use csv_tables::TableFault;
-use schema_core::{Limits, List, Table, Texts};
+use rule_model::RuleBook;
+use schema_core::{Limits, List, Schema, Table, Texts};
 use shelf_io::Shelf;
-use std::alloc::Global;
+use std::alloc::{AllocError, Global};
 
 /// The rows of each table, in the order of the schema.
 pub fn read_tables<S: Shelf>(
@@ -76,5 +81,38 @@ fn rows_of(alloc: Global, table: &Table, bytes: &[u8], limits: &Limits) -> Resul
         Ok(rows) => Ok(rows),
         Err(TableFault::Memory) => Err(Stop::Memory),
         Err(fault) => Err(refused(&table.file, Cause::Table(fault))),
+    }
+}
+
+fn file_names(alloc: Global, schema: &Schema) -> Result<Texts, AllocError>
+    ensures { IfOk result (λ names. names ≡ map (λ table. table.file) schema.now.tables) }
+{
+    let mut names = List::new(alloc);
+    for table in schema.tables.as_slice() {
+        names.push(table.file.clone()?)?;
+    }
+    Ok(names)
+}
+
+/// The bench of tables that were read.
+pub fn load(
+    alloc: Global,
+    rules: RuleBook,
+    tables: List<List<Texts>>,
+    limits: &Limits,
+) -> Result<Bench, Stop>
+    requires limits { AreLimits limits.now }
+    requires tables { AreTables rules.schema limits.now.cell_bytes tables }
+    ensures bench { Gives (λ bench. bench) result (loaded_or_full (first_over limits.now (book_deps rules) (loaded_tables tables)) rules limits.now tables) }
+    ensures no_fetch { IsReadFault result → ⊥ }
+{
+    let names = file_names(alloc, rules.schema())?;
+    match Bench::load(alloc, rules, tables, *limits) {
+        Ok(bench) => Ok(bench),
+        Err(LoadFault::RowsFull { table }) => {
+            let name = &names.as_slice()[table];
+            Err(refused(name, Cause::RowsFull))
+        }
+        Err(LoadFault::Memory) => Err(Stop::Memory),
     }
 }

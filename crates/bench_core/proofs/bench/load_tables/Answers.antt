@@ -1,8 +1,9 @@
-use Rattle.std.proofs.Common.{length, ap, ◌∙◌, subst, arith}
+use Rattle.std.proofs.Common.{◌≡◌, List, length, true, sym, ap, ◌∙◌, subst, arith}
 use Rattle.std.proofs.lemmas.Iterator.Adapters.{YieldsList-from_vec}
 use Rattle.std.proofs.lemmas.Iterator.Consumers.{YieldsList-turn, YieldsList-so_far}
-use Rattle.bench_core.specs.Edited.{IsOver}
-use Rattle.bench_core.proofs.Loads.{first_over-here, over_by_itself}
+use Rattle.bench_core.specs.Edited.{is_over}
+use Rattle.bench_core.specs.declared.rows.TableRows.{TableRows}
+use Rattle.bench_core.proofs.Loads.{first_over-here, first_over-none, over_by_itself}
 use Rattle.bench_core.proofs.bench.load_tables.Goals as goal
 
 pub returns-then-as_slice-limits-clause-fault : goal.returns-then-as_slice-limits-clause-fault
@@ -23,4 +24,7 @@ returns-then-is_over-clause-fault c =
     let front = YieldsList-so_far all c.loop-tuples.yielded _ c.loop-tuples.yielded_by in
     first_over-here c.args.limits.now c.args.deps.now c.args.tables c.loop-tuples.yielded c.in-Some.tuples c.loop-tuples.loaded.items c.len-table.result
     turn.0 front turn.1 c.loop-tuples.invariant.0 (c.len-table.ensures ∙ c.loop-tuples.loaded.ok.0) c.loop-tuples.invariant.1
-    (subst (IsOver c.args.limits.now c.args.deps.now) (c.deref.ensures.value ∙ c.in_ok-add_table.ensures) c.if-is_over.ensures.over)
+    (subst (λ (ts : List TableRows). is_over c.args.limits.now c.args.deps.now ts ≡ true) (c.deref.ensures.value ∙ c.in_ok-add_table.ensures) (sym c.if-is_over.ensures))
+
+pub returns-clause-within : goal.returns-clause-within
+returns-clause-within c = first_over-none c.args.limits.now c.args.deps.now _ c.loop-tuples.invariant.1
