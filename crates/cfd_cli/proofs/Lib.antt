@@ -1,3 +1,4 @@
+pub mod Fetches
 pub mod Endings
 pub mod FullTables
 pub mod TableLoop

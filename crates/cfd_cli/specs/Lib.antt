@@ -1,3 +1,4 @@
+pub mod Fetches
 pub mod Fetching
 pub mod Output
 pub mod Project

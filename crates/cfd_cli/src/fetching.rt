@@ -2,6 +2,7 @@
 ghost use Rattle.std.specs.Prelude.{◌≡◌, ◌+◌, ◌≤◌, ◌^◌, Some};
 ghost use Rattle.shelf_io.specs.Rising.{Rose};
 ghost use Rattle.shelf_io.specs.Files.{Files};
+ghost use Rattle.cfd_cli.specs.Fetches.{fetches_if_named};
 ghost use Rattle.cfd_cli.specs.Fetching.{IsReadFault, RefusesOnly};
 ghost use Rattle.cfd_cli.specs.Reading.{Gives, fetched, fetched_if_named};
 
@@ -97,7 +98,7 @@ pub fn fetch_if_named<S: Shelf>(
     ensures read_fault { IsReadFault result → Rose (S.faults shelf.old) (S.faults shelf.new) }
     ensures left { left.new ≤ left.old }
     ensures faults { S.faults shelf.old ≤ S.faults shelf.new }
-    ensures calls { S.calls shelf.new ≤ S.calls shelf.old + 1 }
+    ensures calls { S.calls shelf.new ≤ S.calls shelf.old + fetches_if_named name.now }
     ensures holding { S.holding shelf.new ≡ S.holding shelf.old }
 {
     match name {

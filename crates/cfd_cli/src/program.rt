@@ -1,11 +1,13 @@
 // The top call.
-ghost use Rattle.std.specs.Prelude.{◌≡◌, ◌≢◌, ◌+◌, ◌≤◌, ◌⊎◌};
+ghost use Rattle.std.specs.Prelude.{◌≡◌, ◌≢◌, ◌+◌, ◌≤◌, ◌⊎◌, Some};
 ghost use Rattle.schema_core.specs.Limits.{AreLimits, standard};
 ghost use Rattle.shelf_io.specs.Rising.{Rose};
+ghost use Rattle.cfd_cli.specs.Fetches.{project_fetches};
+ghost use Rattle.shelf_io.specs.Files.{Files};
 ghost use Rattle.cfd_cli.specs.Output.{IsAnswered, IsEndOf, Only, Output, Writes, usage_line};
 ghost use Rattle.cfd_cli.specs.Project.{loaded_in};
 ghost use Rattle.cfd_cli.specs.Refusals.{refusal_line};
-ghost use Rattle.cfd_cli.specs.Words.{HasForm};
+ghost use Rattle.cfd_cli.specs.Words.{HasForm, project_word};
 
 use crate::fetching::Stop;
 use crate::project::{Project, read_project};
@@ -30,6 +32,8 @@ pub fn run<S: Shelf, O: Sink>(alloc: Global, words: &Texts, shelf: &mut S, out: 
     ensures usage { (HasForm words.now → ⊥) → (result ≡ Status.Usage) ⊎ (result ≡ Status.WriteFault) }
     ensures no_fetch { (HasForm words.now → ⊥) → S.calls shelf.new ≡ S.calls shelf.old }
     ensures fetches { S.calls shelf.new ≤ S.calls shelf.old + 67 }
+    ensures told_fetches { (files : Files) → S.holding shelf.old ≡ Some files
+        → S.calls shelf.new ≤ S.calls shelf.old + project_fetches standard files (project_word words.now) }
 {
     run_with(alloc, words, shelf, out, Limits::standard())
 }
@@ -57,6 +61,8 @@ pub fn run_with<S: Shelf, O: Sink>(
 
     // The schema, the rules, the script and 64 tables.
     ensures fetches { S.calls shelf.new ≤ S.calls shelf.old + 67 }
+    ensures told_fetches { (files : Files) → S.holding shelf.old ≡ Some files
+        → S.calls shelf.new ≤ S.calls shelf.old + project_fetches limits files (project_word words.now) }
 {
     let words = words.as_slice();
     match form_of(words) {
@@ -89,6 +95,8 @@ fn run_project<S: Shelf, O: Sink>(
     ensures read_fault { result ≡ Status.ReadFault → Rose (S.faults shelf.old) (S.faults shelf.new) }
     ensures write_fault { result ≡ Status.WriteFault → Rose (O.faults out.old) (O.faults out.new) }
     ensures fetches { S.calls shelf.new ≤ S.calls shelf.old + 67 }
+    ensures told_fetches { (files : Files) → S.holding shelf.old ≡ Some files
+        → S.calls shelf.new ≤ S.calls shelf.old + project_fetches limits.now files (project_word words.now) }
 {
     match read_project(alloc, shelf, project_of(words), limits) {
         Ok(project) => answer(alloc, project, out),

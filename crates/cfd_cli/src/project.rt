@@ -7,6 +7,7 @@ ghost use Rattle.rule_parser.specs.Files.{declarations};
 ghost use Rattle.session.specs.Scripts.{script_of};
 ghost use Rattle.shelf_io.specs.Files.{Files};
 ghost use Rattle.shelf_io.specs.Rising.{Rose};
+ghost use Rattle.cfd_cli.specs.Fetches.{fetches_if_named, table_fetches, project_fetches};
 ghost use Rattle.cfd_cli.specs.Fetching.{IsReadFault};
 ghost use Rattle.cfd_cli.specs.Project.{loaded_in};
 ghost use Rattle.cfd_cli.specs.Reading.{Gives, about, schema_read, rules_read, script_read, project_schema, project_rules, project_bench, project_commands, project_read};
@@ -44,6 +45,8 @@ pub fn read_project<S: Shelf>(
         → Gives loaded_in result (project_read limits.now files project.now) }
     ensures read_fault { IsReadFault result → Rose (S.faults shelf.old) (S.faults shelf.new) }
     ensures calls { S.calls shelf.new ≤ S.calls shelf.old + 67 }
+    ensures told_calls { (files : Files) → S.holding shelf.old ≡ Some files
+        → S.calls shelf.new ≤ S.calls shelf.old + project_fetches limits.now files project.now }
 {
     let mut left = limits.all_bytes;
     let schema = fetch_schema(alloc, shelf, project, limits, &mut left)?;
@@ -97,7 +100,7 @@ fn fetch_rules<S: Shelf>(
     ensures read_fault { IsReadFault result → Rose (S.faults shelf.old) (S.faults shelf.new) }
     ensures left { left.new ≤ left.old }
     ensures faults { S.faults shelf.old ≤ S.faults shelf.new }
-    ensures calls { S.calls shelf.new ≤ S.calls shelf.old + 1 }
+    ensures calls { S.calls shelf.new ≤ S.calls shelf.old + fetches_if_named schema.rules }
     ensures holding { S.holding shelf.new ≡ S.holding shelf.old }
 {
     let bytes = fetch_if_named(alloc, shelf, &schema.rules, limits, left)?;
@@ -120,6 +123,8 @@ fn fetch_bench<S: Shelf>(
     ensures left { left.new ≤ left.old }
     ensures faults { S.faults shelf.old ≤ S.faults shelf.new }
     ensures calls { S.calls shelf.new ≤ S.calls shelf.old + 64 }
+    ensures told_calls { (files : Files) → S.holding shelf.old ≡ Some files
+        → S.calls shelf.new ≤ S.calls shelf.old + table_fetches limits.now files left.old rules.schema.tables }
     ensures holding { S.holding shelf.new ≡ S.holding shelf.old }
 {
     let tables = read_tables(alloc, shelf, rules.schema().tables.as_slice(), limits, left)?;
@@ -139,7 +144,7 @@ fn fetch_commands<S: Shelf>(
     ensures commands { (files : Files) → S.holding shelf.old ≡ Some files
         → Gives (λ commands. commands) result (project_commands limits.now files left.old project.now schema.now) }
     ensures read_fault { IsReadFault result → Rose (S.faults shelf.old) (S.faults shelf.new) }
-    ensures calls { S.calls shelf.new ≤ S.calls shelf.old + 1 }
+    ensures calls { S.calls shelf.new ≤ S.calls shelf.old + fetches_if_named schema.now.script }
 {
     let bytes = fetch_if_named(alloc, shelf, &schema.script, limits, left)?;
     read_script(alloc, project, &schema.script, &bytes, limits)

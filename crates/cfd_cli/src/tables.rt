@@ -9,6 +9,7 @@ ghost use Rattle.rule_model.specs.Books.{book_deps};
 ghost use Rattle.bench_core.specs.Edited.{AreTables, first_over};
 ghost use Rattle.bench_core.specs.State.{loaded_tables};
 ghost use Rattle.csv_tables.specs.TableFiles.{table_of};
+ghost use Rattle.cfd_cli.specs.Fetches.{table_fetches};
 ghost use Rattle.cfd_cli.specs.Fetching.{IsReadFault};
 ghost use Rattle.cfd_cli.specs.Reading.{Gives, about, loaded_or_full, table_read, read_table, read_tables};
 
@@ -38,6 +39,8 @@ pub fn read_tables<S: Shelf>(
     ensures left { left.new ≤ left.old }
     ensures faults { S.faults shelf.old ≤ S.faults shelf.new }
     ensures calls { S.calls shelf.new ≤ S.calls shelf.old + length tables.now }
+    ensures told_calls { (files : Files) → S.holding shelf.old ≡ Some files
+        → S.calls shelf.new ≤ S.calls shelf.old + table_fetches limits.now files left.old tables.now }
     ensures holding { S.holding shelf.new ≡ S.holding shelf.old }
 {
     let mut all = List::new(alloc);

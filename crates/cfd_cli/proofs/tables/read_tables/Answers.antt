@@ -5,6 +5,7 @@ use Rattle.std.proofs.lemmas.Result.{err_from_is_err_and}
 use Rattle.schema_core.specs.Rows.{IsRowOf}
 use Rattle.schema_core.specs.declared.schema.Table.{Table}
 use Rattle.cfd_cli.specs.Reading.{Tuples}
+use Rattle.cfd_cli.proofs.Fetches.{next_table, others_left}
 use Rattle.cfd_cli.proofs.TableLoop.{GoesOn, goes_on-none, goes_on-more, goes_on-refused, goes_on-all, AllZip-take_more}
 use Rattle.cfd_cli.proofs.tables.read_tables.Goals as goal
 
@@ -17,6 +18,7 @@ loop-table-init g c = record {
   valid = subst (AllZip (λ (table : Table) (rows : Tuples). All (IsRowOf table.attrs c.args.limits.now.cell_bytes) rows) []) (sym c.new-all.ensures) tt;
   holding = cc;
   calls = omega arith;
+  told_calls = λ files is. omega arith;
   faults = omega arith;
   left = omega arith;
 }
@@ -35,6 +37,10 @@ loop-table-preserved g c = record {
       c.loop-table-test.true c.table-item.is c.loop-table.invariant.valid c.in_ok-rows.ensures.valid);
   holding = c.in_ok-rows.ensures.holding ∙ c.loop-table.invariant.holding;
   calls = omega (arith, c.in_ok-rows.ensures.calls);
+  told_calls = λ files is.
+      omega (arith, c.in_ok-rows.ensures.calls, c.loop-table.invariant.told_calls files is,
+      others_left c.args.limits.now files c.args.tables.now c.loop-table.left c.loop-table.table-index c.table-item.result c.in_ok-rows.rows c.read_table.new.left
+      c.loop-table-test.true c.table-item.is (c.in_ok-rows.ensures.table files (c.loop-table.invariant.holding ∙ is)));
   faults = omega (arith, c.in_ok-rows.ensures.faults);
   left = omega (arith, c.in_ok-rows.ensures.left);
 }
@@ -55,3 +61,8 @@ pub returns-clause-valid : goal.returns-clause-valid
 returns-clause-valid g c =
     subst (λ tables. AllZip (λ (table : Table) (rows : Tuples). All (IsRowOf table.attrs c.args.limits.now.cell_bytes) rows) tables c.loop-table.all)
     (take_all c.loop-table.table-index c.args.tables.now c.loop-table-test.false) c.loop-table.invariant.valid
+
+pub returns-in_err-rows-clause-told_calls : goal.returns-in_err-rows-clause-told_calls
+returns-in_err-rows-clause-told_calls g c = λ files is.
+    omega (arith, c.in_err-rows.ensures.calls, c.loop-table.invariant.told_calls files is,
+    next_table c.args.limits.now files c.args.tables.now c.loop-table.left c.loop-table.table-index c.table-item.result c.loop-table-test.true)

@@ -1,10 +1,11 @@
-use Rattle.std.proofs.Common.{◌≡◌, ℕ, ◌+◌, ◌≤◌, List, take, Option, Some}
+use Rattle.std.proofs.Common.{◌≡◌, ℕ, ◌+◌, ◌≤◌, List, take, drop, Option, Some}
 use Rattle.std.specs.List.{AllZip, All}
 use Rattle.schema_core.specs.Rows.{IsRowOf}
 use Rattle.schema_core.specs.declared.limits.Limits.{Limits}
 use Rattle.schema_core.specs.declared.schema.Table.{Table}
 use Rattle.shelf_io.specs.Files.{Files}
 use Rattle.cfd_cli.specs.Reading.{Tuples}
+use Rattle.cfd_cli.specs.Fetches.{table_fetches}
 use Rattle.cfd_cli.proofs.TableLoop.{GoesOn}
 use Rattle.cfd_cli.proofs.tables.read_tables.Given as goal
 
@@ -14,6 +15,7 @@ pub record IsUnderWay (limits : Limits) (tables : List Table) (place : ℕ) (all
   pub valid : AllZip (λ (table : Table) (rows : Tuples). All (IsRowOf table.attrs limits.cell_bytes) rows) (take place tables) all
   pub holding : holding_after ≡ holding_before
   pub calls : calls_after ≤ calls_before + place
+  pub told_calls : (files : Files) → holding_before ≡ Some files → calls_after + table_fetches limits files left_after (drop place tables) ≤ calls_before + table_fetches limits files left_before tables
   pub faults : faults_before ≤ faults_after
   pub left : left_after ≤ left_before
 
