@@ -1,12 +1,12 @@
 -- The lines of a rule file, read token by token from left to right. A line that is not read so is a bad line.
 -- LIST(p) is nothing, or several p with `,` between them; LIST1(p) is at least one.
-use Rattle.std.specs.Prelude.{ℕ, nat_eq, nat_le, Bool, false, ◌==◌, List, [], ◌∷◌, length, Option, Some, None, if◌then◌else◌, option_and_then, option_map, codes}
+use Rattle.std.specs.Prelude.{ℕ, nat_le, Bool, false, ◌==◌, List, [], ◌∷◌, length, Option, Some, None, if◌then◌else◌, option_and_then, option_map, codes}
 use Rattle.std.specs.Option.{option_map_or}
 use Rattle.std.specs.Str.{bytes_eq}
 use Rattle.schema_core.specs.Spelling.{mark_text}
 use Rattle.schema_core.specs.TokenLists.{Reader, list1_at, list_at, none_after}
 use Rattle.schema_core.specs.declared.tokens.Mark.{Mark}
-use Rattle.schema_core.specs.declared.tokens.Mark.TheVariants.{Colon, Comma, OpenBracket, CloseBracket, Semicolon, Equals, Differs, Arrow, Bars, Underscore, Dot, OpenBrace, CloseBrace}
+use Rattle.schema_core.specs.declared.tokens.Mark.TheVariants.{Colon, OpenBracket, CloseBracket, Arrow, Bars, Underscore, OpenBrace, CloseBrace}
 use Rattle.schema_core.specs.declared.tokens.Token.{Token}
 use Rattle.schema_core.specs.declared.tokens.Token.TheVariants as tokens
 use Rattle.cfd_semantics.specs.declared.pattern.Pattern.{Pattern}
