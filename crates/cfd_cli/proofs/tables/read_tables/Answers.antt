@@ -38,9 +38,13 @@ loop-table-preserved g c = record {
   holding = c.in_ok-rows.ensures.holding ∙ c.loop-table.invariant.holding;
   calls = omega (arith, c.in_ok-rows.ensures.calls);
   told_calls = λ files is.
-      omega (arith, c.in_ok-rows.ensures.calls, c.loop-table.invariant.told_calls files is,
-      others_left c.args.limits.now files c.args.tables.now c.loop-table.left c.loop-table.table-index c.table-item.result c.in_ok-rows.rows c.read_table.new.left
-      c.loop-table-test.true c.table-item.is (c.in_ok-rows.ensures.table files (c.loop-table.invariant.holding ∙ is)));
+      omega (
+        arith,
+        c.in_ok-rows.ensures.calls,
+        c.loop-table.invariant.told_calls files is,
+        others_left c.args.limits.now files c.args.tables.now c.loop-table.left c.loop-table.table-index c.table-item.result c.in_ok-rows.rows c.read_table.new.left
+            c.loop-table-test.true c.table-item.is (c.in_ok-rows.ensures.table files (c.loop-table.invariant.holding ∙ is)),
+      );
   faults = omega (arith, c.in_ok-rows.ensures.faults);
   left = omega (arith, c.in_ok-rows.ensures.left);
 }
@@ -64,5 +68,9 @@ returns-clause-valid g c =
 
 pub returns-in_err-rows-clause-told_calls : goal.returns-in_err-rows-clause-told_calls
 returns-in_err-rows-clause-told_calls g c = λ files is.
-    omega (arith, c.in_err-rows.ensures.calls, c.loop-table.invariant.told_calls files is,
-    next_table c.args.limits.now files c.args.tables.now c.loop-table.left c.loop-table.table-index c.table-item.result c.loop-table-test.true)
+    omega (
+      arith,
+      c.in_err-rows.ensures.calls,
+      c.loop-table.invariant.told_calls files is,
+      next_table c.args.limits.now files c.args.tables.now c.loop-table.left c.loop-table.table-index c.table-item.result c.loop-table-test.true,
+    )
