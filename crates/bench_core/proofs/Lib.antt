@@ -1,4 +1,12 @@
-pub mod Rooms
-pub mod States
+pub mod RowsById
+pub mod Domains
+pub mod Numbers
+pub mod Steps
 pub mod Fits
+pub mod Kept
+pub mod Totals
+pub mod States
+pub mod Editing
 pub mod Loads
+pub mod Distinct
+pub mod NoRows

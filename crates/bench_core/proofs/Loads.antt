@@ -1,41 +1,45 @@
 -- Loading tables one after another.
-use Rattle.std.proofs.Common.{map-id, ◌≡◌, ℕ, ◌+◌, ◌<◌, ◌≤◌, Bool, true, false, List, [], ◌∷◌, ◌++◌, length, take, map, get_or, All, None, Some, arith, ap, sym, ◌∙◌, subst, inl, inr, zero-add}
+use Rattle.std.proofs.Common.{map-id, ◌≡◌, ℕ, ◌+◌, ◌<◌, ◌≤◌, Bool, true, false, List, [], ◌∷◌, ◌++◌, length, take, map, get_or, All, Option, None, Some, arith, ap, sym, ◌∙◌, subst, inl, inr, zero-add, ◌-◌, ◌*◌, ◌^◌, ◌&&◌, ◌||◌, not, nat_le, nat_lt, slice_index, Ok, Err, min, suc, zero, zero-mul, refl}
 use Rattle.std.specs.List.{AllZip, enumerate_from, position, position_or_len, range_with_len}
 use Rattle.std.proofs.lemmas.List.{take-map, take-take, take-append-le, take_all, take_more, map-append, length-map, length-append}
-use Rattle.std.proofs.lemmas.List.Sums.{fails_before_first, position_or_len_is, sum_by-append, sum_by-cons}
-use Rattle.std.proofs.lemmas.List.FromFn.{length-enumerate_from, get_or-enumerate_from, length-range_with_len, get_or-range_with_len}
+use Rattle.std.proofs.lemmas.List.Sums.{fails_before_first, position_or_len_is, sum_by-cons}
+use Rattle.std.proofs.lemmas.List.FromFn.{length-map-range_with_len, get_or-map-range_with_len, length-enumerate_from, get_or-enumerate_from, length-range_with_len, get_or-range_with_len}
 use Rattle.std.proofs.lemmas.Option.{none-some}
-use Rattle.std.proofs.lemmas.Bool.{cases_lt, lt-ltb, le-ltb, ltb-false, or_parts}
+use Rattle.std.proofs.lemmas.Bool.{cases_lt, lt-ltb, le-ltb, ltb-false, or_parts, and_parts, lt-leb, le-leb, leb-true, false≢true}
 use Rattle.schema_core.specs.Rows.{IsRowOf}
 use Rattle.schema_core.specs.declared.limits.Limits.{Limits}
 use Rattle.schema_core.specs.declared.schema.Table.{Table}
-use Rattle.rule_model.specs.declared.dep.Dep.{Dep}
-use Rattle.bench_core.specs.State.{IsTableState, loaded_table, loaded_tables, rows_in}
-use Rattle.bench_core.specs.Edited.{first_over, is_over}
-use Rattle.bench_core.specs.declared.rows.TableRows.{TableRows}
+use Rattle.schema_core.specs.Limits.{AreLimits}
+use Rattle.rule_model.specs.Books.{Book}
+use Rattle.bench_core.specs.State.{TableState, State, IsTableState}
+use Rattle.bench_core.specs.Sizes.{is_over, total_rows, total_cells, weight, stopped_weight}
+use Rattle.bench_core.specs.Loading.{Tuples, AreTables, first_over, loaded, loaded_table}
+use Rattle.bench_core.specs.Found.{unless_found}
+use Rattle.bench_core.specs.Bench.{AreCounts, IsBench}
+use Rattle.bench_core.proofs.Totals.{total_rows-push, total_cells-push, nat_le-stopped}
 
 -- tables so far that are a front of all of them
-take-loaded : (tables so_far : List (List (List (List ℕ)))) → so_far ≡ take (length so_far) tables → take (length so_far) (loaded_tables tables) ≡ loaded_tables so_far
-take-loaded tables so_far front = take-map loaded_table (length so_far) tables ∙ sym (ap loaded_tables front)
+take-loaded : (tables so_far : List Tuples) → so_far ≡ take (length so_far) tables → take (length so_far) (map loaded_table tables) ≡ map loaded_table so_far
+take-loaded tables so_far front = take-map loaded_table (length so_far) tables ∙ sym (ap (map loaded_table) front)
 
 -- the same with the next table
-take-loaded-more : (tables so_far : List (List (List (List ℕ)))) (x : List (List (List ℕ))) → length so_far < length tables → so_far ≡ take (length so_far) tables → x ≡ get_or tables (length so_far) x
-    → take (length so_far + 1) (loaded_tables tables) ≡ loaded_tables so_far ++ loaded_table x ∷ []
+take-loaded-more : (tables so_far : List Tuples) (x : Tuples) → length so_far < length tables → so_far ≡ take (length so_far) tables → x ≡ get_or tables (length so_far) x
+    → take (length so_far + 1) (map loaded_table tables) ≡ map loaded_table so_far ++ loaded_table x ∷ []
 take-loaded-more tables so_far x there front next =
     take-map loaded_table (length so_far + 1) tables
-    ∙ ap loaded_tables (take_more tables (length so_far) x there ∙ (ap (λ (ts : List (List (List (List ℕ)))). ts ++ get_or tables (length so_far) x ∷ []) (sym front) ∙ ap (λ (y : List (List (List ℕ))). so_far ++ y ∷ []) (sym next)))
+    ∙ ap (map loaded_table) (take_more tables (length so_far) x there ∙ (ap (λ (ts : List Tuples). ts ++ get_or tables (length so_far) x ∷ []) (sym front) ∙ ap (λ (y : Tuples). so_far ++ y ∷ []) (sym next)))
     ∙ map-append loaded_table so_far (x ∷ [])
 
 -- no front of the tables is too many
-abbrev pub IsClear : Limits → List Dep → List TableRows → Type 0
-IsClear limits deps tables = (place : ℕ) → place < length tables → is_over limits deps (take (place + 1) tables) ≡ false
+abbrev pub IsClear : Book → Limits → State → Type 0
+IsClear rules limits tables = (place : ℕ) → place < length tables → is_over rules limits (take (place + 1) tables) ≡ false
 
 -- with one more table
-pub IsClear-more : (limits : Limits) (deps : List Dep) (tables : List TableRows) (t : TableRows) → IsClear limits deps tables → is_over limits deps (tables ++ t ∷ []) ≡ false → IsClear limits deps (tables ++ t ∷ [])
-IsClear-more limits deps tables t clear last = λ place lt.
+pub IsClear-more : (rules : Book) (limits : Limits) (tables : State) (t : TableState) → IsClear rules limits tables → is_over rules limits (tables ++ t ∷ []) ≡ false → IsClear rules limits (tables ++ t ∷ [])
+IsClear-more rules limits tables t clear last = λ place lt.
     elim (cases_lt place (length tables)) [
-      | inl here ↦ subst (λ (ts : List TableRows). is_over limits deps ts ≡ false) (sym (take-append-le (place + 1) tables (t ∷ []) (omega arith))) (clear place here)
-      | inr past ↦ subst (λ (ts : List TableRows). is_over limits deps ts ≡ false) (sym (take_all (place + 1) (tables ++ t ∷ []) (omega (arith, length-append tables (t ∷ []))))) last
+      | inl here ↦ subst (λ (ts : State). is_over rules limits ts ≡ false) (sym (take-append-le (place + 1) tables (t ∷ []) (omega arith))) (clear place here)
+      | inr past ↦ subst (λ (ts : State). is_over rules limits ts ≡ false) (sym (take_all (place + 1) (tables ++ t ∷ []) (omega (arith, length-append tables (t ∷ []))))) last
     ]
 
 -- the first number below n that passes
@@ -67,31 +71,23 @@ none-fails p n k none lt =
     ]
 
 -- where no front is too many, there is no first table with which they are
-pub first_over-none : (limits : Limits) (deps : List Dep) (tables : List TableRows) → IsClear limits deps tables → first_over limits deps tables ≡ None
-first_over-none limits deps tables clear = position-none (λ place. is_over limits deps (take (place + 1) tables)) (length tables) clear
+pub first_over-none : (rules : Book) (limits : Limits) (tables : State) → IsClear rules limits tables → first_over rules limits tables ≡ None
+first_over-none rules limits tables clear = position-none (λ place. is_over rules limits (take (place + 1) tables)) (length tables) clear
 
 -- with the next table the rows so far are too many
-pub first_over-some : (limits : Limits) (deps : List Dep) (tables so_far : List (List (List (List ℕ)))) (x : List (List (List ℕ))) → length so_far < length tables → so_far ≡ take (length so_far) tables → x ≡ get_or tables (length so_far) x
-    → IsClear limits deps (loaded_tables so_far) → is_over limits deps (loaded_tables so_far ++ loaded_table x ∷ []) ≡ true → first_over limits deps (loaded_tables tables) ≡ Some (length so_far)
-first_over-some limits deps tables so_far x there front next clear over =
-    position-some (λ place. is_over limits deps (take (place + 1) (loaded_tables tables))) (length (loaded_tables tables)) (length so_far) (rw (length-map tables loaded_table) there)
-    (λ place lt. subst (λ (ts : List TableRows). is_over limits deps ts ≡ false) (ap (take (place + 1)) (sym (take-loaded tables so_far front)) ∙ take-take (place + 1) (length so_far) (loaded_tables tables) (omega arith)) (clear place (rw (length-map so_far loaded_table) lt)))
-    (subst (λ (ts : List TableRows). is_over limits deps ts ≡ true) (sym (take-loaded-more tables so_far x there front next)) over)
-
--- a table that has too many rows by itself
-pub over_by_itself : (limits : Limits) (deps : List Dep) (before : List TableRows) (x : List (List (List ℕ))) → limits.rows < length x → is_over limits deps (before ++ loaded_table x ∷ []) ≡ true
-over_by_itself limits deps before x many =
-    let long = length-enumerate_from 1 x in
-    let total = sum_by-append (λ (t : TableRows). length t.rows) before (loaded_table x ∷ []) in
-    let more : limits.rows < rows_in (before ++ loaded_table x ∷ []) = rw total (rw long (omega arith)) in
-    rw (lt-ltb limits.rows (rows_in (before ++ loaded_table x ∷ [])) more)
+pub first_over-some : (rules : Book) (limits : Limits) (tables so_far : List Tuples) (x : Tuples) → length so_far < length tables → so_far ≡ take (length so_far) tables → x ≡ get_or tables (length so_far) x
+    → IsClear rules limits (map loaded_table so_far) → is_over rules limits (map loaded_table so_far ++ loaded_table x ∷ []) ≡ true → first_over rules limits (map loaded_table tables) ≡ Some (length so_far)
+first_over-some rules limits tables so_far x there front next clear over =
+    position-some (λ place. is_over rules limits (take (place + 1) (map loaded_table tables))) (length (map loaded_table tables)) (length so_far) (rw (length-map tables loaded_table) there)
+    (λ place lt. subst (λ (ts : State). is_over rules limits ts ≡ false) (ap (take (place + 1)) (sym (take-loaded tables so_far front)) ∙ take-take (place + 1) (length so_far) (map loaded_table tables) (omega arith)) (clear place (rw (length-map so_far loaded_table) lt)))
+    (subst (λ (ts : State). is_over rules limits ts ≡ true) (sym (take-loaded-more tables so_far x there front next)) over)
 
 -- a place of a numbering is one of what it numbers
 inside : {X : Type 0} (rows : List X) (k : ℕ) → k < length (enumerate_from 1 rows) → k < length rows
 inside rows k lt = rw (length-enumerate_from 1 rows) at lt
 
 -- a table as it is loaded is a state of it
-pub loaded-state : (table : Table) (cell_bytes last_id : ℕ) (rows : List (List (List ℕ))) → All (IsRowOf table.attrs cell_bytes) rows → length rows ≤ last_id → IsTableState cell_bytes last_id table (loaded_table rows)
+pub loaded-state : (table : Table) (cell_bytes last_id : ℕ) (rows : Tuples) → All (IsRowOf table.attrs cell_bytes) rows → length rows ≤ last_id → IsTableState cell_bytes last_id table (loaded_table rows)
 loaded-state table cell_bytes last_id rows fit few = record {
   fit = λ k d lt. let there : k < length rows = inside rows k lt in rw (get_or-enumerate_from 1 rows k d there) (fit k d.1 there);
   from_one = λ k d lt. rw (get_or-enumerate_from 1 rows k d (inside rows k lt)) (omega arith);
@@ -101,29 +97,188 @@ loaded-state table cell_bytes last_id rows fit few = record {
 }
 
 -- tables as they are loaded are states of them, where they have no more rows than there are ids
-pub loaded-states : (tables : List Table) (cell_bytes last_id : ℕ) (rows : List (List (List (List ℕ)))) → AllZip (λ (table : Table) (rs : List (List (List ℕ))). All (IsRowOf table.attrs cell_bytes) rs) tables rows
-    → rows_in (loaded_tables rows) ≤ last_id → AllZip (IsTableState cell_bytes last_id) tables (loaded_tables rows)
+pub loaded-states : (tables : List Table) (cell_bytes last_id : ℕ) (rows : List Tuples) → AllZip (λ (table : Table) (rs : Tuples). All (IsRowOf table.attrs cell_bytes) rs) tables rows
+    → total_rows (map loaded_table rows) ≤ last_id → AllZip (IsTableState cell_bytes last_id) tables (map loaded_table rows)
 loaded-states [] cell_bytes last_id [] fit few = tt
 loaded-states [] cell_bytes last_id (r ∷ rs) fit few = absurd fit
 loaded-states (t ∷ ts) cell_bytes last_id [] fit few = absurd fit
 loaded-states (t ∷ ts) cell_bytes last_id (r ∷ rs) fit few =
     let long = length-enumerate_from 1 r in
-    let total = sum_by-cons (λ (t : TableRows). length t.rows) (loaded_table r) (loaded_tables rs) in
+    let total = sum_by-cons (λ (t : TableState). length t.rows) (loaded_table r) (map loaded_table rs) in
     (loaded-state t cell_bytes last_id r fit.0 (omega arith), loaded-states ts cell_bytes last_id rs fit.1 (omega arith))
 
 -- the same in the words of a loop that holds what it loaded so far
-pub first_over-here : (limits : Limits) (deps : List Dep) (tables so_far : List (List (List (List ℕ)))) (x : List (List (List ℕ))) (loaded : List TableRows) (n : ℕ) → length so_far < length tables → map (λ t. t) so_far ≡ take (length so_far) tables → x ≡ get_or tables (length so_far) x
-    → loaded ≡ loaded_tables so_far → n ≡ length loaded → IsClear limits deps loaded → is_over limits deps (loaded ++ loaded_table x ∷ []) ≡ true → first_over limits deps (loaded_tables tables) ≡ Some n
-first_over-here limits deps tables so_far x loaded n there front next is n-is clear over =
+pub first_over-here : (rules : Book) (limits : Limits) (tables so_far : List Tuples) (x : Tuples) (loaded : State) (n : ℕ) → length so_far < length tables → map (λ t. t) so_far ≡ take (length so_far) tables → x ≡ get_or tables (length so_far) x
+    → loaded ≡ map loaded_table so_far → n ≡ length loaded → IsClear rules limits loaded → is_over rules limits (loaded ++ loaded_table x ∷ []) ≡ true → first_over rules limits (map loaded_table tables) ≡ Some n
+first_over-here rules limits tables so_far x loaded n there front next is n-is clear over =
     let place : n ≡ length so_far = n-is ∙ (ap length is ∙ length-map so_far loaded_table) in
-    let first = first_over-some limits deps tables so_far x there (sym (map-id so_far) ∙ front) next (subst (IsClear limits deps) is clear) (subst (λ (ts : List TableRows). is_over limits deps (ts ++ loaded_table x ∷ []) ≡ true) is over) in
+    let first = first_over-some rules limits tables so_far x there (sym (map-id so_far) ∙ front) next (subst (IsClear rules limits) is clear) (subst (λ (ts : State). is_over rules limits (ts ++ loaded_table x ∷ []) ≡ true) is over) in
     rw place first
 
 -- all tables together are not too many, where no front is
-pub rows-within : (limits : Limits) (deps : List Dep) (tables : List TableRows) → first_over limits deps tables ≡ None → rows_in tables ≤ limits.rows
-rows-within limits deps [] none = omega arith
-rows-within limits deps (t ∷ tables) none =
+pub rows-within : (rules : Book) (limits : Limits) (tables : State) → first_over rules limits tables ≡ None → total_rows tables ≤ limits.rows
+rows-within rules limits [] none = omega arith
+rows-within rules limits (t ∷ tables) none =
     let all = t ∷ tables in
-    let fails = none-fails (λ place. is_over limits deps (take (place + 1) all)) (length all) (length tables) none (omega arith) in
-    let over : is_over limits deps all ≡ false = rw (take_all (length tables + 1) all (omega arith)) at fails in
-    ltb-false limits.rows (rows_in all) (or_parts _ _ over).0
+    let fails = none-fails (λ place. is_over rules limits (take (place + 1) all)) (length all) (length tables) none (omega arith) in
+    let over : is_over rules limits all ≡ false = rw (take_all (length tables + 1) all (omega arith)) at fails in
+    ltb-false limits.rows (total_rows all) (or_parts _ _ over).0
+
+pub cells-within : (rules : Book) (limits : Limits) (tables : State) → first_over rules limits tables ≡ None → total_cells rules tables ≤ limits.index_cells
+cells-within rules limits [] none = omega arith
+cells-within rules limits (t ∷ tables) none =
+    let all = t ∷ tables in
+    let fails = none-fails (λ place. is_over rules limits (take (place + 1) all)) (length all) (length tables) none (omega arith) in
+    let over : is_over rules limits all ≡ false = rw (take_all (length tables + 1) all (omega arith)) at fails in
+    ltb-false limits.index_cells (total_cells rules all) (or_parts _ _ over).1
+
+-- ---- a loop that loads one table after another
+
+-- what it holds: the tables so far, no front of which is too many, and how much they are
+pub record IsSoFar (rules : Book) (limits : Limits) (so_far : List Tuples) (state : State) (weights : List ℕ) (rows cells : ℕ) : Type 0 where
+  pub loaded-is : state ≡ map loaded_table so_far
+  pub clear : IsClear rules limits state
+  pub counts : AreCounts rules state weights rows cells
+  pub few_rows : rows ≤ limits.rows
+  pub few_cells : cells ≤ limits.index_cells
+
+not-false : (b : Bool) → not b ≡ false → b ≡ true
+not-false true is = refl
+not-false false is = absurd (false≢true (sym is))
+
+not-true : (b : Bool) → not b ≡ true → b ≡ false
+not-true true is = absurd (false≢true is)
+not-true false is = refl
+
+-- a product with a factor that stops, within a bound below where it stops, doesn't stop
+mul-unstopped : (k w m most : ℕ) → k * min w m ≤ most → most < m → k * min w m ≡ k * w
+mul-unstopped zero w m most within below = simp zero-mul
+mul-unstopped (suc k) w m most within below = elim (cases_lt m w) [
+  | inl above ↦
+      let least : min w m ≡ m = omega arith in
+      let low : m ≤ suc k * m = grind arith in
+      let high : suc k * m ≤ most = rw least at within in
+      absurd (omega arith)
+  | inr few ↦ let least : min w m ≡ w = omega arith in rw least refl
+]
+
+not-over : (a b c d : ℕ) → (nat_le a b && nat_le c d) ≡ not (nat_lt b a || nat_lt d c)
+not-over a b c d = elim (cases_lt b a) [
+  | inl more ↦ rw (lt-leb a b more, lt-ltb b a more) refl
+  | inr few ↦ elim (cases_lt d c) [
+    | inl more ↦ rw (le-leb a b few, le-ltb b a few, lt-leb c d more, lt-ltb d c more) refl
+    | inr less ↦ rw (le-leb a b few, le-ltb b a few, le-leb c d less, le-ltb d c less) refl
+  ]
+]
+
+module _ {rules : Book} {limits : Limits} {so_far : List Tuples} {state : State} {weights : List ℕ} {rows cells : ℕ} (held : IsSoFar rules limits so_far state weights rows cells)
+    (allowed : AreLimits limits) (within : length state < length rules.schema.tables) (x : Tuples) where
+  pub in_weights : length state < length weights
+  in_weights = rw (held.counts.weights-is) (rw (length-map-range_with_len (stopped_weight rules) 0 (length rules.schema.tables)) within)
+
+  weight-is : slice_index weights (length state) ≡ stopped_weight rules (length state)
+  weight-is = rw (held.counts.weights-is) (get_or-map-range_with_len (stopped_weight rules) 0 (length rules.schema.tables) (length state) (length state) 0 within (omega arith))
+
+  rows-more : total_rows (state ++ loaded_table x ∷ []) ≡ rows + length x
+  rows-more = rw (total_rows-push state (loaded_table x), held.counts.rows-is, length-enumerate_from 1 x) refl
+
+  cells-more : total_cells rules (state ++ loaded_table x ∷ []) ≡ cells + length x * weight rules (length state)
+  cells-more = rw (total_cells-push rules state (loaded_table x), held.counts.cells-is, length-enumerate_from 1 x) refl
+
+  pub room-is : (nat_le (rows + length x) limits.rows && nat_le (cells + length x * slice_index weights (length state)) limits.index_cells) ≡ not (is_over rules limits (state ++ loaded_table x ∷ []))
+  room-is =
+      let most = allowed.index_cells in
+      rw (weight-is, nat_le-stopped cells (length x) (weight rules (length state)) (2 ^ 64 - 1) limits.index_cells (omega arith), rows-more, cells-more) (not-over (rows + length x) limits.rows (cells + length x * weight rules (length state)) limits.index_cells)
+
+  -- where there is room for the next table
+  module _ (room : (nat_le (rows + length x) limits.rows && nat_le (cells + length x * slice_index weights (length state)) limits.index_cells) ≡ true) where
+    pub rows-fit : rows + length x ≤ limits.rows
+    rows-fit = leb-true (rows + length x) limits.rows (and_parts (nat_le (rows + length x) limits.rows) _ room).0
+
+    pub cells-fit : cells + length x * slice_index weights (length state) ≤ limits.index_cells
+    cells-fit = leb-true _ _ (and_parts (nat_le (rows + length x) limits.rows) _ room).1
+
+    product : length x * slice_index weights (length state) ≡ length x * weight rules (length state)
+    product =
+        let most = allowed.index_cells in
+        let fit = cells-fit in
+        let stopped : length x * stopped_weight rules (length state) ≤ limits.index_cells = rw (← weight-is) (omega arith) in
+        rw weight-is (mul-unstopped (length x) (weight rules (length state)) (2 ^ 64 - 1) limits.index_cells stopped (omega arith))
+
+    clear-more : is_over rules limits (state ++ loaded_table x ∷ []) ≡ false
+    clear-more = not-true (is_over rules limits (state ++ loaded_table x ∷ [])) (sym room-is ∙ room)
+
+    pub held-more : IsSoFar rules limits (so_far ++ x ∷ []) (state ++ loaded_table x ∷ []) weights (rows - 0 + length x) (cells - 0 * slice_index weights (length state) + length x * slice_index weights (length state))
+    held-more =
+        let none : 0 * slice_index weights (length state) ≡ 0 = zero-mul (slice_index weights (length state)) in
+        let fit = cells-fit in
+        let fit_rows = rows-fit in
+        let more = rows-more in
+        let more_cells = cells-more in
+        record {
+          loaded-is = rw (held.loaded-is) (sym (map-append loaded_table so_far (x ∷ [])));
+          clear = IsClear-more rules limits state (loaded_table x) held.clear clear-more;
+          counts = record {
+            weights-is = held.counts.weights-is;
+            rows-is = omega arith;
+            cells-is = rw (none, product, more_cells) (omega arith);
+          };
+          few_rows = omega arith;
+          few_cells = rw none (omega arith);
+        }
+
+-- ---- one turn of the loop
+
+module _ {rules : Book} {limits : Limits} {so_far : List Tuples} {state : State} {weights : List ℕ} {rows cells : ℕ} (held : IsSoFar rules limits so_far state weights rows cells)
+    (allowed : AreLimits limits) (tables : List Tuples) (each : length tables ≡ length rules.schema.tables) (x : Tuples) (n k : ℕ) (n-is : n ≡ length state) (k-is : k ≡ length x)
+    (there : length so_far < length tables) (front : map (λ t. t) so_far ≡ take (length so_far) tables) (next : x ≡ get_or tables (length so_far) x) where
+  within : length state < length rules.schema.tables
+  within = rw (held.loaded-is, length-map so_far loaded_table, ← each) there
+
+  pub place_in_weights : n < length weights
+  place_in_weights = rw n-is (in_weights held allowed within x)
+
+  -- the table is the first with which they are too many
+  pub loaded-full : (has : Bool) → has ≡ (nat_le (rows + k) limits.rows && nat_le (cells + k * slice_index weights n) limits.index_cells) → has ≡ false → loaded rules limits tables ≡ Err n
+  loaded-full has tested full =
+      let room : has ≡ not (is_over rules limits (state ++ loaded_table x ∷ [])) = (rw (k-is, n-is) at tested) ∙ room-is held allowed within x in
+      let over : is_over rules limits (state ++ loaded_table x ∷ []) ≡ true = not-false (is_over rules limits (state ++ loaded_table x ∷ [])) (sym room ∙ full) in
+      rw (first_over-here rules limits tables so_far x state n there front next held.loaded-is n-is held.clear over) refl
+
+  module _ (has : Bool) (tested : has ≡ (nat_le (rows + k) limits.rows && nat_le (cells + k * slice_index weights n) limits.index_cells)) (free : has ≡ true) where
+    room : (nat_le (rows + length x) limits.rows && nat_le (cells + length x * slice_index weights (length state)) limits.index_cells) ≡ true
+    room = sym (rw (k-is, n-is) at tested) ∙ free
+
+    pub few_tuples : rows + length x ≤ limits.rows
+    few_tuples = rows-fit held allowed within x room
+
+    pub few_more_cells : cells + k * slice_index weights n ≤ limits.index_cells
+    few_more_cells = rw (k-is, n-is) (cells-fit held allowed within x room)
+
+    pub turned : IsSoFar rules limits (so_far ++ x ∷ []) (state ++ loaded_table x ∷ []) weights (rows - 0 + k) (cells - 0 * slice_index weights n + k * slice_index weights n)
+    turned = rw (k-is, n-is) (held-more held allowed within x room)
+
+-- the bench of tables that are loaded
+loaded_as : (rules : Book) (limits : Limits) (tables : List Tuples) (state : State) → AreLimits limits → AreTables rules.schema limits.cell_bytes tables → (found : Option ℕ) → first_over rules limits (map loaded_table tables) ≡ found
+    → unless_found found (map loaded_table tables) ≡ Ok state → IsBench rules limits state
+loaded_as rules limits tables state allowed fit (Some place) first is = absurd (cc)
+loaded_as rules limits tables state allowed fit None first is =
+    let same : map loaded_table tables ≡ state = cc in
+    let few = rows-within rules limits (map loaded_table tables) first in
+    let ids = allowed.id_for_each_row in
+    subst (IsBench rules limits) same (record {
+      allowed = allowed;
+      tables = loaded-states rules.schema.tables limits.cell_bytes limits.last_id tables fit (omega arith);
+      few_rows = few;
+      few_cells = cells-within rules limits (map loaded_table tables) first;
+    })
+
+pub loaded-bench : (rules : Book) (limits : Limits) (tables : List Tuples) (state : State) → AreLimits limits → AreTables rules.schema limits.cell_bytes tables → loaded rules limits tables ≡ Ok state → IsBench rules limits state
+loaded-bench rules limits tables state allowed fit is = loaded_as rules limits tables state allowed fit (first_over rules limits (map loaded_table tables)) refl is
+
+-- where the loop ends, all tables are loaded
+pub loaded-all : {rules : Book} {limits : Limits} {so_far : List Tuples} {state : State} {weights : List ℕ} {rows cells : ℕ} → IsSoFar rules limits so_far state weights rows cells → (tables : List Tuples) → map (λ t. t) so_far ≡ tables → loaded rules limits tables ≡ Ok state
+loaded-all {rules} {limits} {so_far} {state} held tables all =
+    let same : state ≡ map loaded_table tables = held.loaded-is ∙ ap (map loaded_table) (sym (map-id so_far) ∙ all) in
+    let none : first_over rules limits (map loaded_table tables) ≡ None = first_over-none rules limits (map loaded_table tables) (subst (IsClear rules limits) same held.clear) in
+    rw (none, same) refl

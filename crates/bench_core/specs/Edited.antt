@@ -1,134 +1,137 @@
--- What an edit does to a bench, and the first cause for which it is refused.
-use Rattle.std.specs.Prelude.{◌≡◌, ℕ, ◌+◌, ◌==◌, nat_le, nat_lt, ◌&&◌, ◌||◌, ◌⊎◌, Bool, if◌then◌else◌, List, [], ◌∷◌, length, take, All, Option, Some, None, slice_set, Result, Ok, Err}
-use Rattle.std.specs.List.{AllZip, slice_get, list_all, position, range_with_len}
-use Rattle.std.specs.Option.{option_map_or}
-use Rattle.schema_core.specs.Schemas.{admits, table_place}
-use Rattle.schema_core.specs.Limits.{AreLimits}
-use Rattle.schema_core.specs.Rows.{IsRowOf}
+-- What an edit does to a state, or the first cause for which it is refused.
+use Rattle.std.specs.Prelude.{ℕ, ◌==◌, nat_le, not, Bool, true, false, List, length, find, zip, ok_or, option_and_then, option_map, Option, Some, None, slice_set, Result, Ok, Err}
+use Rattle.std.specs.List.{slice_get, list_all}
+use Rattle.schema_core.specs.Schemas.{admits, table_place, attr_place}
 use Rattle.schema_core.specs.declared.limits.Limits.{Limits}
 use Rattle.schema_core.specs.declared.schema.Attr.{Attr}
 use Rattle.schema_core.specs.declared.schema.Table.{Table}
 use Rattle.schema_core.specs.declared.schema.Schema.{Schema}
-use Rattle.rule_model.specs.Books.{Book, book_deps}
-use Rattle.rule_model.specs.Dependencies.{attrs_at}
-use Rattle.rule_model.specs.Faults.{first_of}
-use Rattle.rule_model.specs.declared.dep.Dep.{Dep}
-use Rattle.bench_core.specs.State.{loaded_tables, with_row, rows_in, cells_in, weight, IsTableState}
-use Rattle.bench_core.specs.declared.rows.TableRows.{TableRows}
-use Rattle.bench_core.specs.declared.edit.Edit.{Edit}
-use Rattle.bench_core.specs.declared.edit.Edit.TheVariants.{Insert}
+use Rattle.rule_model.specs.Books.{Book}
+use Rattle.edit_log.specs.declared.edit.Edit.{Edit}
+use Rattle.edit_log.specs.declared.edit.Edit.TheVariants.{Insert, Set, Delete, Fix}
+use Rattle.bench_core.specs.State.{TableState, State, texts_of, with_row, with_texts, without_row}
+use Rattle.bench_core.specs.Sizes.{has_room}
+use Rattle.bench_core.specs.Found.{unless_found}
 use Rattle.bench_core.specs.declared.edit.Applied.{Applied}
-use Rattle.bench_core.specs.declared.edit.Applied.TheVariants.{Inserted}
+use Rattle.bench_core.specs.declared.edit.Applied.TheVariants.{Inserted, Changed}
 use Rattle.bench_core.specs.declared.edit.EditFault.{EditFault}
-use Rattle.bench_core.specs.declared.edit.EditFault.TheVariants.{UnknownTable, WrongWidth, TextTooLong, NotInDomain, RowsFull, IdsSpent, Memory}
-use Rattle.bench_core.specs.declared.edit.LoadFault.{LoadFault}
-use Rattle.bench_core.specs.declared.edit.LoadFault.TheVariants as load_fault
+use Rattle.bench_core.specs.declared.edit.EditFault.TheVariants.{UnknownTable, UnknownRow, UnknownAttr, WrongWidth, TextTooLong, NotInDomain, RowsFull, IdsSpent, Memory}
 
--- a bench is its rules, its limits and its state
-pub record BenchState : Type 0 where
-  pub rules : Book
-  pub limits : Limits
-  pub tables : List TableRows
+-- ---- steps, of which the first refusal ends all
 
--- each table of the schema has its rows, within the limits on a cell and on ids
-pub record IsBench (schema : Schema) (limits : Limits) (tables : List TableRows) : Type 0 where
-  pub allowed : AreLimits limits
-  pub states : AllZip (IsTableState limits.cell_bytes limits.last_id) schema.tables tables
+-- what a step gives, or why the edit is refused
+abbrev pub Step : Type 0 → Type 0
+Step X = Result X EditFault
 
--- ---- loading
+infixl 10 ◌>>=◌ ◌>>◌
+abbrev pub ◌>>=◌ : {X Y : Type 0} → Step X → (X → Step Y) → Step Y
+(Ok x) >>= next = next x
+(Err refusal) >>= next = Err refusal
 
--- the tables can be loaded: there is one for each table of the schema, and its rows are rows of it
-abbrev pub AreTables : Schema → ℕ → List (List (List (List ℕ))) → Type 0
-AreTables schema cell_bytes tables = AllZip (λ (table : Table) rows. All (IsRowOf table.attrs cell_bytes) rows) schema.tables tables
+abbrev pub ◌>>◌ : {Y : Type 0} → Step (Unit {0}) → Step Y → Step Y
+(Ok x) >> next = next
+(Err refusal) >> next = Err refusal
 
--- the bench of the tables as they are loaded
-abbrev pub loaded : Book → Limits → List (List (List (List ℕ))) → BenchState
-loaded rules limits tables = record { rules = rules; limits = limits; tables = loaded_tables tables }
+-- the edit is refused for this cause unless the test holds
+abbrev pub require : Bool → EditFault → Step (Unit {0})
+require true refusal = Ok tt
+require false refusal = Err refusal
 
--- the tables have more rows, or more cells, than the limits say
-abbrev pub is_over : Limits → List Dep → List TableRows → Bool
-is_over limits deps tables = nat_lt limits.rows (rows_in tables) || nat_lt limits.index_cells (cells_in deps tables)
+-- ---- what an edit names
 
--- the place of the first table with which the tables so far are too many, if there is one
-abbrev pub first_over : Limits → List Dep → List TableRows → Option ℕ
-first_over limits deps tables = position (λ place. is_over limits deps (take (place + 1) tables)) (range_with_len 0 (length tables))
+-- a table of the schema: its number, how it is declared, and its state
+pub record TableAt : Type 0 where
+  pub number : ℕ
+  pub table : Table
+  pub state : TableState
 
--- why tables are not loaded: memory, or the first table with which they are too many
-abbrev pub IsLoadFault : Limits → List Dep → List TableRows → LoadFault → Type 0
-IsLoadFault limits deps tables load_fault.Memory = Unit {0}
-IsLoadFault limits deps tables (load_fault.RowsFull table) = first_over limits deps tables ≡ Some table
+abbrev pub table_at : Schema → State → ℕ → Option TableAt
+table_at schema state number =
+    option_and_then (λ table. option_map (λ rows. record { number = number; table = table; state = rows }) (slice_get state number)) (slice_get schema.tables number)
 
--- ---- the tests of an insertion, in the order in which they are made
+abbrev pub table_of_name : Schema → State → List ℕ → Option TableAt
+table_of_name schema state name = option_and_then (table_at schema state) (table_place schema name)
 
--- there are more or fewer values than attributes
-abbrev pub width_fault : List Attr → List (List ℕ) → Option EditFault
-width_fault attrs values = if length values == length attrs then None else Some WrongWidth
+-- the attribute of that name, with its place
+abbrev pub attr_of_name : Table → List ℕ → Option (ℕ × Attr)
+attr_of_name table name = option_and_then (λ place. option_map (λ attr. (place, attr)) (slice_get table.attrs place)) (attr_place table name)
 
--- a value is longer than a cell may be
-abbrev pub length_fault : ℕ → List (List ℕ) → Option EditFault
-length_fault cell_bytes values = if list_all (λ value. nat_le (length value) cell_bytes) values then None else Some TextTooLong
+-- ---- what is asked of texts
 
--- the first attribute whose domain lacks its value
-abbrev pub domain_fault : List Attr → List (List ℕ) → Option EditFault
-domain_fault [] values = None
-domain_fault (attr ∷ attrs) [] = None
-domain_fault (attr ∷ attrs) (value ∷ values) = if admits attr.domain value then domain_fault attrs values else Some (NotInDomain attr.name)
+abbrev pub is_short : Limits → List ℕ → Bool
+is_short limits text = nat_le (length text) limits.cell_bytes
 
--- with one more row of the table there are too many rows, or too many cells
-abbrev pub rows_fault : Limits → List Dep → List TableRows → ℕ → Option EditFault
-rows_fault limits deps tables table = if nat_lt (rows_in tables) limits.rows && nat_le (cells_in deps tables + weight deps table) limits.index_cells then None else Some RowsFull
+-- the first attribute whose domain lacks its text, if there is one
+abbrev pub outside_domain : List Attr → List (List ℕ) → Option EditFault
+outside_domain attrs texts =
+    option_map (λ (at : Attr × List ℕ). NotInDomain at.0.name) (find (λ (at : Attr × List ℕ). not (admits at.0.domain at.1)) (zip attrs texts))
 
--- the id of the table's next row
-abbrev pub next_id_at : List TableRows → ℕ → ℕ
-next_id_at tables table = option_map_or (λ (t : TableRows). t.next_id) (slice_get tables table) 0
+-- they are a row of the table: a text for each attribute, none too long, each in its domain
+abbrev pub require_row : Limits → Table → List (List ℕ) → Step (Unit {0})
+require_row limits table texts = do
+  require (length texts == length table.attrs) WrongWidth
+  require (list_all (is_short limits) texts) TextTooLong
+  unless_found (outside_domain table.attrs texts) tt
 
--- the table's next id is above the last one
-abbrev pub ids_fault : Limits → List TableRows → ℕ → Option EditFault
-ids_fault limits tables table = if nat_le (next_id_at tables table) limits.last_id then None else Some IdsSpent
+-- it may stand at the attribute: it isn't too long, and is in the domain
+abbrev pub require_text : Limits → Attr → List ℕ → Step (Unit {0})
+require_text limits attr text = do
+  require (is_short limits text) TextTooLong
+  require (admits attr.domain text) (NotInDomain attr.name)
 
--- the first test of a row for a numbered table that finds something
-abbrev pub row_fault : BenchState → ℕ → List (List ℕ) → Option EditFault
-row_fault bench table values =
-    let attrs = attrs_at bench.rules.schema table in
-    first_of (
-    width_fault attrs values
-    ∷ length_fault bench.limits.cell_bytes values
-    ∷ domain_fault attrs values
-    ∷ rows_fault bench.limits (book_deps bench.rules) bench.tables table
-    ∷ ids_fault bench.limits bench.tables table
-    ∷ []
-    )
+-- ---- what each edit does to its table, and what is told
 
--- the same for a table that may not be there
-abbrev pub insert_fault : BenchState → Option ℕ → List (List ℕ) → Option EditFault
-insert_fault bench None values = Some UnknownTable
-insert_fault bench (Some table) values = row_fault bench table values
+-- a new row at the next id; `room` is whether there may be one row more
+abbrev pub after_insert : Limits → Bool → Table → TableState → List (List ℕ) → Step (TableState × Applied)
+after_insert limits room table state values = do
+  require_row limits table values
+  require room RowsFull
+  require (nat_le state.next_id limits.last_id) IdsSpent
+  Ok (with_row state values, Inserted state.next_id)
+
+-- another text of one attribute; only that text is tested
+abbrev pub after_set : Limits → Table → TableState → ℕ → List ℕ → List ℕ → Step (TableState × Applied)
+after_set limits table state row attr value = do
+  texts ← ok_or (texts_of state row) UnknownRow
+  at ← ok_or (attr_of_name table attr) UnknownAttr
+  require_text limits at.1 value
+  Ok (with_texts state row (slice_set texts at.0 value), Changed)
+
+-- the row is gone, and its id isn't given again
+abbrev pub after_delete : TableState → ℕ → Step (TableState × Applied)
+after_delete state row = do
+  texts ← ok_or (texts_of state row) UnknownRow
+  Ok (without_row state row, Changed)
+
+-- other texts of all attributes
+abbrev pub after_fix : Limits → Table → TableState → ℕ → List (List ℕ) → Step (TableState × Applied)
+after_fix limits table state row values = do
+  texts ← ok_or (texts_of state row) UnknownRow
+  require_row limits table values
+  Ok (with_texts state row values, Changed)
 
 -- ---- edits
 
--- the first cause for which an edit is refused
-abbrev pub fault_of_edit : BenchState → Edit → Option EditFault
-fault_of_edit bench (Insert table values) = insert_fault bench (table_place bench.rules.schema table) values
+abbrev pub name_of_table : Edit → List ℕ
+name_of_table (Insert table values) = table
+name_of_table (Set table row attr value) = table
+name_of_table (Delete table row) = table
+name_of_table (Fix table row values) = table
 
--- the tables with one more row in the numbered one, at its next id
-abbrev pub inserted : List TableRows → ℕ → List (List ℕ) → List TableRows
-inserted tables table values = option_map_or (λ rows. slice_set tables table (with_row rows values)) (slice_get tables table) tables
+abbrev pub after_edit : Limits → Bool → Table → TableState → Edit → Step (TableState × Applied)
+after_edit limits room table state (Insert name values) = after_insert limits room table state values
+after_edit limits room table state (Set name row attr value) = after_set limits table state row attr value
+after_edit limits room table state (Delete name row) = after_delete state row
+after_edit limits room table state (Fix name row values) = after_fix limits table state row values
 
--- the bench after an edit that is not refused
-abbrev pub edited : BenchState → Edit → BenchState
-edited bench (Insert table values) = record bench { tables = option_map_or (λ place. inserted bench.tables place values) (table_place bench.rules.schema table) bench.tables }
+-- The state after the edit, and what is told; or the first refusal. Only the table that the edit names changes.
+abbrev pub edited : Book → Limits → State → Edit → Step (State × Applied)
+edited rules limits state edit = do
+  at ← ok_or (table_of_name rules.schema state (name_of_table edit)) UnknownTable
+  after ← after_edit limits (has_room rules limits state at.number) at.table at.state edit
+  Ok (slice_set state at.number after.0, after.1)
 
--- what an edit that is not refused did
-abbrev pub applied_by : BenchState → Edit → Applied
-applied_by bench (Insert table values) = Inserted (option_map_or (next_id_at bench.tables) (table_place bench.rules.schema table) 0)
-
--- ---- answers
-
--- an answer tells the fault that was found, or that memory ran out
-abbrev pub Tells : EditFault → Option EditFault → Type 0
-Tells fault found = (fault ≡ Memory) ⊎ (found ≡ Some fault)
-
--- a test passes where nothing is found, and else tells it, unless memory ran out
-abbrev pub Finds : {X : Type 0} → Result X EditFault → Option EditFault → Type 0
-Finds (Ok x) found = found ≡ None
-Finds (Err fault) found = Tells fault found
+-- what a fault tells: want of memory is no refusal
+abbrev pub refusal_of : EditFault → Option EditFault
+refusal_of Memory = None
+refusal_of refusal = Some refusal

@@ -1,167 +1,116 @@
 //! A bench: rules, limits, and the rows of each table.
 
-ghost use Rattle.std.specs.Prelude.{◌≡◌, ◌-◌, ◌^◌, ◌<◌, ◌≤◌, [], ◌∷◌, ◌++◌, length, All, OnOk, OnErr, IfOk, IfErr, AllPairs, nat_le};
-ghost use Rattle.std.specs.List.{AllZip, HoldsAt, list_all};
+ghost use Rattle.std.specs.Prelude.{◌≡◌, ◌-◌, ◌^◌, ◌<◌, ◌++◌, ◌∷◌, [], Some, length, OnOk, OnErr, IfOk};
 ghost use Rattle.schema_core.specs.Limits.{AreLimits};
-ghost use Rattle.schema_core.specs.Rows.{IsRowOf};
-ghost use Rattle.schema_core.specs.Schemas.{Admits};
-ghost use Rattle.rule_model.specs.Books.{book_deps};
-ghost use Rattle.rule_model.specs.Dependencies.{attrs_at};
-ghost use Rattle.bench_core.specs.State.{loaded_table, loaded_tables};
-ghost use Rattle.bench_core.specs.Edited.{AreTables, IsLoadFault, Finds, applied_by, domain_fault, edited, fault_of_edit, first_over, ids_fault, is_over, length_fault, inserted, loaded, next_id_at, rows_fault, width_fault};
+ghost use Rattle.schema_core.specs.Schemas.{table_place};
+ghost use Rattle.bench_core.specs.State.{rows_at};
+ghost use Rattle.schema_core.specs.Faults.{GivesUnlessMemory};
+ghost use Rattle.bench_core.specs.Loading.{AreTables, full_table, loaded, loaded_table};
+ghost use Rattle.bench_core.specs.Edited.{edited, name_of_table, refusal_of};
+ghost use Rattle.bench_core.specs.Bench.{AreCounts, IsBench, IsKept};
 
-use crate::edit::{Applied, Edit, EditFault, LoadFault};
-use crate::room::{count_cells, count_rows, weight_of};
-use crate::rows::{RowId, TableRows, load_table};
-use rule_model::{Dep, RuleBook};
-use schema_core::{Attr, Limits, List, Text, Texts};
+use crate::edit::{Applied, EditFault, LoadFault};
+use crate::rows::{TableRows, load_table};
+use crate::sizes::Counts;
+use edit_log::Edit;
+use row_store::RowId;
+use rule_model::RuleBook;
+use schema_core::{Limits, List, Text, Texts};
 use std::alloc::{AllocError, Global};
 use std::marker::Model;
 
 /// The tables of a project, with the rules that they are held against. Clauses see its rules, its
-/// limits, and for each table of the schema the rows by rising ids with the next id.
+/// limits and its state: for each table of the schema the rows by rising ids, and the next id.
 #[derive(Debug, Drop)]
 pub struct Bench {
     rules: RuleBook,
     limits: Limits,
     tables: Vec<TableRows>,
+    counts: Counts,
 }
 
 impl Model for Bench {
-    ghost use Rattle.bench_core.specs.Edited.{BenchState, IsBench};
+    ghost use Rattle.bench_core.specs.Bench.{BenchModel, IsKept};
 
-    ghost Value = { BenchState };
+    ghost Value = { BenchModel };
 
-    ghost view = { λ b. record { rules = b.rules; limits = b.limits; tables = b.tables.items } };
+    ghost view = { λ b. record { rules = b.rules; limits = b.limits; state = b.tables.items } };
 
-    ghost invariant = { λ b. IsBench b.rules.schema b.limits b.tables.items };
+    ghost invariant = { λ b. IsKept b.rules b.limits b.tables.items b.counts.weights.items b.counts.rows b.counts.cells };
 }
 
-/// Whether the tables have more rows, or more cells, than the limits say.
-fn is_over(deps: &[Dep], tables: &[TableRows], limits: &Limits) -> bool
-    requires { AreLimits limits.now }
-    ensures { result ≡ is_over limits.now deps.now tables.now }
+/// The state of the tables as they are loaded, unless they have too many rows or cells.
+fn load_tables(
+    alloc: Global,
+    rules: &RuleBook,
+    limits: &Limits,
+    tables: List<List<Texts>>,
+) -> Result<(Vec<TableRows>, Counts), LoadFault>
+    requires limits { AreLimits limits.now }
+    requires each { length tables ≡ length rules.now.schema.tables }
+    ensures loaded { GivesUnlessMemory full_table (loaded rules.now limits.now tables) (λ all. all.0.items) result }
+    ensures counts { IfOk result (λ all. AreCounts rules.now all.0.items all.1.weights.items all.1.rows all.1.cells) }
 {
-    count_rows(tables) > limits.rows || count_cells(deps, tables) > limits.index_cells
+    let mut all = Vec::new(alloc);
+    let mut counts = Counts::new(alloc, rules)?;
+    for tuples in tables.into_vec() {
+        let table = all.len();
+        let rows = tuples.as_slice().len() as u64;
+        if !counts.has_room(limits, table, rows) {
+            return Err(LoadFault::RowsFull { table });
+        }
+        add_table(alloc, &mut all, tuples)?;
+        counts.recount(table, 0, rows);
+    }
+    Ok((all, counts))
 }
 
 /// Loads one more table.
-fn add_table(
-    alloc: Global,
-    loaded: &mut Vec<TableRows>,
-    tuples: List<Texts>,
-) -> Result<(), AllocError>
+fn add_table(alloc: Global, all: &mut Vec<TableRows>, tuples: List<Texts>) -> Result<(), AllocError>
     requires { length tuples < 2 ^ 64 - 1 }
-    ensures { OnOk result (loaded.new.items ≡ loaded.old.items ++ loaded_table tuples ∷ []) }
+    ensures { OnOk result (all.new.items ≡ all.old.items ++ loaded_table tuples ∷ []) }
 {
-    loaded.push(load_table(alloc, tuples)?)?;
+    all.push(load_table(alloc, tuples)?)?;
     Ok(())
 }
 
-/// Loads each table, unless they have too many rows or cells.
-fn load_tables(
-    alloc: Global,
-    deps: &[Dep],
-    tables: List<List<Texts>>,
+fn name_of_table(edit: &Edit) -> &Text
+    ensures { result.now ≡ name_of_table edit.now }
+{
+    match edit {
+        Edit::Insert { table, .. }
+        | Edit::Set { table, .. }
+        | Edit::Delete { table, .. }
+        | Edit::Fix { table, .. } => table,
+    }
+}
+
+/// Makes the edit to the numbered table, which is the one that it names.
+fn edit_table(
+    rules: &RuleBook,
     limits: &Limits,
-) -> Result<Vec<TableRows>, LoadFault>
-    requires { AreLimits limits.now }
-    ensures ok { IfOk result (λ rows. rows.items ≡ loaded_tables tables) }
-    ensures within { IfOk result (λ rows. first_over limits.now deps.now rows.items ≡ None) }
-    ensures fault { IfErr result (IsLoadFault limits.now deps.now (loaded_tables tables)) }
+    tables: &mut Vec<TableRows>,
+    counts: &mut Counts,
+    number: usize,
+    edit: &Edit,
+) -> Result<Applied, EditFault>
+    requires kept { IsKept rules.now limits.now tables.old.items counts.old.weights.items counts.old.rows counts.old.cells }
+    requires named { table_place rules.now.schema (name_of_table edit.now) ≡ Some number }
+    ensures edited { GivesUnlessMemory refusal_of (edited rules.now limits.now tables.old.items edit.now) (λ told. (tables.new.items, told)) result }
+    ensures unchanged { OnErr result (tables.new.items ≡ tables.old.items) }
+    ensures kept { IsKept rules.now limits.now tables.new.items counts.new.weights.items counts.new.rows counts.new.cells }
 {
-    let mut loaded = Vec::new(alloc);
-    for tuples in tables.into_vec() {
-        let table = loaded.len();
-        if tuples.as_slice().len() as u64 > limits.rows {
-            return Err(LoadFault::RowsFull { table });
-        }
-        add_table(alloc, &mut loaded, tuples)?;
-        if is_over(deps, &loaded, limits) {
-            return Err(LoadFault::RowsFull { table });
-        }
-    }
-    Ok(loaded)
-}
-
-/// There are as many values as attributes.
-fn check_width(attrs: &[Attr], values: &[Text]) -> Result<(), EditFault>
-    ensures found { Finds result (width_fault attrs.now values.now) }
-    ensures passed { OnOk result (length values.now ≡ length attrs.now) }
-{
-    if values.len() == attrs.len() {
-        Ok(())
-    } else {
-        Err(EditFault::WrongWidth)
-    }
-}
-
-fn are_short(values: &[Text], cell_bytes: u64) -> bool
-    ensures { result ≡ list_all (λ value. nat_le (length value) cell_bytes) values.now }
-{
-    values.iter().all(|v| v.as_str().len() as u64 <= cell_bytes)
-}
-
-/// No value is longer than a cell may be.
-fn check_lengths(values: &[Text], cell_bytes: u64) -> Result<(), EditFault>
-    ensures found { Finds result (length_fault cell_bytes values.now) }
-    ensures passed { OnOk result (All (λ text. length text ≤ cell_bytes) values.now) }
-{
-    if are_short(values, cell_bytes) {
-        Ok(())
-    } else {
-        Err(EditFault::TextTooLong)
-    }
-}
-
-/// Each value is in the domain of its attribute.
-fn check_domains(attrs: &[Attr], values: &[Text]) -> Result<(), EditFault>
-    requires { length values.now ≡ length attrs.now }
-    ensures found { Finds result (domain_fault attrs.now values.now) }
-    ensures passed { OnOk result (AllZip (λ attr text. Admits attr.domain text) attrs.now values.now) }
-{
-    for (place, attr) in attrs.iter().enumerate() {
-        if !attr.domain.admits(values[place].as_str()) {
-            return Err(EditFault::NotInDomain(attr.name.clone()?));
-        }
-    }
-    Ok(())
-}
-
-/// There is room for another row of the table.
-fn check_room(
-    deps: &[Dep],
-    tables: &[TableRows],
-    table: usize,
-    limits: &Limits,
-) -> Result<(), EditFault>
-    requires { AreLimits limits.now }
-    ensures { Finds result (rows_fault limits.now deps.now tables.now table) }
-{
-    let cells = count_cells(deps, tables).saturating_add(weight_of(deps, table));
-    if count_rows(tables) < limits.rows && cells <= limits.index_cells {
-        Ok(())
-    } else {
-        Err(EditFault::RowsFull)
-    }
-}
-
-/// The table has an id for another row.
-fn check_ids(tables: &[TableRows], table: usize, limits: &Limits) -> Result<(), EditFault>
-    requires { table < length tables.now }
-    ensures found { Finds result (ids_fault limits.now tables.now table) }
-    ensures passed { OnOk result (next_id_at tables.now table ≤ limits.now.last_id) }
-{
-    if tables[table].next_id <= limits.last_id {
-        Ok(())
-    } else {
-        Err(EditFault::IdsSpent)
-    }
+    let table = &rules.schema().tables.as_slice()[number];
+    let room = counts.has_room(limits, number, 1);
+    let rows = &mut tables[number];
+    let before = rows.as_slice().len() as u64;
+    let applied = rows.edit(limits, room, table, edit)?;
+    let after = rows.as_slice().len() as u64;
+    counts.recount(number, before, after);
+    Ok(applied)
 }
 
 impl Bench {
-    ghost use Rattle.bench_core.specs.Edited.{row_fault};
-
     /// Takes the rows of each table, in the order of the schema. They get the ids 1, 2, 3 in order.
     pub fn load(
         alloc: Global,
@@ -171,93 +120,55 @@ impl Bench {
     ) -> Result<Bench, LoadFault>
         requires limits { AreLimits limits }
         requires tables { AreTables rules.schema limits.cell_bytes tables }
-        ensures ok { IfOk result (λ bench. bench ≡ loaded rules limits tables) }
-        ensures within { OnOk result (first_over limits (book_deps rules) (loaded_tables tables) ≡ None) }
-        ensures fault { IfErr result (IsLoadFault limits (book_deps rules) (loaded_tables tables)) }
+        ensures loaded { GivesUnlessMemory full_table (loaded rules limits tables) (λ bench. bench.state) result }
+        ensures made_with { IfOk result (λ bench. (bench.rules ≡ rules) × (bench.limits ≡ limits)) }
     {
-        let tables = load_tables(alloc, rules.deps().as_slice(), tables, &limits)?;
+        let (tables, counts) = load_tables(alloc, &rules, &limits, tables)?;
         Ok(Bench {
             rules,
             limits,
             tables,
+            counts,
         })
     }
 
     /// Makes the edit, or says why not.
     pub fn apply(&mut self, edit: &Edit) -> Result<Applied, EditFault>
-        ensures fault { Finds result (fault_of_edit self.old edit.now) }
-        ensures applied { IfOk result (λ applied. applied ≡ applied_by self.old edit.now) }
-        ensures edited { OnOk result (self.new ≡ edited self.old edit.now) }
+        // The edit is made, or refused for the first cause that holds.
+        ensures edited { GivesUnlessMemory refusal_of (edited self.old.rules self.old.limits self.old.state edit.now) (λ told. (self.new.state, told)) result }
+        ensures made_with { (self.new.rules ≡ self.old.rules) × (self.new.limits ≡ self.old.limits) }
         ensures unchanged { OnErr result (self.new ≡ self.old) }
     {
-        match edit {
-            Edit::Insert { table, values } => match self
-                .rules
-                .schema()
-                .table_named(table.as_str())
-            {
-                None => Err(EditFault::UnknownTable),
-                Some(place) => {
-                    self.check_row(place, values)?;
-                    self.insert(place, values)
-                }
-            },
+        match self
+            .rules
+            .schema()
+            .table_named(name_of_table(edit).as_str())
+        {
+            None => Err(EditFault::UnknownTable),
+            Some(number) => edit_table(
+                &self.rules,
+                &self.limits,
+                &mut self.tables,
+                &mut self.counts,
+                number,
+                edit,
+            ),
         }
-    }
-
-    /// The tests of a row for a numbered table, in their order.
-    fn check_row(&self, table: usize, values: &Texts) -> Result<(), EditFault>
-        requires { table < length self.now.rules.schema.tables }
-        ensures found { Finds result (row_fault self.now table values.now) }
-        ensures fits { OnOk result (IsRowOf (attrs_at self.now.rules.schema table) self.now.limits.cell_bytes values.now) }
-        ensures id { OnOk result (next_id_at self.now.tables table ≤ self.now.limits.last_id) }
-    {
-        let attrs = self.rules.schema().tables.as_slice()[table]
-            .attrs
-            .as_slice();
-        check_width(attrs, values.as_slice())?;
-        check_lengths(values.as_slice(), self.limits.cell_bytes)?;
-        check_domains(attrs, values.as_slice())?;
-        check_room(
-            self.rules.deps().as_slice(),
-            &self.tables,
-            table,
-            &self.limits,
-        )?;
-        check_ids(&self.tables, table, &self.limits)
-    }
-
-    /// Adds a row that passed the tests.
-    fn insert(&mut self, table: usize, values: &Texts) -> Result<Applied, EditFault>
-        requires place { table < length self.old.rules.schema.tables }
-        requires fits { IsRowOf (attrs_at self.old.rules.schema table) self.old.limits.cell_bytes values.now }
-        requires id { next_id_at self.old.tables table ≤ self.old.limits.last_id }
-        ensures fault { IfErr result (λ fault. fault ≡ EditFault.Memory) }
-        ensures applied { IfOk result (λ applied. applied ≡ Applied.Inserted (next_id_at self.old.tables table)) }
-        ensures edited { OnOk result (self.new ≡ record self.old { tables = inserted self.old.tables table values.now }) }
-        ensures unchanged { OnErr result (self.new ≡ self.old) }
-    {
-        let values = values.copied()?;
-        let rows = &mut self.tables[table];
-        let id = rows.next_id;
-        rows.add(values)?;
-        Ok(Applied::Inserted(id))
     }
 
     pub fn rules(&self) -> &RuleBook
         ensures value { result.now ≡ self.now.rules }
-        ensures tables { length self.now.tables ≡ length result.now.schema.tables }
+        ensures valid { IsBench self.now.rules self.now.limits self.now.state }
     {
         &self.rules
     }
 
     /// The rows of a table, by rising ids.
     pub fn rows(&self, table: usize) -> &[(RowId, Texts)]
-        requires { table < length self.now.tables }
-        ensures value { HoldsAt (λ t. result.now ≡ t.rows) self.now.tables table }
-        ensures fit { All (λ row. IsRowOf (attrs_at self.now.rules.schema table) self.now.limits.cell_bytes row.1) result.now }
-        ensures rising { AllPairs (λ row later. row.0 < later.0) result.now }
+        requires { table < length self.now.state }
+        ensures value { result.now ≡ rows_at self.now.state table }
+        ensures valid { IsBench self.now.rules self.now.limits self.now.state }
     {
-        self.tables[table].rows.as_slice()
+        self.tables[table].as_slice()
     }
 }

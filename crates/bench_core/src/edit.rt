@@ -1,33 +1,32 @@
-//! Edits, and why one is refused.
+//! What an edit did, and why one is refused.
 
 ghost use Rattle.std.specs.Prelude.{◌≡◌};
 ghost use Rattle.bench_core.specs.declared.edit.EditFault.TheVariants as edit_fault;
 ghost use Rattle.bench_core.specs.declared.edit.LoadFault.TheVariants as load_fault;
 
-use crate::rows::RowId;
-use schema_core::{Text, Texts};
+use row_store::RowId;
+use schema_core::Text;
 use std::alloc::AllocError;
 use thiserror::Error;
-
-/// What is asked of a bench.
-#[derive(Debug, Drop)]
-pub enum Edit {
-    /// A new row, with a text for each attribute.
-    Insert { table: Text, values: Texts },
-}
 
 /// What an accepted edit did.
 #[derive(Clone, Copy, Debug, PartialEq, Eq)]
 pub enum Applied {
     /// A row was added, and has this id.
     Inserted(RowId),
+    /// A row that was there is changed or gone.
+    Changed,
 }
 
 /// Why an edit is refused. The variants stand in the order in which they are tested.
-#[derive(Debug, Drop, Error)]
+#[derive(Debug, Drop, Error, PartialEq, Eq)]
 pub enum EditFault {
     #[error("there is no such table")]
     UnknownTable,
+    #[error("the table has no such row")]
+    UnknownRow,
+    #[error("the table has no such attribute")]
+    UnknownAttr,
     #[error("the table has more or fewer attributes than there are values")]
     WrongWidth,
     #[error("a value is too long")]

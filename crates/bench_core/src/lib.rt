@@ -1,13 +1,17 @@
-//! The tables of a project and the edits that are made to them. A bench is a state, the rows of each
-//! table by rising ids, together with its rules and limits; an edit leads to the state that the
-//! definition `edited` gives, or is refused by the first cause that holds and changes nothing.
+//! The tables of a project and the edits that are made to them. A bench has a state, the rows of each
+//! table by rising ids, and is made with rules and limits. An edit leads to the state that the definition
+//! `edited` gives, or is refused for the first cause that holds and changes nothing.
 #![tactic(auto)]
 
-pub mod bench;
-pub mod edit;
-mod room;
-pub mod rows;
+mod bench;
+mod checks;
+mod edit;
+mod edits;
+mod rows;
+mod sizes;
 
 pub use bench::Bench;
-pub use edit::{Applied, Edit, EditFault, LoadFault};
-pub use rows::{RowId, TableRows};
+pub use edit::{Applied, EditFault, LoadFault};
+
+#[cfg(test)]
+mod tests;

@@ -1,6 +1,11 @@
-// Case trees: certificates that a set of clauses over cells of variables has no allowed assignment.
-// `check` accepts a tree exactly where every node is right, and a closed tree means that no assignment is
-// allowed (specs/CaseTree.antt). Here are variables and clauses; what they stand for is the caller's.
+//! Case trees: certificates that a set of clauses over cells of variables has no allowed assignment.
+//!
+//! Order: the nodes of a tree are a list in preorder, the subtree of a true variable before that of a false one.
+//! Cost: `check` makes one pass over the nodes, looks at each node at what its reason names, and takes no memory beyond a
+//! path that is made once.
+//!
+//! It accepts a tree exactly where every node is right, and a closed tree means that no assignment is allowed. Here are
+//! variables and clauses; what they stand for is the caller's.
 #![tactic(auto)]
 
 mod checker;
@@ -17,3 +22,5 @@ pub use tree::{Node, Reason, Tree};
 
 #[cfg(test)]
 mod tests;
+#[cfg(test)]
+mod uses;

@@ -1,5 +1,7 @@
-pub mod Fetches
-pub mod Endings
+pub mod Ends
+pub mod Faults
+pub mod FetchingSteps
 pub mod FullTables
+pub mod Outputs
+pub mod PlainWords
 pub mod TableLoop
-pub mod Transcripts

@@ -1,65 +1,133 @@
--- The tables' files, read one after the other.
-use Rattle.std.proofs.Common.{◌≡◌, ℕ, ◌+◌, ◌<◌, ◌≤◌, List, [], ◌∷◌, ◌++◌, length, take, drop, get_or, Ok, Err, refl, append_assoc, ap, sym, subst, ◌∙◌}
-use Rattle.std.specs.List.{AllZip}
+-- The tables' files, fetched one after the other.
+use Rattle.std.proofs.Common.{◌≡◌, ℕ, ◌+◌, ◌<◌, ◌≤◌, List, [], ◌∷◌, ◌++◌, length, take, drop, get_or, Option, Some, Result, Ok, Err, IfSome, refl, append_assoc, ap, sym, subst, ◌∙◌, arith}
+use Rattle.std.specs.List.{All, AllZip}
 use Rattle.std.proofs.lemmas.List.{at_drop_more, at_drop_all, append-nil, take_more}
+use Rattle.schema_core.specs.Rows.{IsRowOf}
 use Rattle.schema_core.specs.declared.limits.Limits.{Limits}
 use Rattle.schema_core.specs.declared.schema.Table.{Table}
 use Rattle.shelf_io.specs.Files.{Files}
+use Rattle.shelf_io.specs.Shelf.{ShelfTold}
+use Rattle.cfd_cli.specs.declared.refusal.Refusal.{Refusal}
 use Rattle.cfd_cli.specs.declared.fetching.Stop.{Stop}
 use Rattle.cfd_cli.specs.declared.fetching.Stop.TheVariants.{Refused, ReadFault, Memory}
-use Rattle.cfd_cli.specs.Reading.{Read, ◌>>=◌, Fails, Tuples, read_table, read_tables}
+use Rattle.cfd_cli.specs.Fetching.{Fetching, OrRefusal, Outcome, ◌>>=◌, followed, given, refusal_in}
+use Rattle.bench_core.specs.Loading.{Tuples}
+use Rattle.cfd_cli.specs.Project.{fetch_table, fetch_tables}
 
--- behind the tables that were read before
-abbrev pub behind : List Tuples → Read (List Tuples × ℕ) → Read (List Tuples × ℕ)
-behind before read = read >>= λ rest. Ok (before ++ rest.0, rest.1)
+-- ---- the tables that are left, behind those that were fetched
 
--- the tables so far and those that are left are all tables
-abbrev pub GoesOn : Limits → Files → List Table → ℕ → ℕ → List Tuples → ℕ → Type 0
-GoesOn limits files tables room place before left =
-    behind before (read_tables limits files left (drop place tables)) ≡ read_tables limits files room tables
+abbrev with_before : List Tuples → OrRefusal (List Tuples) → OrRefusal (List Tuples)
+with_before before (Ok others) = Ok (before ++ others)
+with_before before (Err refusal) = Err refusal
 
-joined : (before : List Tuples) (rows : Tuples) (read : Read (List Tuples × ℕ)) → behind before (read >>= λ others. Ok (rows ∷ others.0, others.1)) ≡ behind (before ++ rows ∷ []) read
-joined before rows (Ok rest) = ap (λ all. Ok (all, rest.1)) (sym (append_assoc before (rows ∷ []) rest.0))
-joined before rows (Err refusal) = refl
+-- what all tables come to, where these were fetched before, in so many fetches
+abbrev behind : List Tuples → ℕ → Outcome (List Tuples) → Outcome (List Tuples)
+behind before fetches outcome = record { found = with_before before outcome.found; fetches = fetches + outcome.fetches; left = outcome.left }
 
--- where the next table was read, the others are behind it
-behind-read : (before : List Tuples) (rows : Tuples) (still : ℕ) (read : Read (Tuples × ℕ)) (others : ℕ → Read (List Tuples × ℕ)) → read ≡ Ok (rows, still) → behind before (read >>= λ first. others first.1 >>= λ rest. Ok (first.0 ∷ rest.0, rest.1)) ≡ behind (before ++ rows ∷ []) (others still)
-behind-read before rows still read others is =
-    ap (λ r. behind before (r >>= λ first. others first.1 >>= λ rest. Ok (first.0 ∷ rest.0, rest.1))) is ∙ joined before rows (others still)
+-- what is left of all tables
+abbrev pub GoesOn : Limits → Files → List Table → ℕ → ℕ → List Tuples → ℕ → ℕ → Type 0
+GoesOn limits files tables room place before fetches left = behind before fetches (fetch_tables limits (drop place tables) files left) ≡ fetch_tables limits tables files room
+
+abbrev outcome_of : {X : Type 0} → OrRefusal X → ℕ → ℕ → Outcome X
+outcome_of found fetches left = record { found = found; fetches = fetches; left = left }
+
+same_outcome : {X : Type 0} {f g : OrRefusal X} {m n k l : ℕ} → f ≡ g → m ≡ n → k ≡ l → outcome_of f m k ≡ outcome_of g n l
+same_outcome f m k = λ i. outcome_of (f i) (m i) (k i)
 
 -- before the first table
-pub goes_on-none : (limits : Limits) (files : Files) (tables : List Table) (room : ℕ) (before : List Tuples) → before ≡ [] → GoesOn limits files tables room 0 before room
-goes_on-none limits files tables room before none =
-    ap (λ b. behind b (read_tables limits files room tables)) none ∙ unchanged (read_tables limits files room tables)
+pub goes_on-none : (limits : Limits) (files : Files) (tables : List Table) (room : ℕ) → GoesOn limits files tables room 0 [] 0 room
+goes_on-none limits files tables room = go (fetch_tables limits tables files room)
   where
-    unchanged : (read : Read (List Tuples × ℕ)) → behind [] read ≡ read
-    unchanged (Ok rest) = refl
-    unchanged (Err refusal) = refl
+    go : (o : Outcome (List Tuples)) → behind [] 0 o ≡ o
+    go o = same_outcome (found o.found) (omega arith) refl
+      where
+        found : (f : OrRefusal (List Tuples)) → with_before [] f ≡ f
+        found (Ok others) = refl
+        found (Err refusal) = refl
 
--- one table further
-pub goes_on-more : (limits : Limits) (files : Files) (tables : List Table) (room place : ℕ) (before : List Tuples) (left : ℕ) (table : Table) (rows : Tuples) (still : ℕ) → place < length tables → table ≡ get_or tables place table → GoesOn limits files tables room place before left → read_table limits files left table ≡ Ok (rows, still) → GoesOn limits files tables room (place + 1) (before ++ rows ∷ []) still
-goes_on-more limits files tables room place before left table rows still within is so_far this =
-    sym (ap (λ t. behind before (read_tables limits files left (t ∷ drop (place + 1) tables))) (sym is)
-    ∙ behind-read before rows still (read_table limits files left table) (λ room. read_tables limits files room (drop (place + 1) tables)) this)
-    ∙ sym (at_drop_more (λ rest. behind before (read_tables limits files left rest)) tables place table within)
+-- one more table, which was fetched
+next_outcome : (before : List Tuples) (fetches more still : ℕ) (rows : Tuples) (others : Fetching (List Tuples)) (files : Files) → behind before fetches (followed more still (Ok rows) (λ r. (others >>= λ rest. given (Ok (r ∷ rest))) files)) ≡ behind (before ++ rows ∷ []) (fetches + more) (others files still)
+next_outcome before fetches more still rows others files = go (others files still)
+  where
+    go : (o : Outcome (List Tuples)) → behind before fetches (record (followed o.fetches o.left o.found (λ rest left. outcome_of (Ok (rows ∷ rest)) 0 left)) { fetches = more + (followed o.fetches o.left o.found (λ rest left. outcome_of (Ok (rows ∷ rest)) 0 left)).fetches }) ≡ behind (before ++ rows ∷ []) (fetches + more) o
+    go o = by o.found
+      where
+        by : (f : OrRefusal (List Tuples)) → behind before fetches (record (followed o.fetches o.left f (λ rest left. outcome_of (Ok (rows ∷ rest)) 0 left)) { fetches = more + (followed o.fetches o.left f (λ rest left. outcome_of (Ok (rows ∷ rest)) 0 left)).fetches }) ≡ behind (before ++ rows ∷ []) (fetches + more) (record o { found = f })
+        by (Ok rest) = same_outcome (ap Ok (sym (append_assoc before (rows ∷ []) rest))) (omega arith) refl
+        by (Err refusal) = same_outcome refl (omega arith) refl
+
+pub goes_on-more : (limits : Limits) (files : Files) (tables : List Table) (room place : ℕ) (before : List Tuples) (fetches left : ℕ) (table : Table) (rows : Tuples) (still : ℕ) → place < length tables → table ≡ get_or tables place table → GoesOn limits files tables room place before fetches left
+    → (fetch_table limits table files left).found ≡ Ok rows → (fetch_table limits table files left).left ≡ still → GoesOn limits files tables room (place + 1) (before ++ rows ∷ []) (fetches + (fetch_table limits table files left).fetches) still
+goes_on-more limits files tables room place before fetches left table rows still within is so_far found kept =
+    let more = (fetch_table limits table files left).fetches in
+    let rest = fetch_tables limits (drop (place + 1) tables) in
+    sym (next_outcome before fetches more still rows rest files)
+    ∙ sym (ap (λ f. behind before fetches (followed more (fetch_table limits table files left).left f (λ r. (rest >>= λ others. given (Ok (r ∷ others))) files))) found
+    ∙ ap (λ l. behind before fetches (followed more l (Ok rows) (λ r. (rest >>= λ others. given (Ok (r ∷ others))) files))) kept)
+    ∙ sym (ap (λ t. behind before fetches (fetch_tables limits (t ∷ drop (place + 1) tables) files left)) (sym is))
+    ∙ sym (at_drop_more (λ others. behind before fetches (fetch_tables limits others files left)) tables place table within)
     ∙ so_far
 
--- where the next table is refused, all of them are
-pub goes_on-refused : (limits : Limits) (files : Files) (tables : List Table) (room place : ℕ) (before : List Tuples) (left : ℕ) (table : Table) (stop : Stop) → place < length tables → table ≡ get_or tables place table → GoesOn limits files tables room place before left → Fails stop (read_table limits files left table) → Fails stop (read_tables limits files room tables)
-goes_on-refused limits files tables room place before left table (Refused refusal) within is so_far this =
-    sym so_far
-    ∙ at_drop_more (λ rest. behind before (read_tables limits files left rest)) tables place table within
-    ∙ ap (λ t. behind before (read_tables limits files left (t ∷ drop (place + 1) tables))) (sym is)
-    ∙ ap (λ (r : Read (Tuples × ℕ)). behind before (r >>= λ first. read_tables limits files first.1 (drop (place + 1) tables) >>= λ rest. Ok (first.0 ∷ rest.0, rest.1))) this
-goes_on-refused limits files tables room place before left table ReadFault within is so_far this = tt
-goes_on-refused limits files tables room place before left table Memory within is so_far this = tt
+-- the next table takes as many fetches as it takes, and where it is refused, all of them are
+next_fetches : (limits : Limits) (files : Files) (tables : List Table) (room place : ℕ) (before : List Tuples) (fetches left : ℕ) (table : Table) → place < length tables → table ≡ get_or tables place table → GoesOn limits files tables room place before fetches left
+    → behind before fetches (fetch_tables limits (table ∷ drop (place + 1) tables) files left) ≡ fetch_tables limits tables files room
+next_fetches limits files tables room place before fetches left table within is so_far =
+    ap (λ t. behind before fetches (fetch_tables limits (t ∷ drop (place + 1) tables) files left)) is
+    ∙ sym (at_drop_more (λ others. behind before fetches (fetch_tables limits others files left)) tables place table within)
+    ∙ so_far
+
+some_fetches : {X Y : Type 0} (found : OrRefusal X) (fetches left : ℕ) (further : X → ℕ → Outcome Y) → fetches ≤ (followed fetches left found further).fetches
+some_fetches (Ok x) fetches left further = omega arith
+some_fetches (Err refusal) fetches left further = omega arith
+
+pub goes_on-fetches : (limits : Limits) (files : Files) (tables : List Table) (room place : ℕ) (before : List Tuples) (fetches left : ℕ) (table : Table) → place < length tables → table ≡ get_or tables place table → GoesOn limits files tables room place before fetches left
+    → fetches + (fetch_table limits table files left).fetches ≤ (fetch_tables limits tables files room).fetches
+goes_on-fetches limits files tables room place before fetches left table within is so_far =
+    let this = fetch_table limits table files left in
+    omega (
+      arith,
+      ap (λ o. o.fetches) (next_fetches limits files tables room place before fetches left table within is so_far),
+      some_fetches this.found this.fetches this.left (λ r. (fetch_tables limits (drop (place + 1) tables) >>= λ others. given (Ok (r ∷ others))) files),
+    )
+
+pub goes_on-refused : (limits : Limits) (files : Files) (tables : List Table) (room place : ℕ) (before : List Tuples) (fetches left : ℕ) (table : Table) (stop : Stop) → place < length tables → table ≡ get_or tables place table → GoesOn limits files tables room place before fetches left
+    → IfSome (refusal_in stop) (λ refusal. (fetch_table limits table files left).found ≡ Err refusal) → IfSome (refusal_in stop) (λ refusal. (fetch_tables limits tables files room).found ≡ Err refusal)
+goes_on-refused limits files tables room place before fetches left table (Refused refusal) within is so_far this =
+    sym (ap (λ o. o.found) (next_fetches limits files tables room place before fetches left table within is so_far))
+    ∙ ap (λ f. with_before before (followed (fetch_table limits table files left).fetches (fetch_table limits table files left).left f (λ r. (fetch_tables limits (drop (place + 1) tables) >>= λ others. given (Ok (r ∷ others))) files)).found) this
+goes_on-refused limits files tables room place before fetches left table ReadFault within is so_far this = tt
+goes_on-refused limits files tables room place before fetches left table Memory within is so_far this = tt
 
 -- past the last table
-pub goes_on-all : (limits : Limits) (files : Files) (tables : List Table) (room place : ℕ) (before : List Tuples) (left : ℕ) → length tables ≤ place → GoesOn limits files tables room place before left → read_tables limits files room tables ≡ Ok (before, left)
-goes_on-all limits files tables room place before left past so_far =
-    sym so_far
-    ∙ at_drop_all (λ rest. behind before (read_tables limits files left rest)) tables place past
-    ∙ ap (λ all. Ok (all, left)) (append-nil before)
+pub goes_on-all : (limits : Limits) (files : Files) (tables : List Table) (room place : ℕ) (before : List Tuples) (fetches left : ℕ) → length tables ≤ place → GoesOn limits files tables room place before fetches left → outcome_of (Ok before) fetches left ≡ fetch_tables limits tables files room
+goes_on-all limits files tables room place before fetches left past so_far =
+    same_outcome (ap Ok (sym (append-nil before))) (omega arith) refl
+    ∙ sym (at_drop_all (λ others. behind before fetches (fetch_tables limits others files left)) tables place past)
+    ∙ so_far
+
+pub all_found : (limits : Limits) (files : Files) (tables : List Table) (room place : ℕ) (before : List Tuples) (fetches left : ℕ) → length tables ≤ place → GoesOn limits files tables room place before fetches left → (fetch_tables limits tables files room).found ≡ Ok before
+all_found limits files tables room place before fetches left past so_far = sym (ap (λ o. o.found) (goes_on-all limits files tables room place before fetches left past so_far))
+
+pub all_left : (limits : Limits) (files : Files) (tables : List Table) (room place : ℕ) (before : List Tuples) (fetches left : ℕ) → length tables ≤ place → GoesOn limits files tables room place before fetches left → (fetch_tables limits tables files room).left ≡ left
+all_left limits files tables room place before fetches left past so_far = sym (ap (λ o. o.left) (goes_on-all limits files tables room place before fetches left past so_far))
+
+pub all_fetches : (limits : Limits) (files : Files) (tables : List Table) (room place : ℕ) (before : List Tuples) (fetches left : ℕ) → length tables ≤ place → GoesOn limits files tables room place before fetches left → (fetch_tables limits tables files room).fetches ≡ fetches
+all_fetches limits files tables room place before fetches left past so_far = sym (ap (λ o. o.fetches) (goes_on-all limits files tables room place before fetches left past so_far))
+
+-- ---- the loop
+
+-- what a row of rows has that belongs to a table
+abbrev pub AreRowsOf : Limits → Table → Tuples → Type 0
+AreRowsOf limits table rows = All (IsRowOf table.attrs limits.cell_bytes) rows
+
+-- a fetch for each table so far, and what came of them
+pub record IsUnderWay (limits : Limits) (tables : List Table) (place : ℕ) (all : List Tuples) (before after : ShelfTold) (room left : ℕ) : Type 0 where
+  pub told : (files : Files) → before.holding ≡ Some files → (fetches : ℕ) × GoesOn limits files tables room place all fetches left × (after.calls ≤ before.calls + fetches)
+  pub valid : AllZip (AreRowsOf limits) (take place tables) all
+  pub fetches : after.calls ≤ before.calls + place
+  pub calls : before.calls ≤ after.calls
+  pub faults : before.faults ≤ after.faults
+  pub holding : after.holding ≡ before.holding
 
 -- pairs that meet a fact, with one more at the end
 AllZip-snoc : {A B : Type 0} (R : A → B → Type 0) (xs : List A) (ys : List B) (x : A) (y : B) → AllZip R xs ys → R x y → AllZip R (xs ++ x ∷ []) (ys ++ y ∷ [])

@@ -1,8 +1,9 @@
-pub mod Fetches
 pub mod Fetching
+pub mod Forms
 pub mod Output
 pub mod Project
-pub mod Reading
 pub mod Refusals
+pub mod RunForm
 pub mod Statuses
+pub mod Transcripts
 pub mod Words

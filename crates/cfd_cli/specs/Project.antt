@@ -1,6 +1,87 @@
--- What the code keeps of a project, as contracts see it.
+-- A project: its schema, its rules, its tables and its script, in the order in which they are fetched and read.
+use Rattle.std.specs.Prelude.{◌≡◌, ℕ, List, [], ◌∷◌, Option, None, Some, Result, Ok, Err, slice_get}
+use Rattle.std.specs.Option.{option_map_or}
+use Rattle.schema_core.specs.Faults.{Reading}
+use Rattle.schema_core.specs.SchemaFiles as schema_file
+use Rattle.schema_core.specs.declared.limits.Limits.{Limits}
+use Rattle.schema_core.specs.declared.schema.Schema.{Schema}
+use Rattle.schema_core.specs.declared.schema.Table.{Table}
+use Rattle.rule_model.specs.Books.{Book}
+use Rattle.rule_parser.specs.RuleFiles as rule_file
+use Rattle.csv_tables.specs.TableFiles.{table_of}
+use Rattle.csv_tables.specs.declared.fault.TableFault.{TableFault}
+use Rattle.bench_core.specs.Bench.{BenchModel}
+use Rattle.bench_core.specs.Loading.{Tuples, loaded}
+use Rattle.bench_core.specs.State.{State}
+use Rattle.session.specs.Scripts.{script_of}
+use Rattle.session.specs.declared.command.Command.{Command}
 use Rattle.cfd_cli.specs.declared.project.Project.{Project}
-use Rattle.cfd_cli.specs.Reading.{Loaded}
+use Rattle.cfd_cli.specs.declared.refusal.Cause.{Cause}
+use Rattle.cfd_cli.specs.declared.refusal.Cause.TheVariants as cause
+use Rattle.cfd_cli.specs.Fetching.{Fetching, OrRefusal, ◌>>=◌, about, file, given}
 
-abbrev pub loaded_in : Project → Loaded
-loaded_in project = record { bench = project.bench; commands = project.commands }
+-- ---- what is read, or why its file is refused
+
+-- what bytes spell, or the line and what is wrong there as the cause of a refusal
+abbrev pub spelled : {X C : Type 0} → (ℕ → C → Cause) → Reading X C → Result X Cause
+spelled cause (Ok x) = Ok x
+spelled cause (Err fault) = Err (cause fault.line fault.cause)
+
+-- the rows of a table file, or its fault as the cause of a refusal
+abbrev pub tabled : Result Tuples TableFault → Result Tuples Cause
+tabled (Ok rows) = Ok rows
+tabled (Err fault) = Err (cause.Table fault)
+
+-- the file name of a numbered table
+abbrev pub file_of : Schema → ℕ → List ℕ
+file_of schema table = option_map_or (λ (t : Table). t.file) (slice_get schema.tables table) []
+
+-- the bench of tables as they are loaded, or the file of the first table with which they are too many
+abbrev pub bench_of : Book → Limits → Result State ℕ → OrRefusal BenchModel
+bench_of rules limits (Ok state) = Ok (record { rules = rules; limits = limits; state = state })
+bench_of rules limits (Err table) = Err (record { what = file_of rules.schema table; cause = cause.RowsFull })
+
+-- ---- the files, in their order
+
+-- the schema of the named file
+unfoldable pub fetch_schema : Limits → List ℕ → Fetching Schema
+fetch_schema limits name = file limits name >>= λ bytes. given (about name (spelled cause.Schema (schema_file.reads limits bytes)))
+
+-- the rules of the file that the schema names, where it names one
+abbrev pub fetch_rules_from : Limits → Schema → Option (List ℕ) → Fetching Book
+fetch_rules_from limits schema None = given (Ok (record { schema = schema; limits = limits; decls = [] }))
+fetch_rules_from limits schema (Some name) = file limits name >>= λ bytes. given (about name (spelled cause.Rules (rule_file.reads schema limits bytes)))
+
+abbrev pub fetch_rules : Limits → Schema → Fetching Book
+fetch_rules limits schema = fetch_rules_from limits schema schema.rules
+
+-- the rows of a table
+unfoldable pub fetch_table : Limits → Table → Fetching Tuples
+fetch_table limits table = file limits table.file >>= λ bytes. given (about table.file (tabled (table_of table limits bytes)))
+
+-- the rows of each table, one table after the other
+abbrev pub fetch_tables : Limits → List Table → Fetching (List Tuples)
+fetch_tables limits [] = given (Ok [])
+fetch_tables limits (table ∷ tables) = fetch_table limits table >>= λ rows. fetch_tables limits tables >>= λ others. given (Ok (rows ∷ others))
+
+-- the bench of all tables
+unfoldable pub fetch_bench : Limits → Book → Fetching BenchModel
+fetch_bench limits rules =
+    fetch_tables limits rules.schema.tables >>= λ tables. given (bench_of rules limits (loaded rules limits tables))
+
+-- the commands of the script that the schema names, where it names one
+abbrev pub fetch_commands_from : Limits → Option (List ℕ) → Fetching (List Command)
+fetch_commands_from limits None = given (Ok [])
+fetch_commands_from limits (Some name) = file limits name >>= λ bytes. given (about name (spelled cause.Script (script_of limits bytes)))
+
+abbrev pub fetch_commands : Limits → Schema → Fetching (List Command)
+fetch_commands limits schema = fetch_commands_from limits schema.script
+
+-- the whole project
+unfoldable pub fetch_project : Limits → List ℕ → Fetching Project
+fetch_project limits name =
+    fetch_schema limits name >>= λ schema.
+    fetch_rules limits schema >>= λ rules.
+    fetch_bench limits rules >>= λ bench.
+    fetch_commands limits bench.rules.schema >>= λ commands.
+    given (Ok (record { bench = bench; commands = commands }))

@@ -55,11 +55,15 @@ schema_text (schema.TooMany limit) = too_many limit
 abbrev pub rule_text : RuleFault → List ℕ
 rule_text (rule.DuplicateRule name) = with_name (codes "DuplicateRule") name
 rule_text (rule.UnknownTable name) = with_name (codes "UnknownTable") name
+rule_text (rule.NotMaster name) = with_name (codes "NotMaster") name
 rule_text (rule.UnknownAttr name) = with_name (codes "UnknownAttr") name
 rule_text (rule.RepeatedAttr name) = with_name (codes "RepeatedAttr") name
+rule_text rule.NoMatchColumn = codes "NoMatchColumn"
+rule_text (rule.TargetInX name) = with_name (codes "TargetInX") name
 rule_text rule.WidthMismatch = codes "WidthMismatch"
 rule_text (rule.ConstantOutsideDomain attr value) = with_name (codes "ConstantOutsideDomain") attr ++ then_text value
 rule_text (rule.RepeatedConstant attr value) = with_name (codes "RepeatedConstant") attr ++ then_text value
+rule_text (rule.DomainMismatch name) = with_name (codes "DomainMismatch") name
 rule_text (rule.TooMany limit) = too_many limit
 
 abbrev pub parse_text : ParseCause → List ℕ

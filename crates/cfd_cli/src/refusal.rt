@@ -94,8 +94,11 @@ fn push_rule_fault(line: &mut Vec<u8>, fault: &RuleFault) -> Result<(), AllocErr
     match fault {
         RuleFault::DuplicateRule(name) => push_named(line, b"DuplicateRule", name),
         RuleFault::UnknownTable(name) => push_named(line, b"UnknownTable", name),
+        RuleFault::NotMaster(name) => push_named(line, b"NotMaster", name),
         RuleFault::UnknownAttr(name) => push_named(line, b"UnknownAttr", name),
         RuleFault::RepeatedAttr(name) => push_named(line, b"RepeatedAttr", name),
+        RuleFault::NoMatchColumn => line.extend_from_slice(b"NoMatchColumn"),
+        RuleFault::TargetInX(name) => push_named(line, b"TargetInX", name),
         RuleFault::WidthMismatch => line.extend_from_slice(b"WidthMismatch"),
         RuleFault::ConstantOutsideDomain { attr, value } => {
             push_constant(line, b"ConstantOutsideDomain", attr, value)
@@ -103,6 +106,7 @@ fn push_rule_fault(line: &mut Vec<u8>, fault: &RuleFault) -> Result<(), AllocErr
         RuleFault::RepeatedConstant { attr, value } => {
             push_constant(line, b"RepeatedConstant", attr, value)
         }
+        RuleFault::DomainMismatch(name) => push_named(line, b"DomainMismatch", name),
         RuleFault::TooMany(limit) => push_limit(line, *limit),
     }
 }

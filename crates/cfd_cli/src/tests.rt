@@ -140,6 +140,29 @@ fn devices_that_fail(rt: HostRuntime) -> Result<(), Fail> {
     Ok(())
 }
 
+// Where the second put fails, exactly the first reply was written: a reply goes out whole.
+#[test]
+fn replies_go_out_whole(rt: HostRuntime) -> Result<(), Fail> {
+    let alloc = rt.alloc();
+    let table = format!(in alloc; "{HEAD}44,131,EH4,High St,EDI\n44,131,EH4,Low St,EDI\n")?;
+    let files = [
+        ("p", P),
+        ("r", R),
+        ("cust.csv", table.as_str()),
+        ("s", "list\nlist\n"),
+    ];
+    let words = words_of(alloc, "run p")?;
+    let mut shelf = shelf_of(alloc, &files, Vec::new(alloc))?;
+    let mut out = MemorySink::with_room(alloc, ROOM, vec![in alloc; 2]?)?;
+    let ended = run(alloc, &words, &mut shelf, &mut out);
+    let first = "pair f1.1 street cust 1 2\npair f1.1 street cust 2 1\nlisted 2\n";
+    assert_eq!(rt;
+        (ended, out.written()),
+        (Status::WriteFault, first.as_bytes())
+    );
+    Ok(())
+}
+
 const INSERTIONS: &str =
     "insert cust '44', '1', 'Z', 'a', 'c'\ninsert cust '44', '1', 'Z', 'a', 'c'\n";
 

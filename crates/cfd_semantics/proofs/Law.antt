@@ -6,12 +6,16 @@ use Rattle.std.specs.Cmp.{IsEquivalence}
 use Rattle.std.proofs.lemmas.Cmp.{lists_equiv}
 use Rattle.cfd_semantics.specs.declared.pattern.Pattern.{Pattern}
 use Rattle.cfd_semantics.specs.declared.pattern.Pattern.TheVariants.{Any, Is, In, NotIn}
-use Rattle.cfd_semantics.specs.declared.pattern.TableauRow.{TableauRow}
+use Rattle.cfd_semantics.specs.declared.dependency.TableauRow.{TableauRow}
+use Rattle.cfd_semantics.specs.declared.dependency.Dependency.{Dependency}
+use Rattle.cfd_semantics.specs.declared.violation.Violation.{Violation}
 use Rattle.cfd_semantics.specs.Pattern.{matches, all_match}
-use Rattle.cfd_semantics.specs.Tuple.{value_at, values_at, same_values}
-use Rattle.cfd_semantics.specs.Violation.{Entry, entry_of, entries, is_single, is_pair, least, partners, least_partner, violation_of, violations, numbered, violations_from, dependency_violations}
+use Rattle.cfd_semantics.specs.Tuple.{same_values, tuples_of}
+use Rattle.cfd_semantics.specs.Violation.{Sides, sides_of, Entry, entry_of, entries, is_single, is_pair, least, partners, least_partner, violation_of, violating, violations}
 use Rattle.cfd_semantics.specs.Satisfaction.{Satisfies}
-use Rattle.cfd_semantics.proofs.Members.{contains-here, contains-there, contains_nothing, contains_cases, contains-map, nothing_from_empty, empty_from_nothing, none_pass_from_empty, empty_from_none_pass, append-empty, map-empty, two_from_map}
+use Rattle.cfd_semantics.proofs.EntryFacts.{sides_in, entry_with, entry_from_sides, entry_parts, row_with_tuple, tuple_of_row}
+use Rattle.cfd_semantics.proofs.Numbers.{numbered-empty}
+use Rattle.cfd_semantics.proofs.Members.{contains-filter_map, contains_from_filter_map, nothing_from_empty, empty_from_nothing, none_pass_from_empty, empty_from_none_pass, map-empty}
 
 -- ---- equal values match the same cells
 
@@ -21,7 +25,7 @@ any-equal {eq = eq} laws a b e (member ∷ rest) =
     let head : eq member a ≡ eq member b = laws.symm member a ∙ laws.congr a b member e ∙ laws.symm b member in
     rw (head, any-equal laws a b e rest)
 
-matches-equal : {V : Type 0} {eq : V → V → Bool} (laws : IsEquivalence eq) (a b : V) → eq a b ≡ true → (cell : Pattern V) → matches eq cell a ≡ matches eq cell b
+pub matches-equal : {V : Type 0} {eq : V → V → Bool} (laws : IsEquivalence eq) (a b : V) → eq a b ≡ true → (cell : Pattern V) → matches eq cell a ≡ matches eq cell b
 matches-equal laws a b e Any = refl
 matches-equal laws a b e (Is constant) = laws.symm constant a ∙ laws.congr a b constant e ∙ laws.symm b constant
 matches-equal laws a b e (In members) = any-equal laws a b e members
@@ -31,7 +35,7 @@ both_true : (a b : Bool) → (a && b) ≡ true → (a ≡ true) × (b ≡ true)
 both_true true b h = (refl, h)
 both_true false b h = absurd (cc)
 
-all_match-equal : {V : Type 0} {eq : V → V → Bool} (laws : IsEquivalence eq) (cells : List (Pattern V)) (xs ys : List V) → same_values eq xs ys ≡ true → all_match eq cells xs ≡ all_match eq cells ys
+pub all_match-equal : {V : Type 0} {eq : V → V → Bool} (laws : IsEquivalence eq) (cells : List (Pattern V)) (xs ys : List V) → same_values eq xs ys ≡ true → all_match eq cells xs ≡ all_match eq cells ys
 all_match-equal laws [] [] [] e = refl
 all_match-equal laws [] [] (y ∷ ys) e = absurd (cc)
 all_match-equal laws [] (x ∷ xs) [] e = absurd (cc)
@@ -58,10 +62,13 @@ unlisted true y f o h = absurd (cc)
 unlisted false y f None h = (refl, refl)
 unlisted false y f (Some x) h = absurd (cc)
 
+abbrev violation : {V : Type 0} → Entry V → Option ℕ → Violation
+violation e partner = record { row = e.row; partner = partner }
+
 -- what is unlisted is no single and has no partner
 no_single_no_pair : {V : Type 0} (eq : V → V → Bool) (t : TableauRow V) (all : List (Entry V)) (e : Entry V) → violation_of eq t all e ≡ None → (is_single eq t e ≡ false) × ((other : Entry V) → Contains all other → is_pair eq t e other ≡ false)
 no_single_no_pair {V} eq t all e h =
-    let parts = unlisted (is_single eq t e) (e.row, None) (λ partner. (e.row, Some partner)) (least_partner eq t all e) h in
+    let parts = unlisted (is_single eq t e) (violation e None) (λ partner. violation e (Some partner)) (least_partner eq t all e) h in
     (parts.0, none_pass_from_empty (is_pair eq t e) all (map-empty (λ (other : Entry V). other.row) _ (least-none (partners eq t all e) parts.1)))
 
 none_listed : {V : Type 0} (eq : V → V → Bool) (t : TableauRow V) (all : List (Entry V)) (e : Entry V) → is_single eq t e ≡ false → ((other : Entry V) → Contains all other → is_pair eq t e other ≡ false) → violation_of eq t all e ≡ None
@@ -81,7 +88,7 @@ no_pair : (s m n p q d : Bool) → (s && m && n && p && q && not d) ≡ false �
 no_pair s m n p q d h is_s is_m is_n is_p is_q = not_true d (rw (is_s, is_m, is_n, is_p, is_q) at h)
 
 -- where nothing is listed, equal X values that match imply equal A values that match
-obeys_from_none : {V : Type 0} {eq : V → V → Bool} (laws : IsEquivalence eq) (t : TableauRow V) (all : List (Entry V)) → violations eq t all ≡ [] → Obeys eq t all
+obeys_from_none : {V : Type 0} {eq : V → V → Bool} (laws : IsEquivalence eq) (t : TableauRow V) (all : List (Entry V)) → violating eq t all ≡ [] → Obeys eq t all
 obeys_from_none {V} {eq} laws t all h = record {
   imply = λ e other member beside same matched.
       let none = no_single_no_pair eq t all e (nothing_from_empty (violation_of eq t all) all h e member) in
@@ -105,49 +112,41 @@ pair_passes true true n p q d h = rw (h refl refl) (and-false _)
 pair_passes true false n p q d h = refl
 pair_passes false m n p q d h = refl
 
-none_from_obeys : {V : Type 0} {eq : V → V → Bool} (laws : IsEquivalence eq) (t : TableauRow V) (all : List (Entry V)) → Obeys eq t all → violations eq t all ≡ []
+none_from_obeys : {V : Type 0} {eq : V → V → Bool} (laws : IsEquivalence eq) (t : TableauRow V) (all : List (Entry V)) → Obeys eq t all → violating eq t all ≡ []
 none_from_obeys {V} {eq} laws t all obeys = empty_from_nothing (violation_of eq t all) all (λ e member.
     none_listed eq t all e
     (single_passes (all_match eq t.x e.x) (matches eq t.a e.a) (λ matched. (obeys.imply e e member member ((lists_equiv laws).refl e.x) matched).1))
     (λ other beside. pair_passes _ _ _ _ _ (eq e.a other.a) (λ same matched. (obeys.imply e other member beside same matched).0)))
 
--- ---- the rows of a table, and their tuples
-
-RowsObey : {V : Type 0} → (V → V → Bool) → V → List ℕ → ℕ → TableauRow V → List (ℕ × List V) → Type 0
-RowsObey {V} eq missing x a t rows =
-    (row other : ℕ × List V) → Contains rows row → Contains rows other → same_values eq (values_at missing row.1 x) (values_at missing other.1 x) ≡ true → all_match eq t.x (values_at missing row.1 x) ≡ true → (eq (value_at missing row.1 a) (value_at missing other.1 a) ≡ true) × (matches eq t.a (value_at missing row.1 a) ≡ true)
-
 -- ---- the tableau
 
-none_of_each : {V : Type 0} (eq : V → V → Bool) (k : ℕ) (tableau : List (TableauRow V)) (all : List (Entry V)) → violations_from eq k tableau all ≡ [] → (t : TableauRow V) → Contains tableau t → violations eq t all ≡ []
-none_of_each eq k [] all h t member = absurd (contains_nothing t member)
-none_of_each eq k (first ∷ rest) all h t member =
-    let parts = append-empty (numbered k (violations eq first all)) (violations_from eq (k + 1) rest all) h in
-    elim (contains_cases t first rest member) [
-      | inl is ↦ rw (← is) (map-empty _ (violations eq first all) parts.0)
-      | inr later ↦ none_of_each eq (k + 1) rest all parts.1 t later
-    ]
-
-none_of_all : {V : Type 0} (eq : V → V → Bool) (k : ℕ) (tableau : List (TableauRow V)) (all : List (Entry V)) → ((t : TableauRow V) → Contains tableau t → violations eq t all ≡ []) → violations_from eq k tableau all ≡ []
-none_of_all eq k [] all h = refl
-none_of_all eq k (first ∷ rest) all h =
-    rw (h first (contains-here first rest)) (none_of_all eq (k + 1) rest all (λ t member. h t (contains-there t first rest member)))
+-- nothing is listed exactly where the entries obey each tableau row
+none_where_obeyed : {V : Type 0} {eq : V → V → Bool} (laws : IsEquivalence eq) (d : Dependency V) (all : List (Entry V)) → (violations eq d all ≡ []) ↔ ((t : TableauRow V) → Contains d.rows t → Obeys eq t all)
+none_where_obeyed {V} {eq} laws d all =
+    let empty = numbered-empty (λ t. violating eq t all) d.rows in (
+      (λ none t member. obeys_from_none laws t all (empty.0 none t member)),
+      (λ obeyed. empty.1 (λ t member. none_from_obeys laws t all (obeyed t member))),
+    )
 
 -- ---- the law
 
-pub listing_is_empty_where_satisfied : {V : Type 0} {eq : V → V → Bool} (laws : IsEquivalence eq) (missing : V) (x : List ℕ) (a : ℕ) (tableau : List (TableauRow V)) (rows : List (ℕ × List V)) → dependency_violations eq tableau (entries missing x a rows) ≡ [] ↔ Satisfies eq missing x a tableau (map (λ row. row.1) rows)
-listing_is_empty_where_satisfied {V} {eq} laws missing x a tableau rows = (
-  (λ empty t. λ u w member first second same matched.
-      let obeys = obeys_from_none laws t (entries missing x a rows) (none_of_each eq 0 tableau (entries missing x a rows) empty t member) in
-      two_from_map (λ (row : ℕ × List V). row.1) rows
-      (λ u w. same_values eq (values_at missing u x) (values_at missing w x) ≡ true → all_match eq t.x (values_at missing u x) ≡ true → (eq (value_at missing u a) (value_at missing w a) ≡ true) × (matches eq t.a (value_at missing u a) ≡ true))
-      (λ row other here there. obeys.imply (entry_of missing x a row) (entry_of missing x a other) (contains-map (entry_of missing x a) rows row here) (contains-map (entry_of missing x a) rows other there))
-      u w first second same matched),
-  (λ satisfies. none_of_all eq 0 tableau (entries missing x a rows) (λ t member.
-      none_from_obeys laws t (entries missing x a rows) (record {
-        imply =
-            two_from_map (entry_of missing x a) rows
-            (λ e other. same_values eq e.x other.x ≡ true → all_match eq t.x e.x ≡ true → (eq e.a other.a ≡ true) × (matches eq t.a e.a ≡ true))
-            (λ row other here there. satisfies t row.1 other.1 member (contains-map (λ (row : ℕ × List V). row.1) rows row here) (contains-map (λ (row : ℕ × List V). row.1) rows other there));
-      }))),
-)
+-- the list of violations is empty exactly where the tuples satisfy the dependency
+pub listing_is_empty_where_satisfied : {V : Type 0} {eq : V → V → Bool} (laws : IsEquivalence eq) (d : Dependency V) (rows : List (ℕ × List V)) → (violations eq d (entries d rows) ≡ []) ↔ Satisfies eq d (tuples_of rows)
+listing_is_empty_where_satisfied {V} {eq} laws d rows =
+    let law = none_where_obeyed laws d (entries d rows) in (
+      (λ empty t. λ one_tuple other_tuple one other member first second has beside same matched.
+          let row = row_with_tuple rows one_tuple first in
+          let next = row_with_tuple rows other_tuple second in
+          let e = entry_with row.0.0 one in
+          let f = entry_with next.0.0 other in
+          let e_in : Contains (entries d rows) e = contains-filter_map (entry_of d) rows row.0 e row.1 (entry_from_sides d row.0 one (ap (sides_of d) row.2 ∙ has)) in
+          let f_in : Contains (entries d rows) f = contains-filter_map (entry_of d) rows next.0 f next.1 (entry_from_sides d next.0 other (ap (sides_of d) next.2 ∙ beside)) in
+          (law.0 empty t member).imply e f e_in f_in same matched),
+      (λ satisfies. law.1 (λ t member. record {
+        imply = λ e f e_in f_in same matched.
+            let row = contains_from_filter_map (entry_of d) rows e e_in in
+            let next = contains_from_filter_map (entry_of d) rows f f_in in
+            satisfies t row.0.1 next.0.1 (sides_in e) (sides_in f) member (tuple_of_row rows row.0 row.1) (tuple_of_row rows next.0 next.1)
+            (entry_parts d row.0 e row.2).sides (entry_parts d next.0 f next.2).sides same matched;
+      })),
+    )

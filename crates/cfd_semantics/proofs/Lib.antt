@@ -1,6 +1,15 @@
 pub mod Members
+pub mod Numbers
+pub mod Values
 pub mod Listing
+pub mod EntryFacts
+pub mod SideLists
 pub mod Law
 pub mod InclusionLaw
 pub mod Renamed
 pub mod RenamedInclusion
+pub mod Sets
+pub mod SetFacts
+pub mod RowSets
+pub mod DirtyFacts
+pub mod Parts

@@ -1,5 +1,5 @@
 -- Members of a list, and lists that are empty since nothing in them passes.
-use Rattle.std.proofs.Common.{◌≡◌, zero, suc, ◌⊎◌, Bool, true, false, cond, List, [], ◌∷◌, ◌++◌, map, filter, Option, None, Some, refl, subst, inl, inr, arith}
+use Rattle.std.proofs.Common.{◌≡◌, zero, suc, ◌⊎◌, Bool, true, false, cond, List, [], ◌∷◌, ◌++◌, map, filter, Option, None, Some, refl, ap, ◌∙◌, subst, inl, inr, arith}
 use Rattle.std.specs.List.{Contains, filter_map, cons_option}
 
 pub contains-here : {X : Type 0} (x : X) (xs : List X) → Contains (x ∷ xs) x
@@ -84,3 +84,38 @@ two_from_map f xs P h t u first second =
     let one = contains_from_map f xs t first in
     let two = contains_from_map f xs u second in
     subst (λ y. P y u) one.2 (subst (λ y. P (f one.0) y) two.2 (h one.0 two.0 one.1 two.1))
+
+-- what is given of a member is in the list of all that is given
+pub contains-filter_map : {X Y : Type 0} (h : X → Option Y) (xs : List X) (x : X) (y : Y) → Contains xs x → h x ≡ Some y → Contains (filter_map h xs) y
+contains-filter_map h [] x y member is = absurd (contains_nothing x member)
+contains-filter_map h (z ∷ zs) x y member is = elim (contains_cases x z zs member) [
+  | inl same ↦ given (h z) (ap h same ∙ is)
+  | inr later ↦ kept (h z) (contains-filter_map h zs x y later is)
+]
+  where
+    given : (o : Option _) → o ≡ Some y → Contains (cons_option o (filter_map h zs)) y
+    given None e = absurd (cc)
+    given (Some w) e = let same : w ≡ y = cc in rw (← same) (contains-here w (filter_map h zs))
+
+    kept : (o : Option _) → Contains (filter_map h zs) y → Contains (cons_option o (filter_map h zs)) y
+    kept None inside = inside
+    kept (Some z) inside = contains-there y z (filter_map h zs) inside
+
+-- some member gives this
+abbrev GivenBy : {X Y : Type 0} → (X → Option Y) → Y → List X → Type 0
+GivenBy {X} h y xs = (x : X) × Contains xs x × (h x ≡ Some y)
+
+-- and comes from a member
+pub contains_from_filter_map : {X Y : Type 0} (h : X → Option Y) (xs : List X) (y : Y) → Contains (filter_map h xs) y → (x : X) × Contains xs x × (h x ≡ Some y)
+contains_from_filter_map h [] y inside = absurd (contains_nothing y inside)
+contains_from_filter_map {X} {Y} h (z ∷ zs) y inside = found (λ rest. contains_from_filter_map h zs y rest) (h z) refl inside
+  where
+    later : GivenBy h y zs → GivenBy h y (z ∷ zs)
+    later one = (one.0, contains-there one.0 z zs one.1, one.2)
+
+    found : (Contains (filter_map h zs) y → GivenBy h y zs) → (o : Option Y) → h z ≡ o → Contains (cons_option o (filter_map h zs)) y → GivenBy h y (z ∷ zs)
+    found further None is rest = later (further rest)
+    found further (Some w) is rest = elim (contains_cases y w (filter_map h zs) rest) [
+      | inl same ↦ (z, contains-here z zs, is ∙ ap (λ v. Some v) same)
+      | inr more ↦ later (further more)
+    ]

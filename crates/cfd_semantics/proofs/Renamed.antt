@@ -1,15 +1,27 @@
 -- A map that keeps the known values apart changes no test and no violation.
-use Rattle.std.proofs.Common.{◌≡◌, ℕ, ◌+◌, ◌<◌, Bool, true, false, cond, not, List, [], ◌∷◌, map, filter, length, Option, refl, ap}
-use Rattle.std.specs.List.{All, list_any, filter_map}
-use Rattle.std.proofs.lemmas.List.{get_or-map}
+use Rattle.std.proofs.Common.{◌≡◌, ℕ, ◌+◌, ◌<◌, Bool, true, false, cond, not, List, [], ◌∷◌, map, filter, length, get_or, Option, None, Some, refl, sym, ap, ◌∙◌, subst}
+use Rattle.std.specs.Option.{option_map}
+use Rattle.std.specs.List.{All, list_any, filter_map, cons_option, slice_get}
+use Rattle.std.proofs.lemmas.Option.{slice_get-map, slice_get_within, get_or_from_slice_get}
 use Rattle.std.proofs.lemmas.List.Elements.{All-head, All-tail, All-nil, All-cons, All-weaker}
 use Rattle.cfd_semantics.specs.declared.pattern.Pattern.{Pattern}
 use Rattle.cfd_semantics.specs.declared.pattern.Pattern.TheVariants.{Any, Is, In, NotIn}
-use Rattle.cfd_semantics.specs.declared.pattern.TableauRow.{TableauRow}
+use Rattle.cfd_semantics.specs.declared.dependency.TableauRow.{TableauRow}
+use Rattle.cfd_semantics.specs.declared.dependency.Dependency.{Dependency}
 use Rattle.cfd_semantics.specs.Pattern.{matches, all_match}
-use Rattle.cfd_semantics.specs.Tuple.{value_at, values_at, same_values, HasAll, HasSides}
-use Rattle.cfd_semantics.specs.Violation.{Entry, entry_of, entries, is_single, is_pair, least, least_partner, violation_of, violations, violations_from, dependency_violations}
-use Rattle.cfd_semantics.specs.Renaming.{KeepsApart, renamed_cell, renamed_tableau_row, renamed_entry, renamed_row, HasKnownCell, HasKnownCells, HasKnownValues}
+use Rattle.cfd_semantics.specs.Tuple.{with_both, values_at, same_values}
+use Rattle.cfd_semantics.specs.Violation.{Sides, sides_of, Entry, entry_of, entries, is_single, is_pair, least, least_partner, violation_of, violating, violations}
+use Rattle.cfd_semantics.specs.Renaming.{KeepsApart, renamed_cell, renamed_tableau_row, renamed_dependency, renamed_rows, HasKnownCell, HasKnownCells, HasKnownTuples}
+use Rattle.cfd_semantics.proofs.EntryFacts.{sides_in, entry_parts}
+use Rattle.cfd_semantics.proofs.Numbers.{numbered-same}
+
+-- an entry with other names, and one all of whose values are known
+abbrev pub renamed_entry : {V W : Type 0} → (V → W) → Entry V → Entry W
+renamed_entry name e = record { x = map name e.x; a = name e.a; row = e.row }
+
+pub record HasKnownValues {V : Type 0} (Known : V → Type 0) (e : Entry V) : Type 0 where
+  pub x : All Known e.x
+  pub a : Known e.a
 
 any-renamed : {V W : Type 0} {Known : V → Type 0} {name : V → W} {eq : V → V → Bool} {named_eq : W → W → Bool} (apart : KeepsApart Known name eq named_eq) (members : List V) (value : V) → All Known members → Known value → list_any (λ member. named_eq member (name value)) (map name members) ≡ list_any (λ member. eq member value) members
 any-renamed apart [] value known here = refl
@@ -69,47 +81,96 @@ violation_of-renamed apart t all e cells values known =
     rw (is_single-renamed apart t e cells known, least_partner-renamed apart t all e cells values known)
 
 -- the violations of a tableau row stay the same
-pub violations-renamed : {V W : Type 0} {Known : V → Type 0} {name : V → W} {eq : V → V → Bool} {named_eq : W → W → Bool} (apart : KeepsApart Known name eq named_eq) (t : TableauRow V) (all : List (Entry V)) → HasKnownCells Known t → All (HasKnownValues Known) all → violations named_eq (renamed_tableau_row name t) (map (renamed_entry name) all) ≡ violations eq t all
-violations-renamed {Known = Known} {name} {eq} {named_eq} apart t all cells values =
+pub violating-renamed : {V W : Type 0} {Known : V → Type 0} {name : V → W} {eq : V → V → Bool} {named_eq : W → W → Bool} (apart : KeepsApart Known name eq named_eq) (t : TableauRow V) (all : List (Entry V)) → HasKnownCells Known t → All (HasKnownValues Known) all → violating named_eq (renamed_tableau_row name t) (map (renamed_entry name) all) ≡ violating eq t all
+violating-renamed {Known = Known} {name} {eq} {named_eq} apart t all cells values =
     listed-same name (violation_of eq t all) (violation_of named_eq (renamed_tableau_row name t) (map (renamed_entry name) all)) all (All-weaker (HasKnownValues Known) _ (λ e known. violation_of-renamed apart t all e cells values known) all values)
 
-violations_from-renamed : {V W : Type 0} {Known : V → Type 0} {name : V → W} {eq : V → V → Bool} {named_eq : W → W → Bool} (apart : KeepsApart Known name eq named_eq) (first : ℕ) (tableau : List (TableauRow V)) (all : List (Entry V)) → All (HasKnownCells Known) tableau → All (HasKnownValues Known) all → violations_from named_eq first (map (renamed_tableau_row name) tableau) (map (renamed_entry name) all) ≡ violations_from eq first tableau all
-violations_from-renamed apart first [] all cells values = refl
-violations_from-renamed {Known = Known} apart first (t ∷ rest) all cells values =
-    rw (violations-renamed apart t all (All-head (HasKnownCells Known) t rest cells) values, violations_from-renamed apart (first + 1) rest all (All-tail (HasKnownCells Known) t rest cells) values)
-
 -- the violations of a dependency stay the same
-pub dependency_violations-renamed : {V W : Type 0} {Known : V → Type 0} {name : V → W} {eq : V → V → Bool} {named_eq : W → W → Bool} (apart : KeepsApart Known name eq named_eq) (tableau : List (TableauRow V)) (all : List (Entry V)) → All (HasKnownCells Known) tableau → All (HasKnownValues Known) all → dependency_violations named_eq (map (renamed_tableau_row name) tableau) (map (renamed_entry name) all) ≡ dependency_violations eq tableau all
-dependency_violations-renamed apart tableau all cells values = violations_from-renamed apart 0 tableau all cells values
+pub violations-renamed : {V W : Type 0} {Known : V → Type 0} {name : V → W} {eq : V → V → Bool} {named_eq : W → W → Bool} (apart : KeepsApart Known name eq named_eq) (d : Dependency V) (all : List (Entry V)) → All (HasKnownCells Known) d.rows → All (HasKnownValues Known) all → violations named_eq (renamed_dependency name d) (map (renamed_entry name) all) ≡ violations eq d all
+violations-renamed {Known = Known} {name} {eq} {named_eq} apart d all cells values =
+    numbered-same (λ t. violating eq t all) (λ t. violating named_eq t (map (renamed_entry name) all)) (renamed_tableau_row name) d.rows
+    (All-weaker (HasKnownCells Known) (λ t. violating named_eq (renamed_tableau_row name t) (map (renamed_entry name) all) ≡ violating eq t all) (λ t here. violating-renamed apart t all here values) d.rows cells)
 
 -- ---- from the rows of a table
 
-pub values_at-renamed : {V W : Type 0} (name : V → W) (missing : V) (named_missing : W) (tuple : List V) (x : List ℕ) → HasAll x tuple → values_at named_missing (map name tuple) x ≡ map name (values_at missing tuple x)
-values_at-renamed name missing named_missing tuple [] inside = refl
-values_at-renamed name missing named_missing tuple (attribute ∷ rest) inside =
-    rw (get_or-map name tuple attribute missing named_missing (All-head (λ k. k < length tuple) attribute rest inside), values_at-renamed name missing named_missing tuple rest (All-tail (λ k. k < length tuple) attribute rest inside))
+consed-renamed : {V W : Type 0} (name : V → W) (one : Option V) (more : Option (List V)) → with_both (λ v vs. v ∷ vs) (option_map name one) (option_map (map name) more) ≡ option_map (map name) (with_both (λ v vs. v ∷ vs) one more)
+consed-renamed name None more = refl
+consed-renamed name (Some v) None = refl
+consed-renamed name (Some v) (Some vs) = refl
+
+pub values_at-renamed : {V W : Type 0} (name : V → W) (tuple : List V) (x : List ℕ) → values_at (map name tuple) x ≡ option_map (map name) (values_at tuple x)
+values_at-renamed name tuple [] = refl
+values_at-renamed name tuple (attribute ∷ rest) =
+    rw (slice_get-map name tuple attribute, values_at-renamed name tuple rest) (consed-renamed name (slice_get tuple attribute) (values_at tuple rest))
+
+both-renamed : {V W : Type 0} (name : V → W) (row : ℕ) (x : Option (List V)) (a : Option V)
+    → option_map (λ (sides : Sides W). record { x = sides.x; a = sides.a; row = row }) (with_both (λ x a. record { x = x; a = a }) (option_map (map name) x) (option_map name a))
+    ≡ option_map (renamed_entry name) (option_map (λ (sides : Sides V). record { x = sides.x; a = sides.a; row = row }) (with_both (λ x a. record { x = x; a = a }) x a))
+both-renamed name row None a = refl
+both-renamed name row (Some x) None = refl
+both-renamed name row (Some x) (Some a) = refl
 
 -- the entry of a renamed row is the renamed entry of the row
-pub entry_of-renamed : {V W : Type 0} (name : V → W) (missing : V) (named_missing : W) (x : List ℕ) (a : ℕ) (row : ℕ × List V) → HasSides x a row.1 → entry_of named_missing x a (renamed_row name row) ≡ renamed_entry name (entry_of missing x a row)
-entry_of-renamed name missing named_missing x a row sides =
-    rw (values_at-renamed name missing named_missing row.1 x sides.left, get_or-map name row.1 a missing named_missing sides.right)
+pub entry_of-renamed : {V W : Type 0} (name : V → W) (d : Dependency V) (row : ℕ × List V) → entry_of (renamed_dependency name d) (row.0, map name row.1) ≡ option_map (renamed_entry name) (entry_of d row)
+entry_of-renamed name d row =
+    rw (values_at-renamed name row.1 d.x, slice_get-map name row.1 d.a) (both-renamed name row.0 (values_at row.1 d.x) (slice_get row.1 d.a))
 
-pub entries-renamed : {V W : Type 0} (name : V → W) (missing : V) (named_missing : W) (x : List ℕ) (a : ℕ) (rows : List (ℕ × List V)) → All (λ row. HasSides x a row.1) rows → entries named_missing x a (map (renamed_row name) rows) ≡ map (renamed_entry name) (entries missing x a rows)
-entries-renamed name missing named_missing x a [] sides = refl
-entries-renamed name missing named_missing x a (row ∷ rest) sides =
-    rw (entry_of-renamed name missing named_missing x a row (All-head (λ row. HasSides x a row.1) row rest sides), entries-renamed name missing named_missing x a rest (All-tail (λ row. HasSides x a row.1) row rest sides))
+pub given-renamed : {X Y V W : Type 0} (h : X → Option V) (k : Y → Option W) (f : X → Y) (g : V → W) (xs : List X) → ((x : X) → k (f x) ≡ option_map g (h x)) → filter_map k (map f xs) ≡ map g (filter_map h xs)
+given-renamed h k f g [] same = refl
+given-renamed {V = V} {W} h k f g (x ∷ xs) same =
+    ap (λ o. cons_option o (filter_map k (map f xs))) (same x) ∙ one (h x) (given-renamed h k f g xs same)
+  where
+    one : (o : Option V) → filter_map k (map f xs) ≡ map g (filter_map h xs) → cons_option (option_map g o) (filter_map k (map f xs)) ≡ map g (cons_option o (filter_map h xs))
+    one None rest = rest
+    one (Some v) rest = ap (λ ws. g v ∷ ws) rest
 
-pub values_at-known : {V : Type 0} (Known : V → Type 0) (missing : V) (tuple : List V) (x : List ℕ) → All Known tuple → HasAll x tuple → All Known (values_at missing tuple x)
-values_at-known Known missing tuple [] known inside = All-nil Known
-values_at-known Known missing tuple (attribute ∷ rest) known inside =
-    All-cons Known (value_at missing tuple attribute) (values_at missing tuple rest) (known attribute missing (All-head (λ k. k < length tuple) attribute rest inside)) (values_at-known Known missing tuple rest known (All-tail (λ k. k < length tuple) attribute rest inside))
+pub entries-renamed : {V W : Type 0} (name : V → W) (d : Dependency V) (rows : List (ℕ × List V)) → entries (renamed_dependency name d) (renamed_rows name rows) ≡ map (renamed_entry name) (entries d rows)
+entries-renamed {V} name d rows = given-renamed (entry_of d) (entry_of (renamed_dependency name d)) (λ (row : ℕ × List V). (row.0, map name row.1)) (renamed_entry name) rows (entry_of-renamed name d)
+
+-- ---- known values
+
+known_at : {V : Type 0} (Known : V → Type 0) (tuple : List V) (a : ℕ) (v : V) → All Known tuple → slice_get tuple a ≡ Some v → Known v
+known_at Known tuple a v known is = subst Known (get_or_from_slice_get tuple a v v is) (known a v (slice_get_within tuple a v is))
+
+pub values_at-known : {V : Type 0} (Known : V → Type 0) (tuple : List V) (x : List ℕ) (values : List V) → All Known tuple → values_at tuple x ≡ Some values → All Known values
+values_at-known Known tuple [] values known is = let none : [] ≡ values = cc in subst (All Known) none (All-nil Known)
+values_at-known {V} Known tuple (attribute ∷ rest) values known is =
+    parts (slice_get tuple attribute) (values_at tuple rest) refl refl is (λ vs. values_at-known Known tuple rest vs known)
+  where
+    parts : (one : Option V) (more : Option (List V)) → slice_get tuple attribute ≡ one → values_at tuple rest ≡ more → with_both (λ v vs. v ∷ vs) one more ≡ Some values → ((vs : List V) → values_at tuple rest ≡ Some vs → All Known vs) → All Known values
+    parts None more has has_more is later = absurd (cc)
+    parts (Some v) None has has_more is later = absurd (cc)
+    parts (Some v) (Some vs) has has_more is later =
+        let same : v ∷ vs ≡ values = cc in
+        subst (All Known) same (All-cons Known v vs (known_at Known tuple attribute v known has) (later vs has_more))
+
+-- what is given of each member has a property that follows from the member's
+pub All-given : {X Y : Type 0} (P : X → Type 0) (Q : Y → Type 0) (h : X → Option Y) → ((x : X) (y : Y) → P x → h x ≡ Some y → Q y) → (xs : List X) → All P xs → All Q (filter_map h xs)
+All-given P Q h step [] all = All-nil Q
+All-given {Y = Y} P Q h step (x ∷ xs) all = one (h x) refl (All-given P Q h step xs (All-tail P x xs all))
+  where
+    one : (o : Option Y) → h x ≡ o → All Q (filter_map h xs) → All Q (cons_option o (filter_map h xs))
+    one None is rest = rest
+    one (Some y) is rest = All-cons Q y (filter_map h xs) (step x y (All-head P x xs all) is) rest
+
+sides_known : {V : Type 0} (Known : V → Type 0) (d : Dependency V) (tuple : List V) (sides : Sides V) → All Known tuple → sides_of d tuple ≡ Some sides → All Known sides.x × Known sides.a
+sides_known {V} Known d tuple sides known is = parts (values_at tuple d.x) (slice_get tuple d.a) refl refl is
+  where
+    parts : (x : Option (List V)) (a : Option V) → values_at tuple d.x ≡ x → slice_get tuple d.a ≡ a → with_both (λ x a. record { x = x; a = a }) x a ≡ Some sides → All Known sides.x × Known sides.a
+    parts None a has_x has_a is = absurd (cc)
+    parts (Some x) None has_x has_a is = absurd (cc)
+    parts (Some x) (Some a) has_x has_a is =
+        let same : record { x = x; a = a } ≡ sides = cc in
+        subst (λ (s : Sides V). All Known s.x × Known s.a) same (values_at-known Known tuple d.x x known has_x, known_at Known tuple d.a a known has_a)
 
 -- the entries of rows of known values have known values
-pub entries-known : {V : Type 0} (Known : V → Type 0) (missing : V) (x : List ℕ) (a : ℕ) (rows : List (ℕ × List V)) → All (λ row. All Known row.1) rows → All (λ row. HasSides x a row.1) rows → All (HasKnownValues Known) (entries missing x a rows)
-entries-known Known missing x a [] known sides = All-nil (HasKnownValues Known)
-entries-known Known missing x a (row ∷ rest) known sides =
-    let here : All Known row.1 = All-head (λ row. All Known row.1) row rest known in
-    let inside : HasSides x a row.1 = All-head (λ row. HasSides x a row.1) row rest sides in
-    All-cons (HasKnownValues Known) (entry_of missing x a row) (entries missing x a rest)
-    (record { x = values_at-known Known missing row.1 x here inside.left; a = here a missing inside.right })
-    (entries-known Known missing x a rest (All-tail (λ row. All Known row.1) row rest known) (All-tail (λ row. HasSides x a row.1) row rest sides))
+pub entries-known : {V : Type 0} (Known : V → Type 0) (d : Dependency V) (rows : List (ℕ × List V)) → HasKnownTuples Known rows → All (HasKnownValues Known) (entries d rows)
+entries-known {V} Known d rows known =
+    All-given (λ (row : ℕ × List V). All Known row.1) (HasKnownValues Known) (entry_of d)
+    (λ row e here is. let parts = sides_known Known d row.1 (sides_in e) here (entry_parts d row e is).sides in record { x = parts.0; a = parts.1 }) rows known
+
+-- the violations of a dependency over rows stay the same
+pub listing-renamed : {V W : Type 0} {Known : V → Type 0} {name : V → W} {eq : V → V → Bool} {named_eq : W → W → Bool} (apart : KeepsApart Known name eq named_eq) (d : Dependency V) (rows : List (ℕ × List V)) → All (HasKnownCells Known) d.rows → HasKnownTuples Known rows
+    → violations named_eq (renamed_dependency name d) (entries (renamed_dependency name d) (renamed_rows name rows)) ≡ violations eq d (entries d rows)
+listing-renamed {Known = Known} {name} {eq} {named_eq} apart d rows cells tuples =
+    ap (violations named_eq (renamed_dependency name d)) (entries-renamed name d rows) ∙ violations-renamed apart d (entries d rows) cells (entries-known Known d rows tuples)

@@ -1,12 +1,23 @@
 -- A map that keeps the known values apart changes no orphan.
-use Rattle.std.proofs.Common.{◌≡◌, ℕ, ◌+◌, Bool, true, false, cond, List, [], ◌∷◌, map, filter, refl, ap}
-use Rattle.std.specs.List.{All, list_any}
+use Rattle.std.proofs.Common.{◌≡◌, ℕ, ◌+◌, Bool, true, false, cond, List, [], ◌∷◌, map, filter, Option, None, Some, refl, ap, ◌∙◌}
+use Rattle.std.specs.Option.{option_map}
+use Rattle.std.specs.List.{All, list_any, filter_map}
 use Rattle.std.proofs.lemmas.List.Elements.{All-head, All-tail, All-nil, All-cons, All-weaker}
 use Rattle.cfd_semantics.specs.declared.inclusion.InclusionRow.{InclusionRow}
-use Rattle.cfd_semantics.specs.Tuple.{HasKeyAndPattern}
-use Rattle.cfd_semantics.specs.Orphan.{SideEntry, side_entry_of, side_entries, answers, is_orphan, orphans, orphans_from, inclusion_orphans}
-use Rattle.cfd_semantics.specs.Renaming.{KeepsApart, renamed_row, renamed_inclusion_row, renamed_side_entry, HasKnownConstants, HasKnownSide}
-use Rattle.cfd_semantics.proofs.Renamed.{same_values-renamed, values_at-renamed, values_at-known}
+use Rattle.cfd_semantics.specs.declared.inclusion.Inclusion.{Inclusion}
+use Rattle.cfd_semantics.specs.Tuple.{with_both, values_at}
+use Rattle.cfd_semantics.specs.Orphan.{SideEntry, side_entry_of, left_entries, right_entries, answers, is_orphan, orphaned, orphans}
+use Rattle.cfd_semantics.specs.Renaming.{KeepsApart, renamed_rows, renamed_inclusion_row, renamed_inclusion, HasKnownConstants, HasKnownTuples}
+use Rattle.cfd_semantics.proofs.SideLists.{side_parts}
+use Rattle.cfd_semantics.proofs.Numbers.{numbered-same}
+use Rattle.cfd_semantics.proofs.Renamed.{same_values-renamed, values_at-renamed, values_at-known, given-renamed, All-given}
+
+abbrev pub renamed_side_entry : {V W : Type 0} → (V → W) → SideEntry V → SideEntry W
+renamed_side_entry name e = record { key = map name e.key; pattern = map name e.pattern; row = e.row }
+
+pub record HasKnownSide {V : Type 0} (Known : V → Type 0) (e : SideEntry V) : Type 0 where
+  pub key : All Known e.key
+  pub pattern : All Known e.pattern
 
 answers-renamed : {V W : Type 0} {Known : V → Type 0} {name : V → W} {eq : V → V → Bool} {named_eq : W → W → Bool} (apart : KeepsApart Known name eq named_eq) (t : InclusionRow V) (left right : SideEntry V) → HasKnownConstants Known t → HasKnownSide Known left → HasKnownSide Known right → answers named_eq (renamed_inclusion_row name t) (renamed_side_entry name left) (renamed_side_entry name right) ≡ answers eq t left right
 answers-renamed apart t left right constants known beside =
@@ -32,35 +43,43 @@ rows-filtered name p q (e ∷ es) same =
     (kept-rows name e (filter q (map (renamed_side_entry name) es)) (filter p es) (p e) (rows-filtered name p q es (All-tail (λ left. q (renamed_side_entry name left) ≡ p left) e es same)))
 
 -- the orphans of a tableau row stay the same
-pub orphans-renamed : {V W : Type 0} {Known : V → Type 0} {name : V → W} {eq : V → V → Bool} {named_eq : W → W → Bool} (apart : KeepsApart Known name eq named_eq) (t : InclusionRow V) (lefts rights : List (SideEntry V)) → HasKnownConstants Known t → All (HasKnownSide Known) lefts → All (HasKnownSide Known) rights → orphans named_eq (renamed_inclusion_row name t) (map (renamed_side_entry name) lefts) (map (renamed_side_entry name) rights) ≡ orphans eq t lefts rights
-orphans-renamed {Known = Known} {name} {eq} {named_eq} apart t lefts rights constants known all =
+pub orphaned-renamed : {V W : Type 0} {Known : V → Type 0} {name : V → W} {eq : V → V → Bool} {named_eq : W → W → Bool} (apart : KeepsApart Known name eq named_eq) (t : InclusionRow V) (lefts rights : List (SideEntry V)) → HasKnownConstants Known t → All (HasKnownSide Known) lefts → All (HasKnownSide Known) rights → orphaned named_eq (renamed_inclusion_row name t) (map (renamed_side_entry name) lefts) (map (renamed_side_entry name) rights) ≡ orphaned eq t lefts rights
+orphaned-renamed {Known = Known} {name} {eq} {named_eq} apart t lefts rights constants known all =
     rows-filtered name (is_orphan eq t rights) (is_orphan named_eq (renamed_inclusion_row name t) (map (renamed_side_entry name) rights)) lefts
     (All-weaker (HasKnownSide Known) _ (λ left here. is_orphan-renamed apart t rights left constants all here) lefts known)
 
-orphans_from-renamed : {V W : Type 0} {Known : V → Type 0} {name : V → W} {eq : V → V → Bool} {named_eq : W → W → Bool} (apart : KeepsApart Known name eq named_eq) (first : ℕ) (tableau : List (InclusionRow V)) (lefts rights : List (SideEntry V)) → All (HasKnownConstants Known) tableau → All (HasKnownSide Known) lefts → All (HasKnownSide Known) rights → orphans_from named_eq first (map (renamed_inclusion_row name) tableau) (map (renamed_side_entry name) lefts) (map (renamed_side_entry name) rights) ≡ orphans_from eq first tableau lefts rights
-orphans_from-renamed apart first [] lefts rights constants known all = refl
-orphans_from-renamed {Known = Known} apart first (t ∷ rest) lefts rights constants known all =
-    rw (orphans-renamed apart t lefts rights (All-head (HasKnownConstants Known) t rest constants) known all, orphans_from-renamed apart (first + 1) rest lefts rights (All-tail (HasKnownConstants Known) t rest constants) known all)
-
 -- the orphans of an inclusion stay the same
-pub inclusion_orphans-renamed : {V W : Type 0} {Known : V → Type 0} {name : V → W} {eq : V → V → Bool} {named_eq : W → W → Bool} (apart : KeepsApart Known name eq named_eq) (tableau : List (InclusionRow V)) (lefts rights : List (SideEntry V)) → All (HasKnownConstants Known) tableau → All (HasKnownSide Known) lefts → All (HasKnownSide Known) rights → inclusion_orphans named_eq (map (renamed_inclusion_row name) tableau) (map (renamed_side_entry name) lefts) (map (renamed_side_entry name) rights) ≡ inclusion_orphans eq tableau lefts rights
-inclusion_orphans-renamed apart tableau lefts rights constants known all = orphans_from-renamed apart 0 tableau lefts rights constants known all
+pub orphans-renamed : {V W : Type 0} {Known : V → Type 0} {name : V → W} {eq : V → V → Bool} {named_eq : W → W → Bool} (apart : KeepsApart Known name eq named_eq) (i : Inclusion V) (lefts rights : List (SideEntry V)) → All (HasKnownConstants Known) i.rows → All (HasKnownSide Known) lefts → All (HasKnownSide Known) rights → orphans named_eq (renamed_inclusion name i) (map (renamed_side_entry name) lefts) (map (renamed_side_entry name) rights) ≡ orphans eq i lefts rights
+orphans-renamed {Known = Known} {name} {eq} {named_eq} apart i lefts rights constants known all =
+    numbered-same (λ t. orphaned eq t lefts rights) (λ t. orphaned named_eq t (map (renamed_side_entry name) lefts) (map (renamed_side_entry name) rights)) (renamed_inclusion_row name) i.rows
+    (All-weaker (HasKnownConstants Known) (λ t. orphaned named_eq (renamed_inclusion_row name t) (map (renamed_side_entry name) lefts) (map (renamed_side_entry name) rights) ≡ orphaned eq t lefts rights) (λ t here. orphaned-renamed apart t lefts rights here known all) i.rows constants)
 
 -- ---- from the rows of a table
 
--- the entry of a renamed row is the renamed entry of the row
-pub side_entries-renamed : {V W : Type 0} (name : V → W) (missing : V) (named_missing : W) (key pattern : List ℕ) (rows : List (ℕ × List V)) → All (λ row. HasKeyAndPattern key pattern row.1) rows → side_entries named_missing key pattern (map (renamed_row name) rows) ≡ map (renamed_side_entry name) (side_entries missing key pattern rows)
-side_entries-renamed name missing named_missing key pattern [] has = refl
-side_entries-renamed name missing named_missing key pattern (row ∷ rest) has =
-    let here : HasKeyAndPattern key pattern row.1 = All-head (λ row. HasKeyAndPattern key pattern row.1) row rest has in
-    rw (values_at-renamed name missing named_missing row.1 key here.has_key, values_at-renamed name missing named_missing row.1 pattern here.has_pattern, side_entries-renamed name missing named_missing key pattern rest (All-tail (λ row. HasKeyAndPattern key pattern row.1) row rest has))
+both-renamed : {V W : Type 0} (name : V → W) (row : ℕ) (key pattern : Option (List V))
+    → with_both (λ k p. record { key = k; pattern = p; row = row }) (option_map (map name) key) (option_map (map name) pattern)
+    ≡ option_map (renamed_side_entry name) (with_both (λ k p. record { key = k; pattern = p; row = row }) key pattern)
+both-renamed name row None pattern = refl
+both-renamed name row (Some key) None = refl
+both-renamed name row (Some key) (Some pattern) = refl
 
--- the entries of rows of known values have known values
-pub side_entries-known : {V : Type 0} (Known : V → Type 0) (missing : V) (key pattern : List ℕ) (rows : List (ℕ × List V)) → All (λ row. All Known row.1) rows → All (λ row. HasKeyAndPattern key pattern row.1) rows → All (HasKnownSide Known) (side_entries missing key pattern rows)
-side_entries-known Known missing key pattern [] known has = All-nil (HasKnownSide Known)
-side_entries-known Known missing key pattern (row ∷ rest) known has =
-    let here : HasKeyAndPattern key pattern row.1 = All-head (λ row. HasKeyAndPattern key pattern row.1) row rest has in
-    let values : All Known row.1 = All-head (λ row. All Known row.1) row rest known in
-    All-cons (HasKnownSide Known) (side_entry_of missing key pattern row) (side_entries missing key pattern rest)
-    (record { key = values_at-known Known missing row.1 key values here.has_key; pattern = values_at-known Known missing row.1 pattern values here.has_pattern })
-    (side_entries-known Known missing key pattern rest (All-tail (λ row. All Known row.1) row rest known) (All-tail (λ row. HasKeyAndPattern key pattern row.1) row rest has))
+-- the entry of a renamed row is the renamed entry of the row
+pub side_entry_of-renamed : {V W : Type 0} (name : V → W) (x xp : List ℕ) (row : ℕ × List V) → side_entry_of x xp (row.0, map name row.1) ≡ option_map (renamed_side_entry name) (side_entry_of x xp row)
+side_entry_of-renamed name x xp row =
+    rw (values_at-renamed name row.1 x, values_at-renamed name row.1 xp) (both-renamed name row.0 (values_at row.1 x) (values_at row.1 xp))
+
+side_entries-renamed : {V W : Type 0} (name : V → W) (x xp : List ℕ) (rows : List (ℕ × List V)) → filter_map (side_entry_of x xp) (renamed_rows name rows) ≡ map (renamed_side_entry name) (filter_map (side_entry_of x xp) rows)
+side_entries-renamed {V} name x xp rows = given-renamed (side_entry_of x xp) (side_entry_of x xp) (λ (row : ℕ × List V). (row.0, map name row.1)) (renamed_side_entry name) rows (side_entry_of-renamed name x xp)
+
+side_entries-known : {V : Type 0} (Known : V → Type 0) (x xp : List ℕ) (rows : List (ℕ × List V)) → HasKnownTuples Known rows → All (HasKnownSide Known) (filter_map (side_entry_of x xp) rows)
+side_entries-known {V} Known x xp rows known =
+    All-given (λ (row : ℕ × List V). All Known row.1) (HasKnownSide Known) (side_entry_of x xp)
+    (λ row e here is. let parts = side_parts x xp row e is in record { key = values_at-known Known row.1 x e.key here parts.key; pattern = values_at-known Known row.1 xp e.pattern here parts.pattern }) rows known
+
+-- the orphans of an inclusion over rows stay the same
+pub orphan_list-renamed : {V W : Type 0} {Known : V → Type 0} {name : V → W} {eq : V → V → Bool} {named_eq : W → W → Bool} (apart : KeepsApart Known name eq named_eq) (i : Inclusion V) (lefts rights : List (ℕ × List V)) → All (HasKnownConstants Known) i.rows → HasKnownTuples Known lefts → HasKnownTuples Known rights
+    → orphans named_eq (renamed_inclusion name i) (left_entries (renamed_inclusion name i) (renamed_rows name lefts)) (right_entries (renamed_inclusion name i) (renamed_rows name rights)) ≡ orphans eq i (left_entries i lefts) (right_entries i rights)
+orphan_list-renamed {Known = Known} {name} {eq} {named_eq} apart i lefts rights constants known all =
+    ap (λ es. orphans named_eq (renamed_inclusion name i) es (right_entries (renamed_inclusion name i) (renamed_rows name rights))) (side_entries-renamed name i.x i.xp lefts)
+    ∙ ap (orphans named_eq (renamed_inclusion name i) (map (renamed_side_entry name) (left_entries i lefts))) (side_entries-renamed name i.y i.yp rights)
+    ∙ orphans-renamed apart i (left_entries i lefts) (right_entries i rights) constants (side_entries-known Known i.x i.xp lefts known) (side_entries-known Known i.y i.yp rights all)

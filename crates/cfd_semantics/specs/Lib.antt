@@ -1,6 +1,9 @@
 pub mod Pattern
 pub mod Tuple
+pub mod Numbered
 pub mod Violation
 pub mod Orphan
 pub mod Satisfaction
+pub mod EntrySets
+pub mod Dirty
 pub mod Renaming

@@ -1,9 +1,5 @@
-//! The parts of an inclusion R1[X; Xp] in R2[Y; Yp], a conditional inclusion dependency.
+//! A conditional inclusion dependency R1[X; Xp] in R2[Y; Yp]: attributes of two tables, and a tableau of constants.
 
-ghost use Rattle.std.specs.Prelude.{All};
-ghost use Rattle.cfd_semantics.specs.Tuple.{HasKeyAndPattern};
-
-use crate::tuple::Row;
 use schema_core::List;
 
 /// A tableau row of an inclusion: a constant for each attribute of Xp, and for each of Yp.
@@ -13,12 +9,12 @@ pub struct InclusionRow<V> {
     pub yp: List<V>,
 }
 
-/// One side of an inclusion: the rows of its table, the attributes whose values are to be included, and those that have
-/// constants.
-#[derive(Drop)]
-pub struct Side<'a, V> {
-    pub rows: &'a [Row<V>],
-    pub key: &'a [usize],
-    pub pattern: &'a [usize],
-    ghost has_attributes: { All (λ row. HasKeyAndPattern key.now pattern.now row.1) rows.now },
+/// An inclusion: the attributes X and Xp of the left table, Y and Yp of the right one, and the rows of its tableau.
+#[derive(Debug, Drop)]
+pub struct Inclusion<V> {
+    pub x: List<usize>,
+    pub xp: List<usize>,
+    pub y: List<usize>,
+    pub yp: List<usize>,
+    pub rows: List<InclusionRow<V>>,
 }

@@ -3,17 +3,19 @@
 //! The programs here compare every row with every row. They are slow and plain, and each index is held against them.
 #![tactic(auto)]
 
+mod dependency;
 mod inclusion;
 mod orphan;
 mod pattern;
-mod scan;
 mod tuple;
+mod violation;
 
-pub use inclusion::{InclusionRow, Side};
-pub use orphan::{Orphan, inclusion_orphans, orphans};
-pub use pattern::{Pattern, TableauRow};
-pub use scan::{Violation, dependency_violations, violations};
+pub use dependency::{Dependency, TableauRow};
+pub use inclusion::{Inclusion, InclusionRow};
+pub use orphan::{orphaned, orphans};
+pub use pattern::Pattern;
 pub use tuple::Row;
+pub use violation::{Violation, violating, violations};
 
 #[cfg(test)]
 mod tests;

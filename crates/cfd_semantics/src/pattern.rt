@@ -11,13 +11,6 @@ pub enum Pattern<V> {
     NotIn(List<V>),
 }
 
-/// A tableau row of a dependency: a cell for each attribute of X, and one for A.
-#[derive(Debug, Drop)]
-pub struct TableauRow<V> {
-    pub x: List<Pattern<V>>,
-    pub a: Pattern<V>,
-}
-
 impl<V: PartialEq> Pattern<V> {
     ghost use Rattle.std.specs.Prelude.{◌≡◌};
     ghost use Rattle.cfd_semantics.specs.Pattern.{matches};

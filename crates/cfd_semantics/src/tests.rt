@@ -1,8 +1,5 @@
 //! The lists of two small tables, worked out by hand.
 
-ghost use Rattle.std.specs.Prelude.{All, IsTrue};
-ghost use Rattle.cfd_semantics.specs.Tuple.{HasAll, HasSides, HasKeyAndPattern};
-
 use super::*;
 use schema_core::List;
 use std::alloc::{AllocError, Global};
@@ -36,45 +33,22 @@ fn cell_of(alloc: Global, kind: char, values: &[usize]) -> Result<Pattern<usize>
     })
 }
 
-fn has_all(x: &[usize], tuple: &[usize]) -> bool
-    ensures { IsTrue result → HasAll x.now tuple.now }
-{
-    x.iter().all(|attribute| *attribute < tuple.len())
-}
-
-fn have_sides(rows: &[Row<usize>], x: &[usize], a: usize) -> bool
-    ensures { IsTrue result → All (λ row. HasSides x.now a row.1) rows.now }
-{
-    for row in rows {
-        if !has_all(x, row.1.as_slice()) || a >= row.1.as_slice().len() {
-            return false;
-        }
+fn found(row: u64, partner: u64) -> Violation {
+    Violation {
+        row,
+        partner: (partner > 0).then_some(partner),
     }
-    true
 }
 
-fn side_of<'a>(
-    rows: &'a [Row<usize>],
-    key: &'a [usize],
-    pattern: &'a [usize],
-) -> Option<Side<'a, usize>> {
-    for row in rows {
-        if !has_all(key, row.1.as_slice()) || !has_all(pattern, row.1.as_slice()) {
-            return None;
-        }
-    }
-    Some(Side { rows, key, pattern })
-}
-
-// What is listed of four cities, whose tuples are an area code and a city.
+// What is listed of four cities, whose tuples are an area code and a city. The last row has no city.
 fn listed(
     alloc: Global,
     x: &[usize],
     cells: &[(char, &[usize])],
     right: (char, &[usize]),
-) -> Result<List<(u64, Option<u64>)>, Fail> {
-    let table = table_of(alloc, &[[1, 10], [1, 11], [1, 12], [2, 10]])?;
-    let rows = table.as_slice();
+) -> Result<List<Violation>, Fail> {
+    let mut table = table_of(alloc, &[[1, 10], [1, 11], [1, 12], [2, 10]])?;
+    table.push((5, list_of(alloc, &[1])?))?;
     let mut left = List::new(alloc);
     for (kind, values) in cells {
         left.push(cell_of(alloc, *kind, values)?)?;
@@ -83,10 +57,12 @@ fn listed(
         x: left,
         a: cell_of(alloc, right.0, right.1)?,
     };
-    if !have_sides(rows, x, 1) {
-        return Err("an attribute is not there".into());
-    }
-    Ok(violations(alloc, rows, x, 1, &tableau_row)?)
+    let dependency = Dependency {
+        x: list_of(alloc, x)?,
+        a: 1,
+        rows: List::new(alloc),
+    };
+    Ok(violating(alloc, &dependency, &tableau_row, table.as_slice())?)
 }
 
 #[test]
@@ -94,25 +70,25 @@ fn lists_singles_and_least_partners(rt: HostRuntime) -> Result<(), Fail> {
     let alloc = rt.alloc();
 
     // A set on the left, and one on the right with two members in the group.
-    let found = listed(alloc, &[0], &[('+', &[1, 2])], ('+', &[10, 11]))?;
+    let list = listed(alloc, &[0], &[('+', &[1, 2])], ('+', &[10, 11]))?;
     assert_eq!(rt;
-        found.as_slice(),
-        [(1, Some(2)), (2, Some(1)), (3, None)].as_slice()
+        list.as_slice(),
+        [found(1, 2), found(2, 1), found(3, 0)].as_slice()
     );
 
     // Membership alone is asked.
-    let found = listed(alloc, &[0, 1], &[('=', &[1]), ('_', &[])], ('+', &[10, 11]))?;
-    assert_eq!(rt; found.as_slice(), [(3, None)].as_slice());
+    let list = listed(alloc, &[0, 1], &[('=', &[1]), ('_', &[])], ('+', &[10, 11]))?;
+    assert_eq!(rt; list.as_slice(), [found(3, 0)].as_slice());
 
     // No attribute on the left: all rows are one group, and most have several partners.
-    let found = listed(alloc, &[], &[], ('_', &[]))?;
+    let list = listed(alloc, &[], &[], ('_', &[]))?;
     assert_eq!(rt;
-        found.as_slice(),
-        [(1, Some(2)), (2, Some(1)), (3, Some(1)), (4, Some(2))].as_slice()
+        list.as_slice(),
+        [found(1, 2), found(2, 1), found(3, 1), found(4, 2)].as_slice()
     );
 
-    let found = listed(alloc, &[0], &[('-', &[1])], ('=', &[12]))?;
-    assert_eq!(rt; found.as_slice(), [(4, None)].as_slice());
+    let list = listed(alloc, &[0], &[('-', &[1])], ('=', &[12]))?;
+    assert_eq!(rt; list.as_slice(), [found(4, 0)].as_slice());
     Ok(())
 }
 
@@ -120,24 +96,22 @@ fn lists_singles_and_least_partners(rt: HostRuntime) -> Result<(), Fail> {
 fn numbers_the_tableau_rows(rt: HostRuntime) -> Result<(), Fail> {
     let alloc = rt.alloc();
     let table = table_of(alloc, &[[1, 10], [2, 10]])?;
-    let rows = table.as_slice();
-    let mut tableau = List::new(alloc);
+    let mut rows = List::new(alloc);
     for city in [10, 12] {
         let mut x = List::new(alloc);
         x.push(Pattern::Is(2))?;
-        tableau.push(TableauRow {
+        rows.push(TableauRow {
             x,
             a: Pattern::Is(city),
         })?;
     }
-    assert!(rt; have_sides(rows, &[0], 1));
-    let found = dependency_violations(alloc, rows, &[0], 1, tableau.as_slice())?;
-    let wanted = Violation {
-        tableau_row: 1,
-        row: 2,
-        partner: None,
+    let dependency = Dependency {
+        x: list_of(alloc, &[0])?,
+        a: 1,
+        rows,
     };
-    assert_eq!(rt; found.as_slice(), [wanted].as_slice());
+    let list = violations(alloc, &dependency, table.as_slice())?;
+    assert_eq!(rt; list.as_slice(), [(1, found(2, 0))].as_slice());
     Ok(())
 }
 
@@ -146,20 +120,21 @@ fn lists_rows_that_nothing_answers(rt: HostRuntime) -> Result<(), Fail> {
     let alloc = rt.alloc();
     let lefts = table_of(alloc, &[[1, 7], [2, 7], [3, 8]])?;
     let rights = table_of(alloc, &[[5, 1], [6, 2]])?;
-    let left = side_of(lefts.as_slice(), &[0], &[1]).ok_or("an attribute is not there")?;
-    let right = side_of(rights.as_slice(), &[1], &[0]).ok_or("an attribute is not there")?;
-    let mut tableau = List::new(alloc);
+    let mut rows = List::new(alloc);
     for constant in [9, 7] {
-        tableau.push(InclusionRow {
+        rows.push(InclusionRow {
             xp: list_of(alloc, &[constant])?,
             yp: list_of(alloc, &[5])?,
         })?;
     }
-    let found = inclusion_orphans(alloc, &left, &right, tableau.as_slice())?;
-    let wanted = Orphan {
-        tableau_row: 1,
-        row: 2,
+    let inclusion = Inclusion {
+        x: list_of(alloc, &[0])?,
+        xp: list_of(alloc, &[1])?,
+        y: list_of(alloc, &[1])?,
+        yp: list_of(alloc, &[0])?,
+        rows,
     };
-    assert_eq!(rt; found.as_slice(), [wanted].as_slice());
+    let list = orphans(alloc, &inclusion, lefts.as_slice(), rights.as_slice())?;
+    assert_eq!(rt; list.as_slice(), [(1, 2)].as_slice());
     Ok(())
 }

@@ -10,7 +10,8 @@ use Rattle.std.proofs.lemmas.List.{get_or-map, get_or_default, length-map, same_
 use Rattle.std.proofs.lemmas.List.Folds.{list_any_at, list_any_none}
 use Rattle.std.proofs.lemmas.Option.{unwrap_or-slice_get}
 use Rattle.std.proofs.lemmas.Slice.Eq.{bytes_eq-Decides}
-use Rattle.schema_core.specs.Schemas.{Admits, AreDistinct, admits, attr_place, names_of_attrs}
+use Rattle.schema_core.specs.Schemas.{Admits, admits, attr_place, names_of_attrs}
+use Rattle.schema_core.specs.Repeats.{AreDistinct}
 use Rattle.schema_core.specs.declared.limits.Limits.{Limits}
 use Rattle.schema_core.specs.declared.schema.Attr.{Attr}
 use Rattle.schema_core.specs.declared.schema.Domain.{Domain}

@@ -11,7 +11,8 @@ use Rattle.csv.specs.Writing.{default_writer, needs_byte, read_back, row_text}
 use Rattle.csv.specs.declared.parser.State.TheVariants as st
 use Rattle.csv.proofs.RoundTrip.{read-write}
 use Rattle.schema_core.specs.Names.{IsName}
-use Rattle.schema_core.specs.Schemas.{AreDistinct, IsValidAttr, IsValidTable, names_of_attrs}
+use Rattle.schema_core.specs.Repeats.{AreDistinct}
+use Rattle.schema_core.specs.Schemas.{IsValidAttr, IsValidTable, names_of_attrs}
 use Rattle.schema_core.specs.declared.limits.Limits.{Limits}
 use Rattle.schema_core.specs.declared.schema.Attr.{Attr}
 use Rattle.schema_core.specs.declared.schema.Table.{Table}

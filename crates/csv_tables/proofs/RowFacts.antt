@@ -1,11 +1,13 @@
 -- The cells of a row, one attribute at a time.
-use Rattle.std.proofs.Common.{◌≡◌, ◌<◌, ◌+◌, ◌∷◌, ◌++◌, ◌∙◌, [], ℕ, List, Option, Some, length, get_or, drop, refl, sym, ap, true, false, arith, append_assoc}
+use Rattle.std.proofs.Common.{◌≡◌, ◌<◌, ◌+◌, ◌∷◌, ◌++◌, ◌∙◌, [], ℕ, Bool, List, Option, Some, None, length, get_or, drop, refl, sym, ap, true, false, arith, append_assoc}
+use Rattle.std.specs.Prelude.{IfSome}
 use Rattle.std.proofs.lemmas.List.{at_drop_more, get_or-map, length-map}
 use Rattle.std.proofs.lemmas.Option.{slice_get-get_or}
 use Rattle.schema_core.specs.Schemas.{admits}
 use Rattle.schema_core.specs.declared.schema.Attr.{Attr}
 use Rattle.csv_tables.specs.Columns.{ArePlacesOf}
 use Rattle.csv_tables.specs.TableFiles.{column_place, domain_fault, field_of, row_of}
+use Rattle.csv_tables.specs.declared.fault.TableFault.{TableFault}
 use Rattle.csv_tables.specs.declared.fault.TableFault.TheVariants as fault
 
 module _ (attrs : List Attr) (header : List (List ℕ)) (places : List ℕ) (placed : ArePlacesOf places attrs header) (i : ℕ) (a : Attr) (p : ℕ)
@@ -50,3 +52,8 @@ module _ (attrs : List Attr) (header fields : List (List ℕ)) (at i : ℕ) (a :
   row_of-more row =
       at_drop_more (λ (rest : List Attr). row ++ row_of rest header fields) attrs i a inside
       ∙ rw (← this) (sym (append_assoc row (field_of header fields a.name ∷ []) _))
+
+-- what a refused cell tells is the fault that was looked for
+pub refusal-tells : (told : Option TableFault) (admitted : Bool) (why : TableFault) (found : Option TableFault) → (admitted ≡ false → found ≡ Some why) → IfSome told (λ f. (admitted ≡ false) × (f ≡ why)) → IfSome told (λ f. found ≡ Some f)
+refusal-tells None admitted why found further both = tt
+refusal-tells (Some f) admitted why found further both = further both.0 ∙ ap (λ (t : TableFault). Some t) (sym both.1)

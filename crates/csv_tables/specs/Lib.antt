@@ -1,4 +1,5 @@
 pub mod Records
 pub mod TableFiles
+pub mod Faults
 pub mod Columns
 pub mod WrittenFiles

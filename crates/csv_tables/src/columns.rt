@@ -1,12 +1,14 @@
 //! The header of a table file.
 
-ghost use Rattle.std.specs.Prelude.{◌≡◌, ◌≢◌, ◌<◌, ◌≤◌, ◌+◌, ℕ, List, [], Some, None, IfOk, IfErr, OnOk, length, map, true, false, take, drop, slice_index_or, All};
+ghost use Rattle.std.specs.Prelude.{◌≡◌, ◌<◌, ◌≤◌, ◌+◌, ℕ, List, [], Some, None, IfOk, OnOk, length, map, true, false, take, drop, slice_index_or, All};
 ghost use Rattle.std.specs.List.{list_all};
 ghost use Rattle.std.specs.Result.{result_err};
 ghost use Rattle.std.specs.Str.{is_utf8};
 ghost use Rattle.csv.specs.Records.{fields_of};
+ghost use Rattle.schema_core.specs.Faults.{UnlessMemory};
 ghost use Rattle.schema_core.specs.Schemas.{admits};
 ghost use Rattle.csv_tables.specs.Columns.{ArePlacesOf};
+ghost use Rattle.csv_tables.specs.Faults.{IsFirstFault, table_tells};
 ghost use Rattle.csv_tables.specs.TableFiles.{column_fault, column_place, domain_fault, header_fault, lacking_fault, record_fault, row_of, text_fault};
 ghost use Rattle.csv_tables.specs.declared.fault.TableFault.TheVariants as fault;
 
@@ -32,9 +34,8 @@ impl<'a> Columns<'a> {
         table: &'a Table,
         header: ByteRecord,
     ) -> Result<Columns<'a>, TableFault>
-        ensures ok { OnOk result (header_fault table.now (fields_of header) ≡ None) }
+        ensures fault { IsFirstFault (header_fault table.now (fields_of header)) result }
         ensures columns { IfOk result (λ columns. (columns.table.now ≡ table.now) × (columns.header ≡ header)) }
-        ensures refused { IfErr result (λ f. f ≢ fault.Memory → header_fault table.now (fields_of header) ≡ Some f) }
     {
         if !is_text(&header) {
             return Err(TableFault::NotUtf8 { at: 0 });
@@ -56,11 +57,9 @@ impl<'a> Columns<'a> {
         at: usize,
         fields: &ByteRecord,
     ) -> Result<Texts, TableFault>
-        ensures ok { OnOk result (record_fault self.now.table.now limits.now (fields_of self.now.header) at (fields_of fields.now) ≡ None) }
+        ensures fault { IsFirstFault (record_fault self.now.table.now limits.now (fields_of self.now.header) at (fields_of fields.now)) result }
         ensures row { IfOk result (λ row. row ≡ row_of self.now.table.now.attrs (fields_of self.now.header) (fields_of fields.now)) }
         ensures few { OnOk result (at ≤ limits.now.rows) }
-        ensures refused { IfErr result (λ f. f ≢ fault.Memory
-            → record_fault self.now.table.now limits.now (fields_of self.now.header) at (fields_of fields.now) ≡ Some f) }
     {
         check_fields(limits, self.header.len(), at, fields)?;
         self.cells(alloc, at, fields)
@@ -69,10 +68,8 @@ impl<'a> Columns<'a> {
     fn cells(&self, alloc: Global, at: usize, fields: &ByteRecord) -> Result<Texts, TableFault>
         requires width { length (fields_of fields.now) ≡ length (fields_of self.now.header) }
         requires text { list_all is_utf8 (fields_of fields.now) ≡ true }
-        ensures ok { OnOk result (domain_fault self.now.table.now.attrs (fields_of self.now.header) at (fields_of fields.now) ≡ None) }
+        ensures fault { IsFirstFault (domain_fault self.now.table.now.attrs (fields_of self.now.header) at (fields_of fields.now)) result }
         ensures row { IfOk result (λ row. row ≡ row_of self.now.table.now.attrs (fields_of self.now.header) (fields_of fields.now)) }
-        ensures refused { IfErr result (λ f. f ≢ fault.Memory
-            → domain_fault self.now.table.now.attrs (fields_of self.now.header) at (fields_of fields.now) ≡ Some f) }
     {
         let mut row = List::new(alloc);
         for (i, attr) in self.table.attrs.as_slice().iter().enumerate() {
@@ -86,8 +83,7 @@ impl<'a> Columns<'a> {
 // more, there is a fault: so a header of millions of columns is refused early.
 fn check_columns(alloc: Global, table: &Table, header: &ByteRecord) -> Result<(), TableFault>
     requires { list_all is_utf8 (fields_of header.now) ≡ true }
-    ensures ok { OnOk result (column_fault table.now [] (fields_of header.now) ≡ None) }
-    ensures refused { IfErr result (λ f. f ≢ fault.Memory → column_fault table.now [] (fields_of header.now) ≡ Some f) }
+    ensures { IsFirstFault (column_fault table.now [] (fields_of header.now)) result }
 {
     for place in 0..header.len() {
         check_column(alloc, table, header, place)?;
@@ -103,10 +99,8 @@ fn check_column(
 ) -> Result<(), TableFault>
     requires inside { place < length (fields_of header.now) }
     requires text { list_all is_utf8 (fields_of header.now) ≡ true }
-    ensures ok { OnOk result (column_fault table.now (take place (fields_of header.now)) (drop place (fields_of header.now))
-        ≡ column_fault table.now (take (place + 1) (fields_of header.now)) (drop (place + 1) (fields_of header.now))) }
-    ensures refused { IfErr result (λ f. f ≢ fault.Memory
-        → column_fault table.now (take place (fields_of header.now)) (drop place (fields_of header.now)) ≡ Some f) }
+    ensures { let left = column_fault table.now (take place (fields_of header.now)) (drop place (fields_of header.now)) in
+        UnlessMemory table_tells (λ _. left ≡ column_fault table.now (take (place + 1) (fields_of header.now)) (drop (place + 1) (fields_of header.now))) (λ f. left ≡ Some f) result }
 {
     let name = text_at(header, place);
     if table.attr_named(name).is_none() {
@@ -124,9 +118,8 @@ fn column_places(
     attrs: &[Attr],
     header: &ByteRecord,
 ) -> Result<Vec<usize>, TableFault>
-    ensures ok { OnOk result (lacking_fault attrs.now (fields_of header.now) ≡ None) }
+    ensures fault { IsFirstFault (lacking_fault attrs.now (fields_of header.now)) result }
     ensures places { IfOk result (λ places. ArePlacesOf places.items attrs.now (fields_of header.now)) }
-    ensures refused { IfErr result (λ f. f ≢ fault.Memory → lacking_fault attrs.now (fields_of header.now) ≡ Some f) }
 {
     let mut places = Vec::new(alloc);
     for attr in attrs {
@@ -136,9 +129,9 @@ fn column_places(
 }
 
 fn column_of(attr: &Attr, header: &ByteRecord) -> Result<usize, TableFault>
-    ensures found { IfOk result (λ place. column_place (fields_of header.now) attr.now.name ≡ Some place) }
+    ensures place { let place = column_place (fields_of header.now) attr.now.name in
+        UnlessMemory table_tells (λ found. place ≡ Some found) (λ f. (place ≡ None) × (f ≡ fault.HeaderLacks attr.now.name)) result }
     ensures inside { IfOk result (λ place. place < length (fields_of header.now)) }
-    ensures refused { IfErr result (λ f. f ≢ fault.Memory → (column_place (fields_of header.now) attr.now.name ≡ None) × (f ≡ fault.HeaderLacks attr.now.name)) }
 {
     match place_of(header, header.len(), attr.name.as_str()) {
         Some(place) => Ok(place),
@@ -184,9 +177,8 @@ fn cell(
     requires inside { place < length (fields_of fields.now) }
     requires text { list_all is_utf8 (fields_of fields.now) ≡ true }
     ensures value { IfOk result (λ text. text ≡ slice_index_or (fields_of fields.now) place []) }
-    ensures admitted { OnOk result (admits attr.now.domain (slice_index_or (fields_of fields.now) place []) ≡ true) }
-    ensures refused { IfErr result (λ f. f ≢ fault.Memory
-        → (admits attr.now.domain (slice_index_or (fields_of fields.now) place []) ≡ false) × (f ≡ fault.NotInDomain at attr.now.name)) }
+    ensures domain { let is_admitted = admits attr.now.domain (slice_index_or (fields_of fields.now) place []) in
+        UnlessMemory table_tells (λ _. is_admitted ≡ true) (λ f. (is_admitted ≡ false) × (f ≡ fault.NotInDomain at attr.now.name)) result }
 {
     let text = text_at(fields, place);
     if !attr.domain.admits(text) {

@@ -1,14 +1,15 @@
 //! Reading a table file.
 
-ghost use Rattle.std.specs.Prelude.{◌≡◌, ◌≢◌, ◌≤◌, Some, None, Ok, Err, IfOk, IfErr, OnOk, All, length, map};
+ghost use Rattle.std.specs.Prelude.{◌≡◌, ◌≤◌, IfOk, All, length, map};
 ghost use Rattle.csv.specs.Reading.{AreRecords, default_config, strip_bom};
 ghost use Rattle.csv.specs.Records.{fields_of};
 ghost use Rattle.csv.specs.declared.parser.State.TheVariants as st;
+ghost use Rattle.schema_core.specs.Faults.{IsUnlessMemory};
 ghost use Rattle.schema_core.specs.Limits.{AreLimits};
+ghost use Rattle.csv_tables.specs.Faults.{IsFirstFault, table_tells};
 ghost use Rattle.csv_tables.specs.Records.{file_records};
 ghost use Rattle.schema_core.specs.Rows.{IsRowOf};
 ghost use Rattle.csv_tables.specs.TableFiles.{records_fault, row_of, table_of};
-ghost use Rattle.csv_tables.specs.declared.fault.TableFault.TheVariants as fault;
 
 use crate::columns::Columns;
 use crate::fault::TableFault;
@@ -26,10 +27,7 @@ pub fn read_table(
     limits: &Limits,
 ) -> Result<List<Texts>, TableFault>
     requires { AreLimits limits.now }
-    ensures rows { IfOk result (λ rows. table_of table.now limits.now bytes.now ≡ Ok rows) }
-
-    // Only want of memory may come in place of the first fault.
-    ensures refused { IfErr result (λ f. f ≢ fault.Memory → table_of table.now limits.now bytes.now ≡ Err f) }
+    ensures exact { IsUnlessMemory table_tells (table_of table.now limits.now bytes.now) result }
 
     // What `table_of` reads are all records of the file: each is the next one, and after the last there is none.
     ensures records { AreRecords default_config st.StartRecord (strip_bom bytes.now) (file_records bytes.now) }
@@ -55,10 +53,8 @@ fn read_rows(
     mut records: FileRecords,
 ) -> Result<List<Texts>, TableFault>
     requires { AreLimits limits.now }
-    ensures ok { OnOk result (records_fault columns.now.table.now limits.now (fields_of columns.now.header) 1 records.entry ≡ None) }
+    ensures fault { IsFirstFault (records_fault columns.now.table.now limits.now (fields_of columns.now.header) 1 records.entry) result }
     ensures rows { IfOk result (λ rows. rows ≡ map (row_of columns.now.table.now.attrs (fields_of columns.now.header)) records.entry) }
-    ensures refused { IfErr result (λ f. f ≢ fault.Memory
-        → records_fault columns.now.table.now limits.now (fields_of columns.now.header) 1 records.entry ≡ Some f) }
     ensures valid { IfOk result (λ rows. All (IsRowOf columns.now.table.now.attrs limits.now.cell_bytes) rows) }
     ensures few { IfOk result (λ rows. length rows ≤ limits.now.rows) }
 {

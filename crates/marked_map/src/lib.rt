@@ -1,6 +1,11 @@
-// A hashed map whose marked keys come first, so that they can be gone through without the others.
-// Contracts see a list of pairs with distinct keys. A key is looked up in one counted probe, and no call
-// goes over the pairs.
+//! A hashed map whose marked keys come first, so that they can be gone through without the others.
+//!
+//! Order: a new key goes last, unmarked. Marking a pair swaps it with the first unmarked one, unmarking it with the last
+//! marked one, and a pair that is removed is filled by the last; all other pairs stay where they are.
+//! Cost: a key is looked up in one counted probe, which hashes it once. All other calls go by place, in constant time and
+//! without memory; no call goes over the pairs.
+//!
+//! Contracts see a list of pairs with distinct keys, and how many of them are marked.
 #![tactic(auto)]
 
 ghost use Rattle.std.specs.Prelude.{◌≡◌, ◌+◌, ◌-◌, ◌<◌, ◌≤◌, [], length, slice_get, IfSome, IfNone, IfOk, OnErr};
@@ -190,3 +195,5 @@ impl<K: Eq + Hash, V> MarkedMap<K, V> {
 
 #[cfg(test)]
 mod tests;
+#[cfg(test)]
+mod uses;

@@ -5,3 +5,4 @@ pub mod Zips
 pub mod TakenBack
 pub mod InStep
 pub mod OneTable
+pub mod PutBack

@@ -1,6 +1,7 @@
-pub mod FirstFound
+pub mod Firsts
 pub mod Repeats
 pub mod Passing
 pub mod Known
-pub mod Cells
+pub mod ValidCells
+pub mod ValidRules
 pub mod Joining

@@ -1,4 +1,8 @@
+pub mod Lookups
 pub mod Declarations
-pub mod Dependencies
+pub mod Counts
+pub mod Rules
 pub mod Faults
+pub mod Judged
 pub mod Books
+pub mod Satisfied

@@ -1,31 +1,36 @@
 //! The rule book.
 
-ghost use Rattle.std.specs.Prelude.{◌≡◌, ◌++◌, [], ◌∷◌, ◌≤◌, length, take, sum_by, OnOk, OnErr};
+ghost use Rattle.std.specs.Prelude.{◌≡◌, ◌++◌, [], ◌∷◌, OnOk, OnErr};
 ghost use Rattle.schema_core.specs.Limits.{AreLimits};
 ghost use Rattle.schema_core.specs.Schemas.{IsValidSchema};
-ghost use Rattle.rule_model.specs.Declarations.{dep_count, row_count, IsWritten};
-ghost use Rattle.rule_model.specs.Dependencies.{deps_of};
-ghost use Rattle.rule_model.specs.Faults.{Finds, fault_of, fault_of_cfd};
-ghost use Rattle.rule_model.specs.Books.{IsBook, book_deps, book_fault, with_decl};
+ghost use Rattle.rule_model.specs.Declarations.{IsWritten};
+ghost use Rattle.rule_model.specs.Rules.{with_rules_of};
+ghost use Rattle.rule_model.specs.Faults.{Finds};
+ghost use Rattle.rule_model.specs.Books.{IsBook, book_deps, book_cinds, book_edits, book_has_set, book_fault, with_decl};
 
-use crate::checks::{check_counts, check_names, check_rows};
-use crate::decl::{CfdDecl, Decl};
+use crate::checks::check;
+use crate::cind::Cind;
+use crate::counts::Counts;
+use crate::decl::Decl;
 use crate::dep::Dep;
+use crate::edit_rule::EditRule;
 use crate::fault::AddFault;
-use crate::numbering::append_deps;
+use crate::numbering::append_rules;
+use crate::rules::Rules;
+use crate::sets::any_has_set;
 use schema_core::{Limits, List, Schema};
-use std::alloc::Global;
+use std::alloc::{AllocError, Global};
 use std::marker::Model;
 
-/// Declarations without fault over a schema, and the dependencies that they stand for.
+/// Declarations without fault over a schema, and the rules that they stand for.
 #[derive(Debug, Drop)]
 pub struct RuleBook {
     alloc: Global,
     schema: Schema,
     limits: Limits,
     decls: List<Decl>,
-    deps: List<Dep>,
-    tableau_rows: u64,
+    rules: Rules,
+    counts: Counts,
 }
 
 impl Model for RuleBook {
@@ -35,7 +40,7 @@ impl Model for RuleBook {
 
     ghost view = { λ b. record { schema = b.schema; limits = b.limits; decls = b.decls } };
 
-    ghost invariant = { λ b. IsKept (record { schema = b.schema; limits = b.limits; decls = b.decls }) b.deps b.tableau_rows };
+    ghost invariant = { λ b. IsKept (record { schema = b.schema; limits = b.limits; decls = b.decls }) b.rules b.counts };
 }
 
 impl RuleBook {
@@ -50,8 +55,8 @@ impl RuleBook {
             schema,
             limits,
             decls: List::new(alloc),
-            deps: List::new(alloc),
-            tableau_rows: 0,
+            rules: Rules::none(alloc),
+            counts: Counts::none(),
         }
     }
 
@@ -63,17 +68,24 @@ impl RuleBook {
         ensures ok { OnOk result (self.new ≡ with_decl self.old decl) }
         ensures err { OnErr result (self.new ≡ self.old) }
     {
-        let rows = decl.tableau_rows() as u64;
-        join(
+        let counts = self.counts.with(&self.limits, &decl);
+        let earlier = self.decls.as_slice();
+        check(
             self.alloc,
             &self.schema,
             &self.limits,
+            earlier,
+            &counts,
+            &decl,
+        )?;
+        join(
+            self.alloc,
+            &self.schema,
             &mut self.decls,
-            &mut self.deps,
-            self.tableau_rows,
+            &mut self.rules,
             decl,
         )?;
-        self.tableau_rows += rows;
+        self.counts = counts;
         Ok(())
     }
 
@@ -97,81 +109,56 @@ impl RuleBook {
         ensures deps { result.now ≡ book_deps self.now }
         ensures valid { IsBook self.now }
     {
-        &self.deps
+        &self.rules.deps
+    }
+
+    /// The inclusion dependencies of all declarations, in order.
+    pub fn cinds(&self) -> &List<Cind>
+        ensures cinds { result.now ≡ book_cinds self.now }
+        ensures valid { IsBook self.now }
+    {
+        &self.rules.cinds
+    }
+
+    /// The editing rules of all declarations, in order.
+    pub fn edits(&self) -> &List<EditRule>
+        ensures edits { result.now ≡ book_edits self.now }
+        ensures valid { IsBook self.now }
+    {
+        &self.rules.edits
+    }
+
+    /// Whether a cell of a dependency is a set or the complement of one.
+    pub fn has_sets(&self) -> bool
+        ensures { result ≡ book_has_set self.now }
+    {
+        any_has_set(self.rules.deps.as_slice())
     }
 }
 
-/// Appends the dependencies of a declaration that has no fault. After a refusal some of them may stand at the end.
-fn append(
-    alloc: Global,
-    schema: &Schema,
-    limits: &Limits,
-    earlier: &[Decl],
-    deps: &mut List<Dep>,
-    tableau_rows: u64,
-    cfd: &CfdDecl,
-) -> Result<(), AddFault>
-    requires counted_deps { length deps.old ≡ sum_by dep_count earlier.now }
-    requires counted_rows { tableau_rows ≡ sum_by row_count earlier.now }
-    requires few_deps { length deps.old ≤ limits.now.deps }
-    requires few_rows { tableau_rows ≤ limits.now.tableau_rows }
-    ensures test { Finds result (fault_of_cfd schema.now limits.now earlier.now cfd.now) }
-    ensures ok { OnOk result (deps.new ≡ deps.old ++ deps_of schema.now (Decl.Cfd cfd.now)) }
-    ensures front { take (length deps.old) deps.new ≡ deps.old }
-{
-    let numbers = check_names(alloc, schema, earlier, cfd)?;
-    check_rows(schema, cfd, &numbers)?;
-    check_counts(limits, deps.as_slice().len() as u64, tableau_rows, cfd)?;
-    append_deps(
-        alloc,
-        cfd,
-        numbers.table,
-        &numbers.x,
-        numbers.y.as_slice(),
-        deps,
-    )?;
-    Ok(())
-}
-
-/// Appends the declaration and its dependencies, both or neither.
-#[tactic(auto, unfolding(crate::specs::Faults::fault_of))]
+/// Appends the declaration and its rules, both or neither.
 fn join(
     alloc: Global,
     schema: &Schema,
-    limits: &Limits,
     decls: &mut List<Decl>,
-    deps: &mut List<Dep>,
-    tableau_rows: u64,
+    rules: &mut Rules,
     decl: Decl,
-) -> Result<(), AddFault>
-    requires counted_deps { length deps.old ≡ sum_by dep_count decls.old }
-    requires counted_rows { tableau_rows ≡ sum_by row_count decls.old }
-    requires few_deps { length deps.old ≤ limits.now.deps }
-    requires few_rows { tableau_rows ≤ limits.now.tableau_rows }
-    ensures test { Finds result (fault_of schema.now limits.now decls.old decl) }
+) -> Result<(), AllocError>
     ensures decls { OnOk result (decls.new ≡ decls.old ++ decl ∷ []) }
-    ensures deps { OnOk result (deps.new ≡ deps.old ++ deps_of schema.now decl) }
+    ensures rules { OnOk result (rules.new ≡ with_rules_of schema.now decl rules.old) }
     ensures err_decls { OnErr result (decls.new ≡ decls.old) }
-    ensures err_deps { OnErr result (deps.new ≡ deps.old) }
+    ensures err_rules { OnErr result (rules.new ≡ rules.old) }
 {
-    let before = deps.as_slice().len();
-    let Decl::Cfd(cfd) = &decl;
-    let appended = append(
-        alloc,
-        schema,
-        limits,
-        decls.as_slice(),
-        deps,
-        tableau_rows,
-        cfd,
-    );
-    if let Err(fault) = appended {
-        deps.truncate(before);
-        return Err(fault);
+    let deps = rules.deps.as_slice().len();
+    let cinds = rules.cinds.as_slice().len();
+    let edits = rules.edits.as_slice().len();
+    if let Err(error) = append_rules(alloc, schema, &decl, rules) {
+        rules.truncate(deps, cinds, edits);
+        return Err(error);
     }
-    if decls.push(decl).is_err() {
-        deps.truncate(before);
-        return Err(AddFault::Memory);
+    if let Err(error) = decls.push(decl) {
+        rules.truncate(deps, cinds, edits);
+        return Err(error);
     }
     Ok(())
 }

@@ -1,8 +1,10 @@
 //! Declarations, as they are written: names are not looked up yet.
 
 ghost use Rattle.std.specs.Prelude.{◌≡◌};
-ghost use Rattle.rule_model.specs.Declarations.{name_of, row_count};
+ghost use Rattle.rule_model.specs.Declarations.{name_of};
 
+use crate::cind::CindRow;
+use crate::edit_rule::EditCell;
 use cfd_semantics::Pattern;
 use schema_core::{List, Text, Texts};
 
@@ -27,9 +29,39 @@ pub struct CfdDecl {
     pub rows: List<CfdRow>,
 }
 
+/// A conditional inclusion dependency. For each row of the left table that has the constants of a tableau
+/// row, the right table has a row with the same values and with the constants of the other side.
+#[derive(Debug, Drop)]
+pub struct CindDecl {
+    pub name: Text,
+    pub left: Text,
+    pub x: Texts,
+    pub xp: Texts,
+    pub right: Text,
+    pub y: Texts,
+    pub yp: Texts,
+    pub rows: List<CindRow>,
+}
+
+/// An editing rule. A row that agrees with a row of the master table and matches the pattern takes the
+/// value of the target from there.
+#[derive(Debug, Drop)]
+pub struct EditDecl {
+    pub name: Text,
+    pub table: Text,
+    pub master: Text,
+    pub x: Texts,
+    pub xm: Texts,
+    pub target: Text,
+    pub source: Text,
+    pub when: List<(Text, EditCell)>,
+}
+
 #[derive(Debug, Drop)]
 pub enum Decl {
     Cfd(CfdDecl),
+    Cind(CindDecl),
+    Edit(EditDecl),
 }
 
 impl Decl {
@@ -38,15 +70,8 @@ impl Decl {
     {
         match self {
             Decl::Cfd(cfd) => &cfd.name,
-        }
-    }
-
-    /// How many tableau rows it has.
-    pub fn tableau_rows(&self) -> usize
-        ensures { result ≡ row_count self.now }
-    {
-        match self {
-            Decl::Cfd(cfd) => cfd.rows.as_slice().len(),
+            Decl::Cind(cind) => &cind.name,
+            Decl::Edit(edit) => &edit.name,
         }
     }
 }

@@ -1,7 +1,7 @@
 //! Dependencies with one attribute on the right side, over the numbers of a schema.
 
-use cfd_semantics::TableauRow;
-use schema_core::{List, Text};
+use cfd_semantics::{Dependency, TableauRow};
+use schema_core::Text;
 
 /// A tableau row: a cell for each attribute of the left list, and one for the attribute on the right.
 pub type DepRow = TableauRow<Text>;
@@ -11,7 +11,5 @@ pub type DepRow = TableauRow<Text>;
 pub struct Dep {
     pub name: Text,
     pub table: usize,
-    pub x: List<usize>,
-    pub a: usize,
-    pub rows: List<DepRow>,
+    pub rule: Dependency<Text>,
 }

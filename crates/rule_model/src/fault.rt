@@ -16,14 +16,23 @@ pub enum RuleFault {
     /// The schema has no table of the name.
     #[error("the schema has no such table")]
     UnknownTable(Text),
+    /// The master table of an editing rule is not marked as one.
+    #[error("the table is not marked as a master table")]
+    NotMaster(Text),
     /// The table has no attribute of the name.
     #[error("the table has no such attribute")]
     UnknownAttr(Text),
     /// The attribute stands twice in one list.
     #[error("an attribute stands twice in one list")]
     RepeatedAttr(Text),
-    /// A tableau row has more or fewer cells than its list has attributes.
-    #[error("a tableau row and its attributes differ in number")]
+    /// An editing rule matches no column with the master table.
+    #[error("no column is matched with the master table")]
+    NoMatchColumn,
+    /// The target of an editing rule is one of the columns that it matches.
+    #[error("the target is one of the matched columns")]
+    TargetInX(Text),
+    /// Two lists that belong to one another, or a row and its attributes, differ in length.
+    #[error("two lists that belong to one another differ in length")]
     WidthMismatch,
     /// A constant, or a member of a set, is not in its attribute's domain.
     #[error("a constant is not in the domain of its attribute")]
@@ -31,6 +40,9 @@ pub enum RuleFault {
     /// A member stands twice in one set.
     #[error("a member stands twice in one set")]
     RepeatedConstant { attr: Text, value: Text },
+    /// The source of an editing rule may hold a text that its target, which is told, may not.
+    #[error("the source may hold what the target may not")]
+    DomainMismatch(Text),
     /// The book would pass its limit.
     #[error("there are too many: {0:?}")]
     TooMany(Limit),

@@ -1,5 +1,11 @@
-pub mod Lists
-pub mod Numbering
-pub mod Grouping
-pub mod Naming
-pub mod Adding
+pub mod PairFront
+pub mod RowLists
+pub mod DepRows
+pub mod Pairs
+pub mod CellsAgain
+pub mod HeadsAgain
+pub mod NamesAgain
+pub mod RulesAgain
+pub mod Numbered
+pub mod Judging
+pub mod DepsAgain

@@ -1,11 +1,9 @@
 //! Why a rule file is refused.
 
-ghost use Rattle.std.specs.Prelude.{◌≡◌};
-ghost use Rattle.rule_parser.specs.declared.fault.ParseFault.TheVariants.{Memory};
+ghost use Rattle.rule_parser.specs.RuleFiles.{rule_causes};
 
 use rule_model::RuleFault;
-use std::alloc::AllocError;
-use thiserror::Error;
+use schema_core::{LineCause, LineFault};
 
 /// What is wrong with a line of a rule file.
 #[derive(Debug, Drop)]
@@ -17,19 +15,17 @@ pub enum ParseCause {
     Rule(RuleFault),
 }
 
-/// Why a rule file is refused: the first faulty line, and its first cause.
-#[derive(Debug, Drop, Error)]
-pub enum ParseFault {
-    #[error("line {line}: {cause:?}")]
-    At { line: usize, cause: ParseCause },
-    #[error("out of memory")]
-    Memory,
-}
+/// The first faulty line of a rule file, and its first cause.
+pub type ParseFault = LineFault<ParseCause>;
 
-impl From<AllocError> for ParseFault {
-    ghost from_gives = { λ _ e. e ≡ Memory };
+impl LineCause for ParseCause {
+    ghost causes = { rule_causes };
 
-    fn from(_e: AllocError) -> ParseFault {
-        ParseFault::Memory
+    fn not_utf8() -> ParseCause {
+        ParseCause::NotUtf8
+    }
+
+    fn bad_line() -> ParseCause {
+        ParseCause::BadLine
     }
 }

@@ -1,15 +1,21 @@
-//! Rule files: their declarations, read in order into a rule book. One function reads one rule of the grammar,
-//! from tokens to a value and the tokens after it.
+//! Rule files, read in order into a rule book, and dependencies by themselves. One function reads one rule of the
+//! grammar off the front of the tokens of a line.
 #![tactic(auto)]
 
-mod declarations;
+mod alone;
+mod cells;
 pub mod fault;
 mod file;
-mod lines;
-mod tokens;
+pub mod heads;
+mod print;
+mod rows;
 
+pub use alone::parse_dep;
 pub use fault::{ParseCause, ParseFault};
 pub use file::parse_rules;
+pub use print::{print_dep, print_rules};
 
 #[cfg(test)]
 mod tests;
+#[cfg(test)]
+mod written_rules;

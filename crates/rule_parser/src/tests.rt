@@ -1,15 +1,15 @@
-//! Rule files with their rule book, or with the line and the cause of their refusal.
+//! Rule files and dependencies by themselves, with what they give, or with the line and the cause of their refusal.
 
 ghost use Rattle.schema_core.specs.Limits.{AreLimits};
 
 use super::*;
-use rule_model::RuleFault;
+use rule_model::{RuleBook, RuleFault};
 use schema_core::{Limits, parse_schema};
 use std::alloc::{AllocError, Global};
 use std::test::Fail;
 
 const SCHEMA: &[u8] =
-    b"table cust 'cust.csv'\nattr CC in '01', '44'\nattr AC\nattr zip\nattr city\n";
+    b"table cust 'cust.csv'\nattr CC in '01', '44'\nattr AC\nattr zip\nattr city\nmaster book 'book.csv'\nattr zip\nattr city\nattr CC in '01'\n";
 
 /// A cause, as a user reads it.
 fn told(alloc: Global, cause: &ParseCause) -> Result<String, AllocError> {
@@ -24,8 +24,11 @@ fn told_of_rule(alloc: Global, fault: &RuleFault) -> Result<String, AllocError> 
     match fault {
         RuleFault::DuplicateRule(name) => format!(in alloc; "DuplicateRule {}", name.as_str()),
         RuleFault::UnknownTable(name) => format!(in alloc; "UnknownTable {}", name.as_str()),
+        RuleFault::NotMaster(name) => format!(in alloc; "NotMaster {}", name.as_str()),
         RuleFault::UnknownAttr(name) => format!(in alloc; "UnknownAttr {}", name.as_str()),
         RuleFault::RepeatedAttr(name) => format!(in alloc; "RepeatedAttr {}", name.as_str()),
+        RuleFault::NoMatchColumn => format!(in alloc; "NoMatchColumn"),
+        RuleFault::TargetInX(name) => format!(in alloc; "TargetInX {}", name.as_str()),
         RuleFault::WidthMismatch => format!(in alloc; "WidthMismatch"),
         RuleFault::ConstantOutsideDomain { attr, value } => {
             format!(in alloc;
@@ -37,27 +40,35 @@ fn told_of_rule(alloc: Global, fault: &RuleFault) -> Result<String, AllocError> 
         RuleFault::RepeatedConstant { attr, value } => {
             format!(in alloc; "RepeatedConstant {} {}", attr.as_str(), value.as_str())
         }
+        RuleFault::DomainMismatch(name) => format!(in alloc; "DomainMismatch {}", name.as_str()),
         RuleFault::TooMany(limit) => format!(in alloc; "TooMany {limit:?}"),
     }
 }
 
-/// How many dependencies a rule file gives, or its refusal.
+/// A refusal, as a user reads it.
+fn refused(alloc: Global, fault: &ParseFault) -> Result<String, AllocError> {
+    match fault {
+        ParseFault::At { line, cause } => {
+            let cause = told(alloc, cause)?;
+            format!(in alloc; "{line} {}", cause.as_str())
+        }
+        ParseFault::Memory => Err(AllocError),
+    }
+}
+
+/// How many rules of each kind a rule file gives, or its refusal.
 fn outcome(alloc: Global, rules: &[u8], limits: &Limits) -> Result<String, Fail>
     requires { AreLimits limits.now }
 {
-    let Ok(schema) = parse_schema(alloc, SCHEMA, limits) else {
-        return Ok(String::from_str(alloc, "no schema")?);
-    };
+    let schema = parse_schema(alloc, SCHEMA, limits)?;
     match parse_rules(alloc, schema, rules, limits) {
         Ok(book) => {
             let deps = book.deps().as_slice().len();
-            Ok(format!(in alloc; "{deps}")?)
+            let cinds = book.cinds().as_slice().len();
+            let edits = book.edits().as_slice().len();
+            Ok(format!(in alloc; "{deps} {cinds} {edits}")?)
         }
-        Err(ParseFault::At { line, cause }) => {
-            let cause = told(alloc, &cause)?;
-            Ok(format!(in alloc; "{line} {}", cause.as_str())?)
-        }
-        Err(ParseFault::Memory) => Ok(String::from_str(alloc, "memory")?),
+        Err(fault) => Ok(refused(alloc, &fault)?),
     }
 }
 
@@ -65,16 +76,16 @@ fn outcome(alloc: Global, rules: &[u8], limits: &Limits) -> Result<String, Fail>
 fn rule_files(rt: HostRuntime) -> Result<(), Fail> {
     let limits = Limits::standard();
     for (rules, want) in [
-        ("", "0"),
-        ("# no rule\r\n \t\r\n", "0"),
-        ("cfd f cust: [CC, zip] -> [city]\nrow '44', _ || _", "1"),
+        ("", "0 0 0"),
+        ("# no rule\r\n \t\r\n", "0 0 0"),
+        ("cfd f cust: [CC, zip] -> [city]\nrow '44', _ || _", "1 0 0"),
         (
             "cfd f cust:[]->[AC,city]\n\n# rows\nrow||'131',not{'EDI'}\r\nrow || _, _\n",
-            "2",
+            "2 0 0",
         ),
         (
             "cfd f cust: [AC, city] -> [city]\nrow in {'131', '132'}, _ || in {'EDI', 'LEI'}\n",
-            "1",
+            "1 0 0",
         ),
         // Faults of a declaration stand at its head.
         (
@@ -130,7 +141,99 @@ fn rule_files(rt: HostRuntime) -> Result<(), Fail> {
             "cfd f cust: [] -> [city]\nrow || _\nrow || 'a\n",
             "3 BadLine",
         ),
-        ("cind c cust[AC; ] in cust[AC; ]\nrow ||\n", "1 BadLine"),
+        // Inclusion dependencies.
+        ("cind c cust[AC; ] in book[zip; ]\nrow ||\n", "0 1 0"),
+        (
+            "cind c cust[zip;CC]in book[zip;CC]\nrow'44'||'01'\nrow '01' || '01'",
+            "0 1 0",
+        ),
+        ("cind c cust[zip] in book[zip; ]\nrow ||\n", "1 BadLine"),
+        ("cind c cust[zip; ] in book[zip; ]\n", "1 BadLine"),
+        ("cind c cust[zip; ] in book[zip; ]\nrow || _\n", "2 BadLine"),
+        (
+            "cind c cust[zip; ] in book[x; ]\nrow || 'a'\nrow _ ||\n",
+            "3 BadLine",
+        ),
+        (
+            "cind c cust[zip, AC; zip] in book[x; ]\nrow ||\n",
+            "1 UnknownAttr x",
+        ),
+        (
+            "cind c cust[zip, AC; zip] in book[zip; ]\nrow ||\n",
+            "1 RepeatedAttr zip",
+        ),
+        (
+            "cind c cust[zip, AC; ] in book[zip; CC]\nrow || '02'\n",
+            "1 WidthMismatch",
+        ),
+        (
+            "cind c cust[zip; ] in book[zip; CC]\nrow || '01', '01'\n",
+            "1 WidthMismatch",
+        ),
+        (
+            "cind c cust[zip; ] in book[zip; CC]\nrow || '44'\n",
+            "1 ConstantOutsideDomain CC 44",
+        ),
+        // Editing rules.
+        ("edit e cust using book: zip=zip gives city=city\n", "0 0 1"),
+        (
+            "edit e cust using book:zip=zip,AC=city gives city=city when CC='44',AC!='1',zip=_",
+            "0 0 1",
+        ),
+        (
+            "edit e cust using book: zip=zip gives city=city when\n",
+            "1 BadLine",
+        ),
+        (
+            "edit e cust using book: zip=zip gives city=city when CC!=_\n",
+            "1 BadLine",
+        ),
+        (
+            "edit e cust using book: zip=zip, gives city=city\n",
+            "1 BadLine",
+        ),
+        (
+            "edit e cust using book: zip=zip gives city=city\nrow ||\n",
+            "2 BadLine",
+        ),
+        (
+            "edit e x using book: zip=zip gives city=city\nrow ||\n",
+            "1 UnknownTable x",
+        ),
+        (
+            "edit e cust using cust: zip=q gives city=city\n",
+            "1 NotMaster cust",
+        ),
+        (
+            "edit e cust using book: zip=q, z=zip gives y=x\n",
+            "1 UnknownAttr q",
+        ),
+        (
+            "edit e cust using book: gives=zip gives zip=zip\n",
+            "1 UnknownAttr gives",
+        ),
+        (
+            "edit e cust using book: gives gives=zip\n",
+            "1 UnknownAttr gives",
+        ),
+        (
+            "edit e cust using book: gives zip=zip when AC='1', AC!='1'\n",
+            "1 RepeatedAttr AC",
+        ),
+        ("edit e cust using book: gives zip=zip\n", "1 NoMatchColumn"),
+        (
+            "edit e cust using book: zip=zip gives zip=zip when CC='9'\n",
+            "1 TargetInX zip",
+        ),
+        (
+            "edit e cust using book: zip=zip gives CC=city when CC!='9'\n",
+            "1 ConstantOutsideDomain CC 9",
+        ),
+        (
+            "edit e cust using book: zip=zip gives CC=city\n",
+            "1 DomainMismatch CC",
+        ),
+        ("edit e cust using book: zip=zip gives CC=CC\n", "0 0 1"),
     ] {
         let got = outcome(rt.alloc(), rules.as_bytes(), &limits)?;
         assert_eq!(rt; got.as_str(), want, "at {rules}");
@@ -142,7 +245,7 @@ fn rule_files(rt: HostRuntime) -> Result<(), Fail> {
 fn limits_and_bytes(rt: HostRuntime) -> Result<(), Fail> {
     let rules = b"cfd f cust: [] -> [AC, city]\nrow || _, _\nrow || 'a', _\n";
     for (deps, tableau_rows, want) in [
-        (2, 2, "2"),
+        (2, 2, "2 0 0"),
         (1, 1, "1 TooMany Deps"),
         (2, 1, "1 TooMany TableauRows"),
     ] {
@@ -155,11 +258,64 @@ fn limits_and_bytes(rt: HostRuntime) -> Result<(), Fail> {
         assert_eq!(rt; got.as_str(), want);
     }
     let standard = Limits::standard();
-    let got = outcome(
-        rt.alloc(),
-        b"cfd f cust: [] -> [city]\nrow || _\n#\xff\n",
-        &standard,
-    )?;
-    assert_eq!(rt; got.as_str(), "3 NotUtf8");
+    let cases: [(&[u8], &str); 4] = [
+        (b"cfd f cust: [] -> [city]\nrow || _\n#\xff\n", "3 NotUtf8"),
+        (b"cfd f cust: [] -> [city]\nrow \xff\n", "1 BadLine"),
+        (
+            b"cfd f cust: [] -> [city]\nrow || _\nrow \xff\n",
+            "3 NotUtf8",
+        ),
+        (
+            b"cfd f cust: [] -> [x]\nrow || _\nrow \xff\n",
+            "1 UnknownAttr x",
+        ),
+    ];
+    for (rules, want) in cases {
+        let got = outcome(rt.alloc(), rules, &standard)?;
+        assert_eq!(rt; got.as_str(), want);
+    }
+    Ok(())
+}
+
+/// A dependency by itself: its number of cells on the left, or its refusal.
+fn alone(alloc: Global, book: &RuleBook, text: &str) -> Result<String, AllocError> {
+    match parse_dep(alloc, book, text) {
+        Ok(dep) => format!(in alloc; "{}", dep.rule.x.as_slice().len()),
+        Err(fault) => refused(alloc, &fault),
+    }
+}
+
+#[test]
+fn dependencies_by_themselves(rt: HostRuntime) -> Result<(), Fail> {
+    let limits = Limits::standard();
+    let schema = parse_schema(rt.alloc(), SCHEMA, &limits)?;
+    let book = parse_rules(rt.alloc(), schema, b"", &limits)?;
+    for (text, want) in [
+        ("cust: [CC, zip] -> [city] row '44', _ || not {'x'}", "2"),
+        ("cust:[]->[city]row||_", "0"),
+        ("", "1 BadLine"),
+        (" \t", "1 BadLine"),
+        ("# cust: [] -> [city] row || _", "1 BadLine"),
+        ("cust: [] -> [city] row || _\n", "1 BadLine"),
+        ("cust: [] -> [city] row || _\r", "1 BadLine"),
+        ("cust: [] -> [AC, city] row || _, _", "1 BadLine"),
+        ("cust: [] -> [city] row || _ row || 'x'", "1 BadLine"),
+        ("cust: [] -> [city]", "1 BadLine"),
+        ("x: [] -> [city] row || _", "1 UnknownTable x"),
+        ("cust: [x] -> [y] row _ || _", "1 UnknownAttr x"),
+        ("cust: [AC, AC] -> [city] row _ || _", "1 RepeatedAttr AC"),
+        ("cust: [AC] -> [CC] row || '9'", "1 WidthMismatch"),
+        (
+            "cust: [AC] -> [CC] row in {'1', '1'} || '9'",
+            "1 ConstantOutsideDomain CC 9",
+        ),
+        (
+            "cust: [AC] -> [CC] row in {'1', '1'} || '44'",
+            "1 RepeatedConstant AC 1",
+        ),
+    ] {
+        let got = alone(rt.alloc(), &book, text)?;
+        assert_eq!(rt; got.as_str(), want, "at {text}");
+    }
     Ok(())
 }

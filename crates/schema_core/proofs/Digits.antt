@@ -12,6 +12,9 @@ use Rattle.std.proofs.lemmas.List.{length-take}
 pub digit_from_value : (c : ℕ) → digit_value c < 10 → digit_value c + 48 ≡ c
 digit_from_value c small = grind (arith, nat_tests)
 
+pub digit_value-digit : (c : ℕ) → digit_value c < 10 → is_ascii_digit c ≡ true
+digit_value-digit c small = grind (arith, nat_tests)
+
 digit_value-small : (c : ℕ) → is_ascii_digit c ≡ true → digit_value c < 10
 digit_value-small c digit = grind (arith, nat_tests)
 
@@ -26,12 +29,13 @@ AllDigits-get_or (c ∷ cs) zero all lt = all.0
 AllDigits-get_or (c ∷ cs) (suc i) all lt = AllDigits-get_or cs i all.1 (omega arith)
 
 -- twelve digits stand for less than 10 ^ 12
+pub digits_value-short : (ds : List ℕ) → AllDigits 10 ds → length ds ≤ 12 → digits_value 10 ds < 1000000000000
+digits_value-short ds all few =
+    let power : 10 ^ length ds ≤ 10 ^ 12 = pow-le-pow_right (lit< tt) few in
+    omega (arith, digits_value-lt 10 ds all, power)
+
 pub digits_value-bound : (cs : List ℕ) (i : ℕ) → AllDigits 10 cs → length cs ≤ 12 → digits_value 10 (take i cs) < 1000000000000
-digits_value-bound cs i all few =
-    let small = digits_value-lt 10 (take i cs) (AllDigits-take cs i all) in
-    let short : length (take i cs) ≤ 12 = rw (length-take i cs) (omega arith) in
-    let power : 10 ^ length (take i cs) ≤ 10 ^ 12 = pow-le-pow_right (lit< tt) short in
-    omega (arith, small, power)
+digits_value-bound cs i all few = digits_value-short (take i cs) (AllDigits-take cs i all) (rw (length-take i cs) (omega arith))
 
 one_plus : (n : ℕ) → 1 + n ≡ suc n
 one_plus n = omega arith

@@ -1,7 +1,8 @@
 -- The names and texts among the tokens of a line, and among what a schema line says.
-use Rattle.std.proofs.Common.{inl, inr, ◌≡◌, ℕ, zero, suc, ◌+◌, ◌≤◌, Bool, true, false, cond, eqb, ◌&&◌, List, [], ◌∷◌, length, take, Option, Some, None, Result, Ok, Err, refl, sym, ◌∙◌, subst, arith}
+use Rattle.std.proofs.Common.{inl, inr, ◌≡◌, ℕ, zero, suc, ◌+◌, ◌<◌, ◌≤◌, Bool, true, false, cond, eqb, ◌&&◌, List, [], ◌∷◌, length, take, Option, Some, None, Result, Ok, Err, refl, sym, ◌∙◌, subst, arith}
 use Rattle.std.specs.Prelude.{not, IfOk}
 use Rattle.std.specs.Str.{IsUtf8, is_utf8}
+use Rattle.std.specs.Str.Parse.{digits_value}
 use Rattle.std.specs.Char.{is_ascii_alphabetic, is_ascii_digit}
 use Rattle.std.specs.List.{prefix_len, list_all, AllByRecursion}
 use Rattle.std.proofs.lemmas.Bool.{cases_Bool, cases_eq, cond-true, cond_both, and_from, le-leb, not-false}
@@ -15,7 +16,8 @@ use Rattle.schema_core.specs.declared.tokens.Token.{Token}
 use Rattle.schema_core.specs.declared.tokens.Token.TheVariants.{Sign}
 use Rattle.schema_core.specs.declared.tokens.LineTokens.{LineTokens}
 use Rattle.schema_core.specs.declared.tokens.LineTokens.TheVariants.{Passed, NotUtf8, BadTokens, Tokens}
-use Rattle.schema_core.specs.Tokens.{after_blanks, begins_blank, is_passed, text_from, mark_or, one_mark, two_marks, mark_at, name_len, token_at, is_word, with_token, and_then, tokens_from, line_tokens}
+use Rattle.schema_core.specs.Tokens.{after_blanks, begins_blank, is_passed, text_from, mark_or, one_mark, two_marks, mark_at, name_len, digits_len, token_at, is_word, with_token, and_then, tokens_from, line_tokens}
+use Rattle.schema_core.proofs.Digits.{AllDigits-front, digits_value-short}
 use Rattle.schema_core.proofs.Runs.{prefix_len-le}
 use Rattle.schema_core.proofs.Utf8.{IsUtf8-tail}
 use Rattle.schema_core.proofs.Texts.{text_from-IsUtf8}
@@ -38,8 +40,12 @@ name_front : (b : ℕ) (bytes : List ℕ) → is_ascii_alphabetic b ≡ true →
 name_front b bytes letter =
     let k = prefix_len is_name_byte (take 63 bytes) in
     let len : name_len (b ∷ bytes) ≡ suc k = cond-true (is_name_byte b) (1 + k) 0 (letter-is_name_byte b letter) ∙ one_plus k in
-    let short : length (take k bytes) ≤ 63 = omega (arith, length-take k bytes, prefix_len-le is_name_byte (take 63 bytes), length-take 63 bytes) in
-    rw len (and_from (is_ascii_alphabetic b && list_all is_name_byte (take k bytes)) _ (and_from (is_ascii_alphabetic b) _ letter (run_passes is_name_byte 63 bytes)) (le-leb _ 63 short))
+    let short : length (b ∷ take k bytes) ≤ 64 = omega (arith, length-take k bytes, prefix_len-le is_name_byte (take 63 bytes), length-take 63 bytes) in
+    rw len (and_from (is_ascii_alphabetic b && list_all is_name_byte (take k bytes)) _ (and_from (is_ascii_alphabetic b) _ letter (run_passes is_name_byte 63 bytes)) (le-leb (length (b ∷ take k bytes)) 64 short))
+
+number_front : (bytes : List ℕ) → digits_value 10 (take (digits_len bytes) bytes) < 1000000000000
+number_front bytes =
+    digits_value-short (take (digits_len bytes) bytes) (AllDigits-front 12 bytes) (omega (arith, length-take (digits_len bytes) bytes, prefix_len-le is_ascii_digit (take 12 bytes), length-take 12 bytes))
 
 mark_or-good : (mark : Option Mark) (left : List ℕ) (other : Option (Token × List ℕ)) (token : Token) (rest : List ℕ) → mark_or mark left other ≡ Some (token, rest) → (other ≡ Some (token, rest) → IsGoodToken token) → IsGoodToken token
 mark_or-good None left other token rest e further = further e
@@ -57,9 +63,9 @@ token_at-good (b ∷ bytes) rest token utf8 e =
     elim (cases_Bool (is_ascii_alphabetic b)) [
       | inl letter ↦ subst IsGoodToken (some_pair_parts _ _ _ _ (sym (token_at-letter b bytes letter) ∙ e)).0 (name_front b bytes letter)
       | inr no_letter ↦ elim (cases_eq b 48) [
-        | inl zero' ↦ subst IsGoodToken (some_pair_parts _ _ _ _ (sym (token_at-zero b bytes zero') ∙ e)).0 tt
+        | inl zero' ↦ subst IsGoodToken (some_pair_parts _ _ _ _ (sym (token_at-zero b bytes zero') ∙ e)).0 (omega arith)
         | inr no_zero ↦ elim (cases_Bool (is_ascii_digit b)) [
-          | inl digit ↦ subst IsGoodToken (some_pair_parts _ _ _ _ (sym (token_at-digit b bytes no_letter no_zero digit) ∙ e)).0 tt
+          | inl digit ↦ subst IsGoodToken (some_pair_parts _ _ _ _ (sym (token_at-digit b bytes no_letter no_zero digit) ∙ e)).0 (number_front (b ∷ bytes))
           | inr no_digit ↦ elim (cases_eq b 39) [
             | inl quote ↦ (let found = quoted_token-some (text_from bytes) token rest (sym (token_at-quote b bytes quote) ∙ e) in
                 subst IsGoodToken (sym found.2) (text_from-IsUtf8 [] bytes found.0 rest (IsUtf8-tail b bytes (omega arith) utf8) found.1).0)

@@ -2,8 +2,9 @@
 use Rattle.std.proofs.Common.{◌≡◌, ℕ, zero, suc, ◌<◌, ◌≤◌, List, [], ◌∷◌, ◌++◌, length, Option, Some, None, refl, ap, sym, ◌∙◌, arith}
 use Rattle.std.proofs.lemmas.Option.{none-some, same_Some}
 use Rattle.schema_core.specs.declared.tokens.Token.{Token}
-use Rattle.schema_core.specs.declared.tokens.Token.TheVariants.{Sign}
-use Rattle.schema_core.specs.declared.tokens.Mark.TheVariants.{Comma}
+use Rattle.schema_core.specs.declared.tokens.Token.TheVariants.{Name, Number, Quoted, Sign}
+use Rattle.schema_core.specs.declared.tokens.Mark.TheVariants.{Colon, Comma, OpenBracket, CloseBracket, Semicolon, Equals, Differs, Arrow, Bars, Underscore, Dot, OpenBrace, CloseBrace}
+use Rattle.schema_core.specs.Phrases.{after_mark}
 use Rattle.schema_core.specs.TokenLists.{Reader, behind_comma, in_front, or_others, list1_within, list1_at}
 
 -- the items that were read before, in front of the others
@@ -83,3 +84,23 @@ ListLeft-goes_on p whole read rest after behind x left shorter found more =
 pub ListLeft-more : {A : Type 0} (p : Reader A) → TakesToken p → (whole : Option (List A × List Token)) (read : List A) (rest after behind : List Token) (x : A) → ListLeft p whole read rest → p rest ≡ Some (x, after) → behind_comma after ≡ Some behind
     → ListLeft p whole (read ++ x ∷ []) behind
 ListLeft-more p takes whole read rest after behind x left found more = ListLeft-goes_on p whole read rest after behind x left (takes rest after x found) found more
+
+-- what follows a comma at the front
+pub comma-is : (tokens : List Token) → behind_comma tokens ≡ after_mark Comma tokens
+comma-is [] = refl
+comma-is (Sign Colon ∷ rest) = refl
+comma-is (Sign Comma ∷ rest) = refl
+comma-is (Sign OpenBracket ∷ rest) = refl
+comma-is (Sign CloseBracket ∷ rest) = refl
+comma-is (Sign Semicolon ∷ rest) = refl
+comma-is (Sign Equals ∷ rest) = refl
+comma-is (Sign Differs ∷ rest) = refl
+comma-is (Sign Arrow ∷ rest) = refl
+comma-is (Sign Bars ∷ rest) = refl
+comma-is (Sign Underscore ∷ rest) = refl
+comma-is (Sign Dot ∷ rest) = refl
+comma-is (Sign OpenBrace ∷ rest) = refl
+comma-is (Sign CloseBrace ∷ rest) = refl
+comma-is (Name name ∷ rest) = refl
+comma-is (Number n ∷ rest) = refl
+comma-is (Quoted text ∷ rest) = refl

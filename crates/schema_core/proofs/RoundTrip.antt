@@ -1,32 +1,39 @@
 -- Reading the canonical text of a schema gives the schema.
-use Rattle.std.proofs.Common.{◌≡◌, ◌≢◌, ℕ, zero, suc, ◌+◌, ◌<◌, ◌≤◌, Bool, true, false, eqb, leb, ◌&&◌, List, [], ◌∷◌, ◌++◌, length, Option, Some, None, refl, ap, sym, ◌∙◌, append_assoc, arith, length-append}
-use Rattle.std.specs.Prelude.{Ok, not, codes, map, IfSome, is_some}
+use Rattle.std.proofs.Common.{◌≡◌, ◌≢◌, ℕ, suc, ◌+◌, ◌<◌, ◌≤◌, Bool, true, false, eqb, leb, ◌&&◌, List, [], ◌∷◌, ◌++◌, length, Option, Some, None, refl, ap, sym, ◌∙◌, append_assoc, arith, length-append}
+use Rattle.std.specs.Prelude.{Ok, codes, map, IfSome, is_some}
+use Rattle.std.specs.Option.{option_map}
 use Rattle.std.specs.List.{flat_map, list_any, AllByRecursion}
 use Rattle.std.specs.Str.{bytes_eq}
-use Rattle.std.proofs.lemmas.Bool.{cond-true, cond-false, le-leb, lt-leb, le-ltb, ne_eqb, or_from, false_from_ne_true}
+use Rattle.std.proofs.lemmas.Bool.{cond-true, le-leb, lt-leb, le-ltb, ne_eqb, or_from, false_from_ne_true}
+use Rattle.std.proofs.lemmas.Grind.{flat_map-append}
 use Rattle.std.proofs.lemmas.List.{append-nil}
 use Rattle.std.proofs.lemmas.List.Elements.{recursion_from_All}
 use Rattle.schema_core.specs.Limits.{standard}
 use Rattle.schema_core.specs.Names.{IsName, IsFileName, IsConstant}
-use Rattle.schema_core.specs.TokenLists.{list1_within, list1_at, in_front, and_others, none_after}
-use Rattle.schema_core.specs.Schemas.{AreDistinct, IsValidDomain, IsValidAttr, IsValidTable, IsValidSchema, HasFewValues, HasFewAttrs, names_of_tables, names_of_attrs}
-use Rattle.schema_core.specs.SchemaLines.{is_file_name, is_constant, lone_file, value_at, values_of, named_table, attr_in, file_line, schema_line}
-use Rattle.schema_core.specs.SchemaFiles.{has_text, has_table, has_attr, has_twice, empty_draft, closed, schema_of, domain_fault, has_too_many_values, or_attr_limit, with_attr, reopened, add_line, counts_as_attr, or_later, attr_follows, read_line, at_line, read_lines, reads}
-use Rattle.schema_core.specs.Spelling.{line_text}
-use Rattle.schema_core.specs.SchemaText.{value_tokens, domain_tokens, attr_text, table_word, head_text, table_lines, file_lines, schema_lines, canonical}
-use Rattle.schema_core.specs.declared.tokens.Mark.TheVariants.{Comma}
+use Rattle.schema_core.specs.Repeats.{AreDistinct}
+use Rattle.schema_core.specs.Faults.{◌>>=◌}
+use Rattle.schema_core.specs.FileLines.{first_is, found_at}
+use Rattle.schema_core.specs.Groups.{in_turn, read_groups}
+use Rattle.schema_core.specs.Phrases.{is_constant, is_file_name, constant_at}
+use Rattle.schema_core.specs.Schemas.{IsValidDomain, IsValidAttr, IsValidTable, IsValidSchema, HasFewValues, HasFewAttrs, names_of_tables, names_of_attrs}
+use Rattle.schema_core.specs.SchemaLines.{head_at, domain_at, attr_at}
+use Rattle.schema_core.specs.SchemaFiles.{schema_causes, has_table, has_attr, has_no_value, has_value_twice, has_too_many_values, table_fault, attr_fault, unless, empty_schema, with_attr, with_table, add_attr, add_head, add_group, reads}
+use Rattle.schema_core.specs.Spelling.{file_text, tokens_in, IsReadable, name, text, spaced_list, comma_separated}
+use Rattle.schema_core.specs.SchemaText.{value_parts, domain_parts, attr_line, table_word, head_line, table_lines, file_lines, schema_lines, canonical}
+use Rattle.schema_core.specs.TokenLists.{list_at, none_after}
+use Rattle.schema_core.specs.declared.writing.Part.TheVariants.{Space}
 use Rattle.schema_core.specs.declared.tokens.Token.{Token}
-use Rattle.schema_core.specs.declared.tokens.Token.TheVariants.{Name, Quoted, Sign}
+use Rattle.schema_core.specs.declared.tokens.Token.TheVariants.{Name, Quoted}
 use Rattle.schema_core.specs.declared.schema.Domain.{Domain}
 use Rattle.schema_core.specs.declared.schema.Domain.TheVariants.{AnyText, Finite}
 use Rattle.schema_core.specs.declared.schema.Attr.{Attr}
 use Rattle.schema_core.specs.declared.schema.Table.{Table}
 use Rattle.schema_core.specs.declared.schema.Schema.{Schema}
-use Rattle.schema_core.specs.declared.schema_lines.SchemaLine.{SchemaLine}
-use Rattle.schema_core.specs.declared.schema_lines.SchemaLine.TheVariants as says
-use Rattle.schema_core.specs.declared.draft.Draft.{Draft}
-use Rattle.schema_core.proofs.DistinctLemmas.{bytes_eq-true}
-use Rattle.schema_core.proofs.SpelledLines.{IsSpelled, IsPlain, line_tokens-spelled, lines-file_text, IsPlain-line}
+use Rattle.schema_core.specs.declared.schema_lines.SchemaHead.TheVariants as head
+use Rattle.schema_core.specs.declared.line.Content.TheVariants.{Tokens}
+use Rattle.schema_core.proofs.RepeatLemmas.{bytes_eq-tells, first_repeated-none}
+use Rattle.schema_core.proofs.PartLemmas.{constants_again, constants_some, constants_good, AreGood, AreGood-spaced, IsLoose, IsLoose-nil, IsLoose-spaced, AreReadAgain, list_at-written, tokens_in-spaced}
+use Rattle.schema_core.proofs.WrittenFiles.{written_lines, Written, lines_of, group_at, IsGroup, Takes, read_groups-written}
 
 -- ---- distinct names are found to be distinct
 
@@ -36,9 +43,6 @@ AreDistinct-head x xs distinct = recursion_from_All (λ y. x ≢ y) xs (λ k d i
 AreDistinct-tail : {X : Type 0} (x : X) (xs : List X) → AreDistinct (x ∷ xs) → AreDistinct xs
 AreDistinct-tail x xs distinct = λ i j d lt inside. distinct (suc i) (suc j) d (omega arith) (omega arith)
 
-other_bytes : (xs ys : List ℕ) → xs ≢ ys → bytes_eq xs ys ≡ false
-other_bytes xs ys other = false_from_ne_true (bytes_eq xs ys) (λ t. other (bytes_eq-true xs ys t))
-
 at_middle : {X : Type 0} (P : List ℕ → Type 0) (f : X → List ℕ) (xs : List X) (x : X) (ys : List X) → AllByRecursion P (map f (xs ++ x ∷ ys)) → P (f x)
 at_middle P f [] x ys all = all.0
 at_middle P f (y ∷ xs) x ys all = at_middle P f xs x ys all.1
@@ -47,17 +51,10 @@ not_before : {X : Type 0} (f : X → List ℕ) (xs : List X) (x : X) (ys : List 
 not_before f [] x ys distinct = refl
 not_before f (y ∷ xs) x ys distinct =
     let other = at_middle (λ n. f y ≢ n) f xs x ys (AreDistinct-head (f y) (map f (xs ++ x ∷ ys)) distinct) in
-    or_from (bytes_eq (f y) (f x)) _ (other_bytes (f y) (f x) other) (not_before f xs x ys (AreDistinct-tail (f y) (map f (xs ++ x ∷ ys)) distinct))
+    or_from (bytes_eq (f y) (f x)) _ (false_from_ne_true (bytes_eq (f y) (f x)) (λ t. other (bytes_eq-tells.same (f y) (f x) t)))
+    (not_before f xs x ys (AreDistinct-tail (f y) (map f (xs ++ x ∷ ys)) distinct))
 
-none_same : (v : List ℕ) (vs : List (List ℕ)) → AllByRecursion (λ y. v ≢ y) vs → has_text vs v ≡ false
-none_same v [] others = refl
-none_same v (w ∷ vs) others = or_from (bytes_eq w v) (has_text vs v) (other_bytes w v (λ e. others.0 (sym e))) (none_same v vs others.1)
-
-once_each : (values : List (List ℕ)) → AreDistinct values → has_twice values ≡ false
-once_each [] distinct = refl
-once_each (v ∷ values) distinct = cond-false (has_text values v) true (has_twice values) (none_same v values (AreDistinct-head v values distinct)) ∙ once_each values (AreDistinct-tail v values distinct)
-
--- ---- what the canonical lines say
+-- ---- an attribute line is read again
 
 and_true : (a b : Bool) → a ≡ true → b ≡ true → (a && b) ≡ true
 and_true true b e f = f
@@ -66,251 +63,223 @@ and_true false b e f = e
 is_file_name-true : (file : List ℕ) → IsFileName file → is_file_name file ≡ true
 is_file_name-true file is = and_true (leb 1 (length file)) _ (le-leb 1 (length file) is.some) (le-leb (length file) 1024 is.bound)
 
-is_constant-true : (value : List ℕ) → IsConstant value → is_constant value ≡ true
-is_constant-true value is = le-leb (length value) 1024 is.bound
+values_read : (values : List (List ℕ)) → AllByRecursion IsConstant values → list_at constant_at (tokens_in (spaced_list value_parts values)) ≡ Some (values, [])
+values_read values constants =
+    ap (list_at constant_at) (tokens_in-spaced value_parts values ∙ sym (append-nil (tokens_in (comma_separated value_parts values))))
+    ∙ list_at-written constant_at value_parts values [] (constants_again values constants) (constants_some values) refl refl
 
-values_tokens-within : (room : ℕ) (v : List ℕ) (vs : List (List ℕ)) → AllByRecursion IsConstant (v ∷ vs) → length (value_tokens (v ∷ vs)) ≤ room → list1_within value_at room (value_tokens (v ∷ vs)) ≡ Some (v ∷ vs, [])
-values_tokens-within zero v [] constants enough = absurd (omega arith)
-values_tokens-within zero v (w ∷ vs) constants enough = absurd (omega arith)
-values_tokens-within (suc room) v [] constants enough =
-    ap (and_others (list1_within value_at room)) (cond-true (is_constant v) (Some (v, [])) None (is_constant-true v constants.0))
-values_tokens-within (suc room) v (w ∷ vs) constants enough =
-    ap (and_others (list1_within value_at room)) (cond-true (is_constant v) (Some (v, Sign Comma ∷ value_tokens (w ∷ vs))) None (is_constant-true v constants.0))
-    ∙ ap (in_front v) (values_tokens-within room w vs constants.1 (omega arith))
+domain_read : (domain : Domain) → IsValidDomain domain → domain_at (tokens_in (domain_parts domain)) ≡ Some (domain, [])
+domain_read AnyText valid = refl
+domain_read (Finite values) valid = ap (option_map (λ found. (Finite found.0, found.1))) (values_read values (recursion_from_All IsConstant values valid.constants))
 
-first_value : (v : List ℕ) (vs : List (List ℕ)) → IsConstant v → is_some (value_at (value_tokens (v ∷ vs))) ≡ true
-first_value v [] constant = ap is_some (cond-true (is_constant v) (Some (v, [])) None (is_constant-true v constant))
-first_value v (w ∷ vs) constant = ap is_some (cond-true (is_constant v) (Some (v, Sign Comma ∷ value_tokens (w ∷ vs))) None (is_constant-true v constant))
+attr_read : (attr : Attr) → IsValidDomain attr.domain → attr_at (tokens_in (attr_line attr)) ≡ Some (attr, [])
+unfolding attr_at
+attr_read attr valid = ap (option_map (λ (found : Domain × List Token). (record { name = attr.name; domain = found.0 }, found.1))) (domain_read attr.domain valid)
 
-values_of-value_tokens : (values : List (List ℕ)) → 1 ≤ length values → AllByRecursion IsConstant values → values_of (value_tokens values) ≡ Some values
-values_of-value_tokens [] some constants = absurd (omega arith)
-values_of-value_tokens (v ∷ vs) some constants =
-    ap none_after (cond-true (is_some (value_at (value_tokens (v ∷ vs)))) (list1_at value_at (value_tokens (v ∷ vs))) (Some ([], value_tokens (v ∷ vs))) (first_value v vs constants.0)
-    ∙ values_tokens-within (length (value_tokens (v ∷ vs))) v vs constants (omega arith))
+-- ---- and nothing is wrong with it
 
-attr_says : (name : List ℕ) (domain : Domain) → IsValidDomain domain → schema_line (Name (codes "attr") ∷ Name name ∷ domain_tokens domain) ≡ Some (says.Attr (record { name = name; domain = domain }))
-attr_says name AnyText valid = refl
-attr_says name (Finite values) valid = ap (attr_in name) (values_of-value_tokens values valid.some (recursion_from_All IsConstant values valid.constants))
+some_value : (domain : Domain) → IsValidDomain domain → has_no_value domain ≡ false
+some_value AnyText valid = refl
+some_value (Finite values) valid = ne_eqb (length values) 0 (λ e. omega (arith, valid.some))
 
-lone_file-says : (file : List ℕ) → IsFileName file → lone_file (Quoted file ∷ []) ≡ Some file
-lone_file-says file is = cond-true (is_file_name file) (Some file) None (is_file_name-true file is)
+once_each : (domain : Domain) → IsValidDomain domain → has_value_twice domain ≡ false
+once_each AnyText valid = refl
+once_each (Finite values) valid = ap is_some (first_repeated-none bytes_eq bytes_eq-tells values valid.distinct)
 
-head_says : (master : Bool) (name file : List ℕ) → IsFileName file → schema_line (Name (table_word master) ∷ Name name ∷ Quoted file ∷ []) ≡ Some (says.Table master name file)
-head_says true name file is = ap (named_table true name) (lone_file-says file is)
-head_says false name file is = ap (named_table false name) (lone_file-says file is)
+few_values : (domain : Domain) → HasFewValues domain → has_too_many_values standard domain ≡ false
+few_values AnyText few = refl
+few_values (Finite values) few = le-ltb 64 (length values) few
 
-rules_says : (file : List ℕ) → IsFileName file → schema_line (Name (codes "rules") ∷ Quoted file ∷ []) ≡ Some (says.Rules file)
-rules_says file is = ap (file_line (λ f. says.Rules f)) (lone_file-says file is)
-
-script_says : (file : List ℕ) → IsFileName file → schema_line (Name (codes "script") ∷ Quoted file ∷ []) ≡ Some (says.Script file)
-script_says file is = ap (file_line (λ f. says.Script f)) (lone_file-says file is)
-
--- ---- what they are spelled of
-
-values_spelled : (values : List (List ℕ)) → AllByRecursion IsConstant values → AllByRecursion IsSpelled (value_tokens values)
-values_spelled [] constants = tt
-values_spelled (v ∷ []) constants = (constants.0.utf8, tt)
-values_spelled (v ∷ w ∷ values) constants = (constants.0.utf8, (tt, values_spelled (w ∷ values) constants.1))
-
-domain_spelled : (domain : Domain) → IsValidDomain domain → AllByRecursion IsSpelled (domain_tokens domain)
-domain_spelled AnyText valid = tt
-domain_spelled (Finite values) valid = (refl, values_spelled values (recursion_from_All IsConstant values valid.constants))
-
-attr_spelled : (attr : Attr) → IsValidAttr attr → AllByRecursion IsSpelled (Name attr.name ∷ domain_tokens attr.domain)
-attr_spelled attr valid = (valid.name, domain_spelled attr.domain valid.domain)
-
-table_word-IsName : (master : Bool) → IsName (table_word master)
-table_word-IsName true = refl
-table_word-IsName false = refl
-
--- ---- one line read
-
--- a canonical line is read as what its tokens say
-read_spelled : (number : ℕ) (draft next : Draft) (word : List ℕ) (tokens : List Token) (line : SchemaLine) (others : List (List ℕ)) → IsName word → AllByRecursion IsSpelled tokens → schema_line (Name word ∷ tokens) ≡ Some line
-    → add_line standard draft (attr_follows others) (Some line) ≡ Ok next → read_lines standard number draft (line_text (Name word ∷ tokens) ∷ others) ≡ read_lines standard (number + 1) next others
-unfolding read_lines
-read_spelled number draft next word tokens line others is_name' spelled says_line added =
-    ap (λ r. at_line number r (λ n. read_lines standard (number + 1) n others))
-    (ap (read_line standard draft (attr_follows others)) (line_tokens-spelled word tokens is_name' spelled) ∙ ap (add_line standard draft (attr_follows others)) says_line ∙ added)
-
-attr_counts : (attr : Attr) (others : List (List ℕ)) → IsValidAttr attr → attr_follows (attr_text attr ∷ others) ≡ true
-unfolding attr_follows
-attr_counts attr others valid =
-    ap (λ t. or_later (counts_as_attr t) (attr_follows others)) (line_tokens-spelled (codes "attr") (Name attr.name ∷ domain_tokens attr.domain) refl (attr_spelled attr valid))
-
-not_empty : {X : Type 0} (xs : List X) → 1 ≤ length xs → length xs ≡ 0 → ⊥
-not_empty xs some e = absurd (omega arith)
-
-domain_fine : (domain : Domain) → IsValidDomain domain → domain_fault domain ≡ None
-domain_fine AnyText valid = refl
-domain_fine (Finite values) valid = cond-false (eqb (length values) 0) _ _ (ne_eqb (length values) 0 (not_empty values valid.some)) ∙ cond-false (has_twice values) _ _ (once_each values valid.distinct)
-
-few_fine : (domain : Domain) → HasFewValues domain → has_too_many_values standard domain ≡ false
-few_fine AnyText few = refl
-few_fine (Finite values) few = le-ltb 64 (length values) few
-
--- ---- the attributes of a table
+attr_fine : (attrs : List Attr) (attr : Attr) (later : List Attr) → IsValidAttr attr → HasFewValues attr.domain → AreDistinct (names_of_attrs (attrs ++ attr ∷ later)) → length (attrs ++ attr ∷ later) ≤ 64 → attr_fault standard attrs attr ≡ None
+attr_fine attrs attr later valid few distinct fits =
+    let below : length attrs < 64 = omega (arith, length-append attrs (attr ∷ later)) in
+    let other : has_attr attrs attr.name ≡ false = not_before (λ (a : Attr). a.name) attrs attr later distinct in
+    let few_attrs : leb 64 (length attrs) ≡ false = lt-leb 64 (length attrs) below in
+    rw (other, some_value attr.domain valid.domain, once_each attr.domain valid.domain, few_attrs, few_values attr.domain few) refl
 
 abbrev with_attrs : Table → List Attr → Table
 with_attrs table attrs = record table { attrs = attrs }
 
-abbrev draft_at : List Table → Table → Option (List ℕ) → Option (List ℕ) → Draft
-draft_at tables table rules script = record { tables = tables; latest = Some table; rules = rules; script = script }
+attr_added : (number : ℕ) (table : Table) (attr : Attr) (later : List Attr) → IsValidAttr attr → HasFewValues attr.domain → AreDistinct (names_of_attrs (table.attrs ++ attr ∷ later)) → length (table.attrs ++ attr ∷ later) ≤ 64
+    → add_attr standard table (record { number = number; content = Tokens (tokens_in (attr_line attr)) }) ≡ Ok (with_attr table attr)
+unfolding add_attr
+attr_added number table attr later valid few distinct fits =
+    ap (λ found. found_at schema_causes number (none_after found) >>= λ a. unless (attr_fault standard table.attrs a) number (with_attr table a)) (attr_read attr valid.domain)
+    ∙ ap (λ found. unless found number (with_attr table attr)) (attr_fine table.attrs attr later valid few distinct fits)
 
-attr_added : (table : Table) (attr : Attr) (later : List Attr) → IsValidAttr attr → HasFewValues attr.domain → AreDistinct (names_of_attrs (table.attrs ++ attr ∷ later)) → length (table.attrs ++ attr ∷ later) ≤ 64
-    → with_attr standard table attr ≡ Ok (with_attrs table (table.attrs ++ attr ∷ []))
-attr_added table attr later valid few distinct fits =
-    let below : length table.attrs < 64 = omega (arith, length-append table.attrs (attr ∷ later)) in
-    cond-false (has_attr table.attrs attr.name) _ _ (not_before (λ (a : Attr). a.name) table.attrs attr later distinct)
-    ∙ ap (or_attr_limit standard table attr) (domain_fine attr.domain valid.domain)
-    ∙ cond-false (leb 64 (length table.attrs)) _ _ (lt-leb 64 (length table.attrs) below) ∙ cond-false (has_too_many_values standard attr.domain) _ _ (few_fine attr.domain few)
+attrs_added : (number : ℕ) (table : Table) (attrs : List Attr) → AllByRecursion IsValidAttr attrs → AllByRecursion (λ (a : Attr). HasFewValues a.domain) attrs → AreDistinct (names_of_attrs (table.attrs ++ attrs)) → length (table.attrs ++ attrs) ≤ 64
+    → in_turn (add_attr standard) table (written_lines number (map attr_line attrs)) ≡ Ok (with_attrs table (table.attrs ++ attrs))
+attrs_added number table [] valid few distinct fits = ap (λ new. Ok (with_attrs table new)) (sym (append-nil table.attrs))
+attrs_added number table (attr ∷ attrs) valid few distinct fits =
+    let regroup : (table.attrs ++ attr ∷ []) ++ attrs ≡ table.attrs ++ attr ∷ attrs = append_assoc table.attrs (attr ∷ []) attrs in
+    ap (λ r. r >>= λ next. in_turn (add_attr standard) next (written_lines (number + 1) (map attr_line attrs))) (attr_added number table attr attrs valid.0 few.0 distinct fits)
+    ∙ attrs_added (number + 1) (with_attr table attr) attrs valid.1 few.1 (rw regroup distinct) (rw regroup fits)
+    ∙ ap (λ new. Ok (with_attrs table new)) regroup
 
-attr_step : (tables : List Table) (table : Table) (rules script : Option (List ℕ)) (attr : Attr) (follows : Bool) (next : Table) → with_attr standard table attr ≡ Ok next → add_line standard (draft_at tables table rules script) follows (Some (says.Attr attr)) ≡ Ok (draft_at tables next rules script)
-unfolding add_line
-attr_step tables table rules script attr follows next added = ap (reopened (draft_at tables table rules script)) added
+-- ---- tables
 
-record AttrsRead (number : ℕ) (tables : List Table) (table : Table) (rules script : Option (List ℕ)) (attrs : List Attr) (others : List (List ℕ)) : Type 0 where
-  last : ℕ
-  same : read_lines standard number (draft_at tables table rules script) (map attr_text attrs ++ others) ≡ read_lines standard last (draft_at tables (with_attrs table (table.attrs ++ attrs)) rules script) others
+abbrev table_group : Table → Written
+table_group table = record { head = head_line table; members = map attr_line table.attrs }
 
-attrs_read : (number : ℕ) (tables : List Table) (table : Table) (rules script : Option (List ℕ)) (attrs : List Attr) (others : List (List ℕ)) → AllByRecursion IsValidAttr attrs → AllByRecursion (λ (a : Attr). HasFewValues a.domain) attrs
-    → AreDistinct (names_of_attrs (table.attrs ++ attrs)) → length (table.attrs ++ attrs) ≤ 64 → AttrsRead number tables table rules script attrs others
-attrs_read number tables table rules script [] others valid few distinct fits =
-    record { last = number; same = ap (λ (new : List Attr). read_lines standard number (draft_at tables (with_attrs table new) rules script) others) (sym (append-nil table.attrs)) }
-attrs_read number tables table rules script (attr ∷ attrs) others valid few distinct fits =
-    let next = with_attrs table (table.attrs ++ attr ∷ []) in
-    let regroup : next.attrs ++ attrs ≡ table.attrs ++ attr ∷ attrs = append_assoc table.attrs (attr ∷ []) attrs in
-    let further = attrs_read (number + 1) tables next rules script attrs others valid.1 few.1 (rw regroup distinct) (rw regroup fits) in
-    let first = read_spelled number (draft_at tables table rules script) (draft_at tables next rules script) (codes "attr") (Name attr.name ∷ domain_tokens attr.domain) (says.Attr attr) (map attr_text attrs ++ others) refl (attr_spelled attr valid.0)
-    (attr_says attr.name attr.domain valid.0.domain) (attr_step tables table rules script attr (attr_follows (map attr_text attrs ++ others)) next (attr_added table attr attrs valid.0 few.0 distinct fits)) in
-    record { last = further.last; same = first ∙ further.same ∙ ap (λ (new : List Attr). read_lines standard further.last (draft_at tables (with_attrs table new) rules script) others) regroup }
+head_read : (master : Bool) (word file : List ℕ) → IsFileName file → head_at (Name (table_word master) ∷ Name word ∷ Quoted file ∷ []) ≡ Some (head.Table master word file, [])
+unfolding head_at
+head_read true word file is = rw (is_file_name-true file is) refl
+head_read false word file is = rw (is_file_name-true file is) refl
 
--- ---- the tables
+attrs_there : (number : ℕ) (attrs : List Attr) → 1 ≤ length attrs → eqb (length (written_lines number (map attr_line attrs))) 0 ≡ false
+attrs_there number [] some = absurd (omega arith)
+attrs_there number (attr ∷ attrs) some = ne_eqb _ 0 (λ e. omega arith)
 
-attrs_follow : (attrs : List Attr) (others : List (List ℕ)) → 1 ≤ length attrs → AllByRecursion IsValidAttr attrs → attr_follows (map attr_text attrs ++ others) ≡ true
-attrs_follow [] others some valid = absurd (omega arith)
-attrs_follow (attr ∷ attrs) others some valid = attr_counts attr (map attr_text attrs ++ others) valid.0
+table_fine : (tables : List Table) (table : Table) (later : List Table) (number : ℕ) → IsValidTable table → AreDistinct (names_of_tables (tables ++ table ∷ later)) → length (tables ++ table ∷ later) ≤ 64
+    → table_fault standard tables table.name (written_lines number (map attr_line table.attrs)) ≡ None
+table_fine tables table later number valid distinct fits =
+    let below : length tables < 64 = omega (arith, length-append tables (table ∷ later)) in
+    let other : has_table tables table.name ≡ false = not_before (λ (t : Table). t.name) tables table later distinct in
+    let few_tables : leb 64 (length tables) ≡ false = lt-leb 64 (length tables) below in
+    rw (attrs_there number table.attrs valid.some, other, few_tables) refl
 
-table_step : (draft : Draft) (table : Table) (follows : Bool) → follows ≡ true → has_table (closed draft) table.name ≡ false → length (closed draft) < 64
-    → add_line standard draft follows (Some (says.Table table.master table.name table.file)) ≡ Ok (draft_at (closed draft) (with_attrs table []) draft.rules draft.script)
-unfolding add_line
-table_step draft table follows attr_next other below =
-    cond-false (not follows) _ _ (ap not attr_next) ∙ cond-false (has_table (closed draft) table.name) _ _ other ∙ cond-false (leb 64 (length (closed draft))) _ _ (lt-leb 64 (length (closed draft)) below)
-
-record TablesRead (number : ℕ) (draft : Draft) (tables : List Table) (others : List (List ℕ)) : Type 0 where
-  last : ℕ
-  next : Draft
-  all : closed next ≡ closed draft ++ tables
-  rules : next.rules ≡ draft.rules
-  script : next.script ≡ draft.script
-  same : read_lines standard number draft (flat_map table_lines tables ++ others) ≡ read_lines standard last next others
-
-tables_read : (number : ℕ) (draft : Draft) (tables : List Table) (others : List (List ℕ)) → AllByRecursion IsValidTable tables → AllByRecursion HasFewAttrs tables → AreDistinct (names_of_tables (closed draft ++ tables)) → length (closed draft ++ tables) ≤ 64
-    → TablesRead number draft tables others
-tables_read number draft [] others valid few distinct fits = record { last = number; next = draft; all = sym (append-nil (closed draft)); rules = refl; script = refl; same = refl }
-tables_read number draft (table ∷ tables) others valid few distinct fits =
-    let behind = flat_map table_lines tables ++ others in
-    let attrs = recursion_from_All IsValidAttr table.attrs valid.0.attrs in
+table_added : (schema : Schema) (table : Table) (later : List Table) (number : ℕ) → IsValidTable table → HasFewAttrs table → AreDistinct (names_of_tables (schema.tables ++ table ∷ later)) → length (schema.tables ++ table ∷ later) ≤ 64
+    → add_group standard schema (group_at number (table_group table)) ≡ Ok (with_table schema table)
+unfolding add_group
+table_added schema table later number valid few distinct fits =
+    let members = written_lines (number + 1) (map attr_line table.attrs) in
     let bare = with_attrs table [] in
-    let below : length (closed draft) < 64 = omega (arith, length-append (closed draft) (table ∷ tables)) in
-    let head = read_spelled number draft (draft_at (closed draft) bare draft.rules draft.script) (table_word table.master) (Name table.name ∷ Quoted table.file ∷ []) (says.Table table.master table.name table.file) (map attr_text table.attrs ++ behind)
-    (table_word-IsName table.master) (valid.0.name, (valid.0.file.utf8, tt)) (head_says table.master table.name table.file valid.0.file)
-    (table_step draft table (attr_follows (map attr_text table.attrs ++ behind)) (attrs_follow table.attrs behind valid.0.some attrs) (not_before (λ (t : Table). t.name) (closed draft) table tables distinct) below) in
-    let body = attrs_read (number + 1) (closed draft) bare draft.rules draft.script table.attrs behind attrs (recursion_from_All (λ (a : Attr). HasFewValues a.domain) table.attrs few.0.1) valid.0.distinct few.0.0 in
-    let regroup : (closed draft ++ table ∷ []) ++ tables ≡ closed draft ++ table ∷ tables = append_assoc (closed draft) (table ∷ []) tables in
-    let further = tables_read body.last (draft_at (closed draft) table draft.rules draft.script) tables others valid.1 few.1 (rw regroup distinct) (rw regroup fits) in
-    record {
-      last = further.last;
-      next = further.next;
-      all = further.all ∙ regroup;
-      rules = further.rules;
-      script = further.script;
-      same = ap (λ (ls : List (List ℕ)). read_lines standard number draft (head_text table ∷ ls)) (append_assoc (map attr_text table.attrs) (flat_map table_lines tables) others) ∙ head ∙ body.same ∙ further.same;
-    }
+    ap (λ found. found_at schema_causes number (none_after found) >>= add_head standard schema number members) (head_read table.master table.name table.file valid.file)
+    ∙ ap (λ found. unless found number bare >>= λ start. in_turn (add_attr standard) start members >>= λ whole. Ok (with_table schema whole)) (table_fine schema.tables table later (number + 1) valid distinct fits)
+    ∙ ap (λ r. r >>= λ whole. Ok (with_table schema whole))
+    (attrs_added (number + 1) bare table.attrs (recursion_from_All IsValidAttr table.attrs valid.attrs) (recursion_from_All (λ (a : Attr). HasFewValues a.domain) table.attrs few.1) valid.distinct few.0)
 
 -- ---- the files of rules and script
 
-record FileRead (number : ℕ) (draft : Draft) (rules script : Option (List ℕ)) (file : List (List ℕ)) (others : List (List ℕ)) : Type 0 where
-  last : ℕ
-  next : Draft
-  all : closed next ≡ closed draft
-  rules_are : next.rules ≡ rules
-  script_are : next.script ≡ script
-  same : read_lines standard number draft (file ++ others) ≡ read_lines standard last next others
+abbrev file_groups : List ℕ → Option (List ℕ) → List Written
+file_groups word None = []
+file_groups word (Some file) = record { head = name word ∷ Space ∷ text file ∷ []; members = [] } ∷ []
 
-rules_step : (draft : Draft) (file : List ℕ) (follows : Bool) → draft.rules ≡ None → add_line standard draft follows (Some (says.Rules file)) ≡ Ok (record { tables = closed draft; latest = None; rules = Some file; script = draft.script })
-unfolding add_line
-rules_step draft file follows none = cond-false (is_some draft.rules) _ _ (ap is_some none)
+rules_added : (schema : Schema) (file : List ℕ) (number : ℕ) → IsFileName file → schema.rules ≡ None
+    → add_group standard schema (group_at number (record { head = name (codes "rules") ∷ Space ∷ text file ∷ []; members = [] })) ≡ Ok (record schema { rules = Some file })
+unfolding add_group head_at
+rules_added schema file number is none = rw (is_file_name-true file is, none) refl
 
-script_step : (draft : Draft) (file : List ℕ) (follows : Bool) → draft.script ≡ None → add_line standard draft follows (Some (says.Script file)) ≡ Ok (record { tables = closed draft; latest = None; rules = draft.rules; script = Some file })
-unfolding add_line
-script_step draft file follows none = cond-false (is_some draft.script) _ _ (ap is_some none)
+script_added : (schema : Schema) (file : List ℕ) (number : ℕ) → IsFileName file → schema.script ≡ None
+    → add_group standard schema (group_at number (record { head = name (codes "script") ∷ Space ∷ text file ∷ []; members = [] })) ≡ Ok (record schema { script = Some file })
+unfolding add_group head_at
+script_added schema file number is none = rw (is_file_name-true file is, none) refl
 
-rules_read : (number : ℕ) (draft : Draft) (rules : Option (List ℕ)) (others : List (List ℕ)) → IfSome rules IsFileName → draft.rules ≡ None → FileRead number draft rules draft.script (file_lines (codes "rules") rules) others
-rules_read number draft None others is none = record { last = number; next = draft; all = refl; rules_are = none; script_are = refl; same = refl }
-rules_read number draft (Some file) others is none = record {
-  last = number + 1;
-  next = record { tables = closed draft; latest = None; rules = Some file; script = draft.script };
-  all = refl;
-  rules_are = refl;
-  script_are = refl;
-  same = read_spelled number draft _ (codes "rules") (Quoted file ∷ []) (says.Rules file) others refl (is.utf8, tt) (rules_says file is) (rules_step draft file (attr_follows others) none);
-}
+-- ---- all groups
 
-script_read : (number : ℕ) (draft : Draft) (script : Option (List ℕ)) (others : List (List ℕ)) → IfSome script IsFileName → draft.script ≡ None → FileRead number draft draft.rules script (file_lines (codes "script") script) others
-script_read number draft None others is none = record { last = number; next = draft; all = refl; rules_are = refl; script_are = none; same = refl }
-script_read number draft (Some file) others is none = record {
-  last = number + 1;
-  next = record { tables = closed draft; latest = None; rules = draft.rules; script = Some file };
-  all = refl;
-  rules_are = refl;
-  script_are = refl;
-  same = read_spelled number draft _ (codes "script") (Quoted file ∷ []) (says.Script file) others refl (is.utf8, tt) (script_says file is) (script_step draft file (attr_follows others) none);
-}
-
--- ---- all lines
+abbrev groups_of : Schema → List Written
+groups_of schema = map table_group schema.tables ++ (file_groups (codes "rules") schema.rules ++ file_groups (codes "script") schema.script)
 
 all_append : {X : Type 0} (P : X → Type 0) (xs ys : List X) → AllByRecursion P xs → AllByRecursion P ys → AllByRecursion P (xs ++ ys)
 all_append P [] ys left right = right
 all_append P (x ∷ xs) ys left right = (left.0, all_append P xs ys left.1 right)
 
-attrs_plain : (attrs : List Attr) → AllByRecursion IsValidAttr attrs → AllByRecursion IsPlain (map attr_text attrs)
-attrs_plain [] valid = tt
-attrs_plain (attr ∷ attrs) valid = (IsPlain-line (Name (codes "attr") ∷ Name attr.name ∷ domain_tokens attr.domain) (refl, attr_spelled attr valid.0), attrs_plain attrs valid.1)
+lines_of_tables : (tables : List Table) → flat_map lines_of (map table_group tables) ≡ flat_map table_lines tables
+lines_of_tables [] = refl
+lines_of_tables (table ∷ tables) = ap (λ ls. table_lines table ++ ls) (lines_of_tables tables)
 
-tables_plain : (tables : List Table) → AllByRecursion IsValidTable tables → AllByRecursion IsPlain (flat_map table_lines tables)
-tables_plain [] valid = tt
-tables_plain (table ∷ tables) valid =
-    all_append IsPlain (table_lines table) (flat_map table_lines tables)
-    (IsPlain-line (Name (table_word table.master) ∷ Name table.name ∷ Quoted table.file ∷ []) (table_word-IsName table.master, (valid.0.name, (valid.0.file.utf8, tt))), attrs_plain table.attrs (recursion_from_All IsValidAttr table.attrs valid.0.attrs))
-    (tables_plain tables valid.1)
+lines_of_file : (word : List ℕ) (file : Option (List ℕ)) → flat_map lines_of (file_groups word file) ≡ file_lines word file
+lines_of_file word None = refl
+lines_of_file word (Some file) = refl
 
-file_plain : (word : List ℕ) (file : Option (List ℕ)) → IsName word → IfSome file IsFileName → AllByRecursion IsPlain (file_lines word file)
-file_plain word None is_name' is = tt
-file_plain word (Some file) is_name' is = (IsPlain-line (Name word ∷ Quoted file ∷ []) (is_name', (is.utf8, tt)), tt)
+lines_of_schema : (schema : Schema) → flat_map lines_of (groups_of schema) ≡ schema_lines schema
+lines_of_schema schema =
+    let rules = file_groups (codes "rules") schema.rules in
+    let script = file_groups (codes "script") schema.script in
+    flat_map-append lines_of (map table_group schema.tables) (rules ++ script) ∙ ap (λ ls. ls ++ flat_map lines_of (rules ++ script)) (lines_of_tables schema.tables)
+    ∙ ap (λ ls. flat_map table_lines schema.tables ++ ls) (flat_map-append lines_of rules script ∙ ap (λ ls. ls ++ flat_map lines_of script) (lines_of_file (codes "rules") schema.rules) ∙ ap (λ ls. file_lines (codes "rules") schema.rules ++ ls) (lines_of_file (codes "script") schema.script))
 
-schema_plain : (schema : Schema) → IsValidSchema schema → AllByRecursion IsPlain (schema_lines schema)
-schema_plain schema valid =
-    all_append IsPlain (flat_map table_lines schema.tables) _ (tables_plain schema.tables (recursion_from_All IsValidTable schema.tables valid.tables))
-    (all_append IsPlain (file_lines (codes "rules") schema.rules) _ (file_plain (codes "rules") schema.rules refl valid.rules) (file_plain (codes "script") schema.script refl valid.script))
+-- every line can be read
 
-same_schema : (a b : Schema) → a.tables ≡ b.tables → a.rules ≡ b.rules → a.script ≡ b.script → a ≡ b
-same_schema a b tables rules script =
-    ap (λ (ts : List Table). record { tables = ts; rules = a.rules; script = a.script }) tables
-    ∙ ap (λ (f : Option (List ℕ)). record { tables = b.tables; rules = f; script = a.script }) rules
-    ∙ ap (λ (f : Option (List ℕ)). record { tables = b.tables; rules = b.rules; script = f }) script
+domain_good : (domain : Domain) → IsValidDomain domain → AreGood (domain_parts domain)
+domain_good AnyText valid = tt
+domain_good (Finite values) valid = (refl, AreGood-spaced value_parts values (constants_good values (recursion_from_All IsConstant values valid.constants)))
 
-schema_read : (schema : Schema) → IsValidSchema schema → read_lines standard 1 empty_draft (schema_lines schema) ≡ Ok schema
-unfolding read_lines
-schema_read schema valid =
-    let rules_lines = file_lines (codes "rules") schema.rules in
-    let script_lines = file_lines (codes "script") schema.script in
-    let tables = tables_read 1 empty_draft schema.tables (rules_lines ++ script_lines) (recursion_from_All IsValidTable schema.tables valid.tables) (recursion_from_All HasFewAttrs schema.tables valid.few_attrs) valid.distinct valid.few_tables in
-    let rules = rules_read tables.last tables.next schema.rules script_lines valid.rules tables.rules in
-    let script = script_read rules.last rules.next schema.script [] valid.script (rules.script_are ∙ tables.script) in
-    let read : schema_of script.next ≡ schema = same_schema (schema_of script.next) schema (script.all ∙ rules.all ∙ tables.all) (script.rules_are ∙ rules.rules_are) script.script_are in
-    tables.same ∙ rules.same ∙ ap (read_lines standard rules.last rules.next) (sym (append-nil script_lines)) ∙ script.same ∙ ap (λ (s : Schema). Ok s) read
+domain_loose : (domain : Domain) → IsLoose (domain_parts domain)
+domain_loose AnyText = IsLoose-nil
+domain_loose (Finite values) = λ before. (refl, rw (append-nil (spaced_list value_parts values)) at (IsLoose-spaced value_parts values [] (λ v. (refl, tt)) IsLoose-nil (Some (Name (codes "in")))))
+
+attr_readable : (attr : Attr) → IsValidAttr attr → IsReadable (attr_line attr)
+attr_readable attr valid = record {
+  some = omega arith;
+  good = (refl, (valid.name, domain_good attr.domain valid.domain));
+  apart = (refl, (refl, domain_loose attr.domain (Some (Name attr.name))));
+}
+
+attrs_readable : (attrs : List Attr) → AllByRecursion IsValidAttr attrs → AllByRecursion IsReadable (map attr_line attrs)
+attrs_readable [] valid = tt
+attrs_readable (attr ∷ attrs) valid = (attr_readable attr valid.0, attrs_readable attrs valid.1)
+
+table_word-IsName : (master : Bool) → IsName (table_word master)
+table_word-IsName true = refl
+table_word-IsName false = refl
+
+head_readable : (table : Table) → IsValidTable table → IsReadable (head_line table)
+head_readable table valid = record { some = omega arith; good = (table_word-IsName table.master, (valid.name, (valid.file.utf8, tt))); apart = (refl, (refl, (refl, tt))) }
+
+tables_readable : (tables : List Table) → AllByRecursion IsValidTable tables → AllByRecursion IsReadable (flat_map table_lines tables)
+tables_readable [] valid = tt
+tables_readable (table ∷ tables) valid =
+    all_append IsReadable (table_lines table) (flat_map table_lines tables) (head_readable table valid.0, attrs_readable table.attrs (recursion_from_All IsValidAttr table.attrs valid.0.attrs)) (tables_readable tables valid.1)
+
+file_readable : (word : List ℕ) (file : Option (List ℕ)) → IsName word → IfSome file IsFileName → AllByRecursion IsReadable (file_lines word file)
+file_readable word None is_name' is = tt
+file_readable word (Some file) is_name' is = (record { some = omega arith; good = (is_name', (is.utf8, tt)); apart = (refl, (refl, tt)) }, tt)
+
+schema_readable : (schema : Schema) → IsValidSchema schema → AllByRecursion IsReadable (schema_lines schema)
+schema_readable schema valid =
+    all_append IsReadable (flat_map table_lines schema.tables) _ (tables_readable schema.tables (recursion_from_All IsValidTable schema.tables valid.tables))
+    (all_append IsReadable (file_lines (codes "rules") schema.rules) _ (file_readable (codes "rules") schema.rules refl valid.rules) (file_readable (codes "script") schema.script refl valid.script))
+
+-- the groups are groups
+
+attrs_are_members : (attrs : List Attr) → AllByRecursion (λ line. first_is (codes "attr") (tokens_in line) ≡ true) (map attr_line attrs)
+attrs_are_members [] = tt
+attrs_are_members (attr ∷ attrs) = (refl, attrs_are_members attrs)
+
+table_is_head : (master : Bool) → bytes_eq (table_word master) (codes "attr") ≡ false
+table_is_head true = refl
+table_is_head false = refl
+
+tables_are_groups : (tables : List Table) → AllByRecursion (IsGroup (codes "attr")) (map table_group tables)
+tables_are_groups [] = tt
+tables_are_groups (table ∷ tables) = (record { head = table_is_head table.master; members = attrs_are_members table.attrs }, tables_are_groups tables)
+
+file_is_group : (word : List ℕ) (file : Option (List ℕ)) → bytes_eq word (codes "attr") ≡ false → AllByRecursion (IsGroup (codes "attr")) (file_groups word file)
+file_is_group word None other = tt
+file_is_group word (Some file) other = (record { head = other; members = tt }, tt)
+
+are_groups : (schema : Schema) → AllByRecursion (IsGroup (codes "attr")) (groups_of schema)
+are_groups schema =
+    all_append (IsGroup (codes "attr")) (map table_group schema.tables) _ (tables_are_groups schema.tables)
+    (all_append (IsGroup (codes "attr")) (file_groups (codes "rules") schema.rules) _ (file_is_group (codes "rules") schema.rules refl) (file_is_group (codes "script") schema.script refl))
+
+-- and each adds what it was written of
+
+tables_taken : (before tables : List Table) (more : List Written) (end : Schema) → AllByRecursion IsValidTable tables → AllByRecursion HasFewAttrs tables → AreDistinct (names_of_tables (before ++ tables)) → length (before ++ tables) ≤ 64
+    → Takes (add_group standard) (record { tables = before ++ tables; rules = None; script = None }) more end → Takes (add_group standard) (record { tables = before; rules = None; script = None }) (map table_group tables ++ more) end
+tables_taken before [] more end valid few distinct fits takes = rw (append-nil before) at takes
+tables_taken before (table ∷ tables) more end valid few distinct fits takes =
+    let regroup : (before ++ table ∷ []) ++ tables ≡ before ++ table ∷ tables = append_assoc before (table ∷ []) tables in (
+      record { tables = before ++ table ∷ []; rules = None; script = None },
+      λ number. table_added (record { tables = before; rules = None; script = None }) table tables number valid.0 few.0 distinct fits,
+      tables_taken (before ++ table ∷ []) tables more end valid.1 few.1 (rw regroup distinct) (rw regroup fits) (rw regroup takes),
+    )
+
+script_taken : (tables : List Table) (rules script : Option (List ℕ)) → IfSome script IsFileName → Takes (add_group standard) (record { tables = tables; rules = rules; script = None }) (file_groups (codes "script") script) (record { tables = tables; rules = rules; script = script })
+script_taken tables rules None is = refl
+script_taken tables rules (Some file) is = (record { tables = tables; rules = rules; script = Some file }, λ number. script_added (record { tables = tables; rules = rules; script = None }) file number is refl, refl)
+
+files_taken : (tables : List Table) (rules script : Option (List ℕ)) → IfSome rules IsFileName → IfSome script IsFileName
+    → Takes (add_group standard) (record { tables = tables; rules = None; script = None }) (file_groups (codes "rules") rules ++ file_groups (codes "script") script) (record { tables = tables; rules = rules; script = script })
+files_taken tables None script are is = script_taken tables None script is
+files_taken tables (Some file) script are is =
+    (record { tables = tables; rules = Some file; script = None }, λ number. rules_added (record { tables = tables; rules = None; script = None }) file number are refl, script_taken tables (Some file) script is)
 
 pub reads-canonical : (schema : Schema) → IsValidSchema schema → reads standard (canonical schema) ≡ Ok schema
 unfolding reads canonical
-reads-canonical schema valid = ap (read_lines standard 1 empty_draft) (lines-file_text (schema_lines schema) (schema_plain schema valid)) ∙ schema_read schema valid
+reads-canonical schema valid =
+    ap (λ ls. read_groups schema_causes (codes "attr") (add_group standard) empty_schema (file_text ls)) (sym (lines_of_schema schema))
+    ∙ read_groups-written schema_causes (codes "attr") (add_group standard) empty_schema (groups_of schema) schema (rw (lines_of_schema schema) (schema_readable schema valid)) (are_groups schema)
+    (tables_taken [] schema.tables _ schema (recursion_from_All IsValidTable schema.tables valid.tables) (recursion_from_All HasFewAttrs schema.tables valid.few_attrs) valid.distinct valid.few_tables
+    (files_taken schema.tables schema.rules schema.script valid.rules valid.script))

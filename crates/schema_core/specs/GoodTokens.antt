@@ -1,16 +1,18 @@
 -- What the tokens of a line hold, whatever the line.
+use Rattle.std.specs.Prelude.{◌<◌, ◌^◌}
 use Rattle.std.specs.List.{AllByRecursion}
 use Rattle.std.specs.Str.{IsUtf8}
 use Rattle.schema_core.specs.Names.{IsName}
+use Rattle.schema_core.specs.declared.bounds.TheConstants.{NUMBER_DIGITS}
 use Rattle.schema_core.specs.declared.tokens.Token.{Token}
 use Rattle.schema_core.specs.declared.tokens.Token.TheVariants.{Name, Number, Quoted, Sign}
 use Rattle.schema_core.specs.declared.tokens.LineTokens.{LineTokens}
 use Rattle.schema_core.specs.declared.tokens.LineTokens.TheVariants.{Passed, NotUtf8, BadTokens, Tokens}
 
--- a name is one, and a text is UTF-8
+-- a name is one, a number has few digits, and a text is UTF-8
 abbrev pub IsGoodToken : Token → Type 0
 IsGoodToken (Name name) = IsName name
-IsGoodToken (Number n) = Unit {0}
+IsGoodToken (Number n) = n < 10 ^ NUMBER_DIGITS
 IsGoodToken (Quoted text) = IsUtf8 text
 IsGoodToken (Sign mark) = Unit {0}
 

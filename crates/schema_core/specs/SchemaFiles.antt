@@ -1,14 +1,17 @@
--- Schema files, by cases on the list of lines: the schema that they spell, or the first faulty line with its first cause.
-use Rattle.std.specs.Prelude.{◌≡◌, ℕ, ◌+◌, Bool, true, false, not, List, [], ◌∷◌, ◌++◌, length, Option, Some, None, is_some, Result, Ok, Err, if◌then◌else◌, ◌==◌, nat_le, nat_lt, codes}
+-- Schema files: the schema that one spells, or its first faulty line with the first cause. A table line and the `attr`
+-- lines behind it are a group; any other head stands alone.
+use Rattle.std.specs.Prelude.{ℕ, Bool, false, List, [], ◌∷◌, ◌++◌, length, Option, Some, None, Ok, is_some, if◌then◌else◌, ◌==◌, nat_le, nat_lt, codes}
 use Rattle.std.specs.List.{list_any}
 use Rattle.std.specs.Str.{bytes_eq}
-use Rattle.schema_core.specs.Lines.{lines}
-use Rattle.schema_core.specs.Tokens.{line_tokens}
-use Rattle.schema_core.specs.SchemaLines.{schema_line}
-use Rattle.schema_core.specs.declared.tokens.Token.{Token}
-use Rattle.schema_core.specs.declared.tokens.Token.TheVariants.{Name}
-use Rattle.schema_core.specs.declared.tokens.LineTokens.{LineTokens}
-use Rattle.schema_core.specs.declared.tokens.LineTokens.TheVariants.{Passed, NotUtf8, BadTokens, Tokens}
+use Rattle.schema_core.specs.Faults.{Causes, Reading, faulty, ◌>>=◌}
+use Rattle.schema_core.specs.FileLines.{read_line, no_lines}
+use Rattle.schema_core.specs.Firsts.{first_of}
+use Rattle.schema_core.specs.Groups.{in_turn, read_groups}
+use Rattle.schema_core.specs.Repeats.{first_repeated}
+use Rattle.schema_core.specs.SchemaLines.{head_at, attr_at}
+use Rattle.schema_core.specs.TokenLists.{none_after}
+use Rattle.schema_core.specs.declared.line.Line.{Line}
+use Rattle.schema_core.specs.declared.group.Group.{Group}
 use Rattle.schema_core.specs.declared.limits.Limits.{Limits}
 use Rattle.schema_core.specs.declared.limits.Limit.TheVariants as limit
 use Rattle.schema_core.specs.declared.schema.Domain.{Domain}
@@ -18,16 +21,16 @@ use Rattle.schema_core.specs.declared.schema.Table.{Table}
 use Rattle.schema_core.specs.declared.schema.Schema.{Schema}
 use Rattle.schema_core.specs.declared.schema.SchemaCause.{SchemaCause}
 use Rattle.schema_core.specs.declared.schema.SchemaCause.TheVariants as cause
-use Rattle.schema_core.specs.declared.schema.SchemaFault.{SchemaFault}
-use Rattle.schema_core.specs.declared.schema.SchemaFault.TheVariants as fault
-use Rattle.schema_core.specs.declared.schema_lines.SchemaLine.{SchemaLine}
-use Rattle.schema_core.specs.declared.schema_lines.SchemaLine.TheVariants as says
-use Rattle.schema_core.specs.declared.draft.Draft.{Draft}
+use Rattle.schema_core.specs.declared.schema_lines.SchemaHead.{SchemaHead}
+use Rattle.schema_core.specs.declared.schema_lines.SchemaHead.TheVariants as head
 
--- ---- lists of names and values
+abbrev pub schema_causes : Causes SchemaCause
+schema_causes = record { not_utf8 = cause.NotUtf8; bad_line = cause.BadLine }
 
-abbrev pub has_text : List (List ℕ) → List ℕ → Bool
-has_text texts text = list_any (λ t. bytes_eq t text) texts
+abbrev pub empty_schema : Schema
+empty_schema = record { tables = []; rules = None; script = None }
+
+-- ---- what is wrong with a line
 
 abbrev pub has_table : List Table → List ℕ → Bool
 has_table tables name = list_any (λ (t : Table). bytes_eq t.name name) tables
@@ -35,128 +38,83 @@ has_table tables name = list_any (λ (t : Table). bytes_eq t.name name) tables
 abbrev pub has_attr : List Attr → List ℕ → Bool
 has_attr attrs name = list_any (λ (a : Attr). bytes_eq a.name name) attrs
 
--- some text stands in front of an equal one
-abbrev pub has_twice : List (List ℕ) → Bool
-has_twice [] = false
-has_twice (v ∷ vs) = if has_text vs v then true else has_twice vs
+-- the cause of a fault, where there is that fault
+abbrev pub cause_if : Bool → SchemaCause → Option SchemaCause
+cause_if test why = if test then Some why else None
 
--- ---- what was read: the tables, the last of which `attr` lines may add to, and the files
+-- what is wrong with a table line that has these members, behind these tables
+abbrev pub table_fault : Limits → List Table → List ℕ → List Line → Option SchemaCause
+table_fault limits tables name members = first_of (
+    cause_if (length members == 0) cause.BadLine
+    ∷ cause_if (has_table tables name) cause.DuplicateName
+    ∷ cause_if (nat_le limits.tables (length tables)) (cause.TooMany limit.Tables)
+    ∷ []
+    )
 
-abbrev pub empty_draft : Draft
-empty_draft = record { tables = []; latest = None; rules = None; script = None }
+abbrev pub has_no_value : Domain → Bool
+has_no_value AnyText = false
+has_no_value (Finite values) = length values == 0
 
-abbrev pub with_latest : List Table → Option Table → List Table
-with_latest tables None = tables
-with_latest tables (Some table) = tables ++ table ∷ []
-
--- all tables, when no further `attr` line belongs to the last
-abbrev pub closed : Draft → List Table
-closed draft = with_latest draft.tables draft.latest
-
-abbrev pub schema_of : Draft → Schema
-schema_of draft = record { tables = closed draft; rules = draft.rules; script = draft.script }
-
--- ---- one line
-
--- a table: an `attr` line has to follow
-abbrev pub add_table : Limits → Draft → Bool → Bool → List ℕ → List ℕ → Result Draft SchemaCause
-add_table limits draft attr_follows master name file =
-    if not attr_follows then Err cause.BadLine
-    else (if has_table (closed draft) name then Err cause.DuplicateName
-    else (if nat_le limits.tables (length (closed draft)) then Err (cause.TooMany limit.Tables)
-    else Ok (record draft { tables = closed draft; latest = Some (record { name = name; file = file; master = master; attrs = [] }) })))
-
--- what is wrong with the values of a domain
-abbrev pub domain_fault : Domain → Option SchemaCause
-domain_fault AnyText = None
-domain_fault (Finite values) =
-    if length values == 0 then Some cause.EmptyDomain
-    else (if has_twice values then Some cause.DuplicateValue else None)
+abbrev pub has_value_twice : Domain → Bool
+has_value_twice AnyText = false
+has_value_twice (Finite values) = is_some (first_repeated bytes_eq values)
 
 abbrev pub has_too_many_values : Limits → Domain → Bool
 has_too_many_values limits AnyText = false
 has_too_many_values limits (Finite values) = nat_lt limits.values (length values)
 
--- what is wrong with a further attribute of a table, its name first
-abbrev pub or_attr_limit : Limits → Table → Attr → Option SchemaCause → Result Table SchemaCause
-or_attr_limit limits table attr (Some c) = Err c
-or_attr_limit limits table attr None =
-    if nat_le limits.attrs (length table.attrs) then Err (cause.TooMany limit.Attrs)
-    else (if has_too_many_values limits attr.domain then Err (cause.TooMany limit.Values)
-    else Ok (record table { attrs = table.attrs ++ attr ∷ [] }))
+-- what is wrong with an attribute behind these
+abbrev pub attr_fault : Limits → List Attr → Attr → Option SchemaCause
+attr_fault limits attrs attr = first_of (
+    cause_if (has_attr attrs attr.name) cause.DuplicateName
+    ∷ cause_if (has_no_value attr.domain) cause.EmptyDomain
+    ∷ cause_if (has_value_twice attr.domain) cause.DuplicateValue
+    ∷ cause_if (nat_le limits.attrs (length attrs)) (cause.TooMany limit.Attrs)
+    ∷ cause_if (has_too_many_values limits attr.domain) (cause.TooMany limit.Values)
+    ∷ []
+    )
 
-abbrev pub with_attr : Limits → Table → Attr → Result Table SchemaCause
-with_attr limits table attr =
-    if has_attr table.attrs attr.name then Err cause.DuplicateName else or_attr_limit limits table attr (domain_fault attr.domain)
+-- what is read of a line that has that number, unless something is wrong with it
+abbrev pub unless : {X : Type 0} → Option SchemaCause → ℕ → X → Reading X SchemaCause
+unless None number x = Ok x
+unless (Some why) number x = faulty number why
 
-abbrev pub reopened : Draft → Result Table SchemaCause → Result Draft SchemaCause
-reopened draft (Ok table) = Ok (record draft { latest = Some table })
-reopened draft (Err c) = Err c
+-- ---- groups
 
--- an attribute of the last table, directly behind it
-abbrev pub add_attr : Limits → Draft → Option Table → Attr → Result Draft SchemaCause
-add_attr limits draft None attr = Err cause.BadLine
-add_attr limits draft (Some table) attr = reopened draft (with_attr limits table attr)
+abbrev pub with_attr : Table → Attr → Table
+with_attr table attr = record table { attrs = table.attrs ++ attr ∷ [] }
 
-abbrev pub add_rules : Draft → List ℕ → Result Draft SchemaCause
-add_rules draft file = if is_some draft.rules then Err cause.DuplicateName else Ok (record draft { tables = closed draft; latest = None; rules = Some file })
+abbrev pub with_table : Schema → Table → Schema
+with_table schema table = record schema { tables = schema.tables ++ table ∷ [] }
 
-abbrev pub add_script : Draft → List ℕ → Result Draft SchemaCause
-add_script draft file = if is_some draft.script then Err cause.DuplicateName else Ok (record draft { tables = closed draft; latest = None; script = Some file })
+-- a table with the attribute of a member
+unfoldable pub add_attr : Limits → Table → Line → Reading Table SchemaCause
+add_attr limits table line =
+    read_line schema_causes (λ tokens. none_after (attr_at tokens)) line >>= λ attr. unless (attr_fault limits table.attrs attr) line.number (with_attr table attr)
 
--- what was read, with what a line says
-unfoldable pub add_line : Limits → Draft → Bool → Option SchemaLine → Result Draft SchemaCause
-add_line limits draft attr_follows None = Err cause.BadLine
-add_line limits draft attr_follows (Some (says.Table master name file)) = add_table limits draft attr_follows master name file
-add_line limits draft attr_follows (Some (says.Attr attr)) = add_attr limits draft draft.latest attr
-add_line limits draft attr_follows (Some (says.Rules file)) = add_rules draft file
-add_line limits draft attr_follows (Some (says.Script file)) = add_script draft file
+-- a schema with a table, which so far has no attribute
+abbrev pub add_table : Limits → Schema → ℕ → Table → List Line → Reading Schema SchemaCause
+add_table limits schema number table members =
+    unless (table_fault limits schema.tables table.name members) number table
+    >>= λ start. in_turn (add_attr limits) start members
+    >>= λ whole. Ok (with_table schema whole)
 
--- ---- all lines
+-- a schema with a file that it may name once
+abbrev pub add_file : Option (List ℕ) → ℕ → Schema → List Line → Reading Schema SchemaCause
+add_file named number schema members =
+    unless (cause_if (is_some named) cause.DuplicateName) number schema >>= λ with_file. no_lines schema_causes members with_file
 
-abbrev pub begins_attr : List Token → Bool
-begins_attr (Name word ∷ rest) = bytes_eq word (codes "attr")
-begins_attr _ = false
+-- a schema with what a head says, whose line has that number
+abbrev pub add_head : Limits → Schema → ℕ → List Line → SchemaHead → Reading Schema SchemaCause
+add_head limits schema number members (head.Table master name file) =
+    add_table limits schema number (record { name = name; file = file; master = master; attrs = [] }) members
+add_head limits schema number members (head.Rules file) = add_file schema.rules number (record schema { rules = Some file }) members
+add_head limits schema number members (head.Script file) = add_file schema.script number (record schema { script = Some file }) members
 
--- whether a line counts as an `attr` line, whatever follows the word; None: it is passed over
-abbrev pub counts_as_attr : LineTokens → Option Bool
-counts_as_attr Passed = None
-counts_as_attr NotUtf8 = Some false
-counts_as_attr (BadTokens tokens) = Some (begins_attr tokens)
-counts_as_attr (Tokens tokens) = Some (begins_attr tokens)
-
-abbrev pub or_later : Option Bool → Bool → Bool
-or_later None later = later
-or_later (Some counts) later = counts
-
--- the next line that isn't passed over counts as an `attr` line
-unfoldable pub attr_follows : List (List ℕ) → Bool
-attr_follows [] = false
-attr_follows (line ∷ others) = or_later (counts_as_attr (line_tokens line)) (attr_follows others)
-
--- what was read, with a line
-abbrev pub read_line : Limits → Draft → Bool → LineTokens → Result Draft SchemaCause
-read_line limits draft follows Passed = Ok draft
-read_line limits draft follows NotUtf8 = Err cause.NotUtf8
-read_line limits draft follows (BadTokens tokens) = Err cause.BadLine
-read_line limits draft follows (Tokens tokens) = add_line limits draft follows (schema_line tokens)
-
-abbrev pub at_line : ℕ → Result Draft SchemaCause → (Draft → Result Schema SchemaFault) → Result Schema SchemaFault
-at_line number (Ok draft) further = further draft
-at_line number (Err c) further = Err (fault.At number c)
-
--- the schema that the lines from this number on spell, with what was read before them, or the first fault
-unfoldable pub read_lines : Limits → ℕ → Draft → List (List ℕ) → Result Schema SchemaFault
-read_lines limits number draft [] = Ok (schema_of draft)
-read_lines limits number draft (line ∷ others) =
-    at_line number (read_line limits draft (attr_follows others) (line_tokens line)) (λ next. read_lines limits (number + 1) next others)
+unfoldable pub add_group : Limits → Schema → Group → Reading Schema SchemaCause
+add_group limits schema group =
+    read_line schema_causes (λ tokens. none_after (head_at tokens)) group.head >>= add_head limits schema group.head.number group.members
 
 -- the schema that the bytes spell, or the first fault
-unfoldable pub reads : Limits → List ℕ → Result Schema SchemaFault
-reads limits bytes = read_lines limits 1 empty_draft (lines bytes)
-
--- what a call gave is that, unless memory ran out
-abbrev pub IsUnlessMemory : Result Schema SchemaFault → Result Schema SchemaFault → Type 0
-IsUnlessMemory (Ok schema) read = read ≡ Ok schema
-IsUnlessMemory (Err (fault.At number c)) read = read ≡ Err (fault.At number c)
-IsUnlessMemory (Err fault.Memory) read = Unit {0}
+unfoldable pub reads : Limits → List ℕ → Reading Schema SchemaCause
+reads limits bytes = read_groups schema_causes (codes "attr") (add_group limits) empty_schema bytes

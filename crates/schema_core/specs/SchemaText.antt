@@ -1,42 +1,44 @@
 -- The canonical text of a schema: the tables in order, each with its `attr` lines, then `rules`, then `script`.
 use Rattle.std.specs.Prelude.{ℕ, Bool, List, [], ◌∷◌, ◌++◌, map, Option, Some, None, codes, if◌then◌else◌}
 use Rattle.std.specs.List.{flat_map}
-use Rattle.schema_core.specs.Spelling.{line_text, comma_separated, file_text}
-use Rattle.schema_core.specs.declared.tokens.Token.{Token}
-use Rattle.schema_core.specs.declared.tokens.Token.TheVariants.{Name, Quoted}
+use Rattle.schema_core.specs.Spelling.{name, text, spaced_list, file_text}
+use Rattle.schema_core.specs.declared.writing.Part.{Part}
+use Rattle.schema_core.specs.declared.writing.Part.TheVariants.{Space}
 use Rattle.schema_core.specs.declared.schema.Domain.{Domain}
 use Rattle.schema_core.specs.declared.schema.Domain.TheVariants.{AnyText, Finite}
 use Rattle.schema_core.specs.declared.schema.Attr.{Attr}
 use Rattle.schema_core.specs.declared.schema.Table.{Table}
 use Rattle.schema_core.specs.declared.schema.Schema.{Schema}
 
-abbrev pub value_tokens : List (List ℕ) → List Token
-value_tokens values = comma_separated (λ (v : List ℕ). Quoted v ∷ []) values
+-- VALUE
+abbrev pub value_parts : List ℕ → List Part
+value_parts value = text value ∷ []
 
-abbrev pub domain_tokens : Domain → List Token
-domain_tokens AnyText = []
-domain_tokens (Finite values) = Name (codes "in") ∷ value_tokens values
+-- ` in LIST(VALUE)`, or nothing
+abbrev pub domain_parts : Domain → List Part
+domain_parts AnyText = []
+domain_parts (Finite values) = Space ∷ name (codes "in") ∷ spaced_list value_parts values
 
 -- `attr NAME`, `attr NAME in LIST(VALUE)`
-abbrev pub attr_text : Attr → List ℕ
-attr_text attr = line_text (Name (codes "attr") ∷ Name attr.name ∷ domain_tokens attr.domain)
+abbrev pub attr_line : Attr → List Part
+attr_line attr = name (codes "attr") ∷ Space ∷ name attr.name ∷ domain_parts attr.domain
 
 abbrev pub table_word : Bool → List ℕ
 table_word master = if master then codes "master" else codes "table"
 
 -- `table NAME FILE`, `master NAME FILE`
-abbrev pub head_text : Table → List ℕ
-head_text table = line_text (Name (table_word table.master) ∷ Name table.name ∷ Quoted table.file ∷ [])
+abbrev pub head_line : Table → List Part
+head_line table = name (table_word table.master) ∷ Space ∷ name table.name ∷ Space ∷ text table.file ∷ []
 
-abbrev pub table_lines : Table → List (List ℕ)
-table_lines table = head_text table ∷ map attr_text table.attrs
+abbrev pub table_lines : Table → List (List Part)
+table_lines table = head_line table ∷ map attr_line table.attrs
 
 -- `rules FILE`, `script FILE`, where there is one
-abbrev pub file_lines : List ℕ → Option (List ℕ) → List (List ℕ)
+abbrev pub file_lines : List ℕ → Option (List ℕ) → List (List Part)
 file_lines word None = []
-file_lines word (Some file) = line_text (Name word ∷ Quoted file ∷ []) ∷ []
+file_lines word (Some file) = (name word ∷ Space ∷ text file ∷ []) ∷ []
 
-abbrev pub schema_lines : Schema → List (List ℕ)
+abbrev pub schema_lines : Schema → List (List Part)
 schema_lines schema = flat_map table_lines schema.tables ++ (file_lines (codes "rules") schema.rules ++ file_lines (codes "script") schema.script)
 
 unfoldable pub canonical : Schema → List ℕ

@@ -1,7 +1,8 @@
 -- Schemas: what stands where in one, and which are valid.
-use Rattle.std.specs.Prelude.{◌≢◌, ℕ, ◌≤◌, Bool, true, List, length, map, Option, IfSome, All, AllPairs, Contains, position}
+use Rattle.std.specs.Prelude.{ℕ, ◌≤◌, Bool, true, List, length, map, Option, IfSome, All, Contains, position}
 use Rattle.std.specs.List.{list_any}
 use Rattle.std.specs.Str.{bytes_eq}
+use Rattle.schema_core.specs.Repeats.{AreDistinct}
 use Rattle.schema_core.specs.Names.{IsName, IsFileName, IsConstant}
 use Rattle.schema_core.specs.declared.schema.Domain.{Domain}
 use Rattle.schema_core.specs.declared.schema.Domain.TheVariants.{AnyText, Finite}
@@ -26,10 +27,6 @@ admits (Finite values) text = list_any (λ v. bytes_eq v text) values
 abbrev pub Admits : Domain → List ℕ → Type 0
 Admits AnyText text = Unit {0}
 Admits (Finite values) text = Contains values text
-
--- no item stands twice
-abbrev pub AreDistinct : {X : Type 0} → List X → Type 0
-AreDistinct xs = AllPairs (λ x y. x ≢ y) xs
 
 abbrev pub names_of_tables : List Table → List (List ℕ)
 names_of_tables tables = map (λ (t : Table). t.name) tables

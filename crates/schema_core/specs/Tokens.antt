@@ -5,6 +5,7 @@ use Rattle.std.specs.Char.{is_ascii_alphabetic, is_ascii_digit}
 use Rattle.std.specs.Str.{is_utf8}
 use Rattle.std.specs.Str.Parse.{digits_value}
 use Rattle.schema_core.specs.Names.{is_name_byte}
+use Rattle.schema_core.specs.declared.bounds.TheConstants.{NAME_BYTES, NUMBER_DIGITS}
 use Rattle.schema_core.specs.declared.tokens.Mark.{Mark}
 use Rattle.schema_core.specs.declared.tokens.Mark.TheVariants.{Colon, Comma, OpenBracket, CloseBracket, Semicolon, Equals, Differs, Arrow, Bars, Underscore, Dot, OpenBrace, CloseBrace}
 use Rattle.schema_core.specs.declared.tokens.Token.{Token}
@@ -126,11 +127,11 @@ mark_at (b ∷ c ∷ bytes) = mark_or (two_marks b c) bytes (mark_or (one_mark b
 
 -- how many bytes of a name stand at the front, at most 64
 abbrev pub name_len : List ℕ → ℕ
-name_len bytes = prefix_len is_name_byte (take 64 bytes)
+name_len bytes = prefix_len is_name_byte (take NAME_BYTES bytes)
 
 -- how many digits stand at the front, at most 12
 abbrev pub digits_len : List ℕ → ℕ
-digits_len bytes = prefix_len is_ascii_digit (take 12 bytes)
+digits_len bytes = prefix_len is_ascii_digit (take NUMBER_DIGITS bytes)
 
 abbrev pub quoted_token : Option (List ℕ × List ℕ) → Option (Token × List ℕ)
 quoted_token None = None

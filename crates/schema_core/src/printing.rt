@@ -3,39 +3,41 @@
 ghost use Rattle.std.specs.Prelude.{◌≡◌, ◌∷◌, [], ◌++◌, IfOk, OnOk, Ok, codes};
 ghost use Rattle.schema_core.specs.Limits.{standard};
 ghost use Rattle.schema_core.specs.Schemas.{IsValidSchema};
-ghost use Rattle.schema_core.specs.Spelling.{others_text, file_text};
-ghost use Rattle.schema_core.specs.SchemaText.{value_tokens, domain_tokens, attr_text, head_text, table_lines, file_lines, canonical};
+ghost use Rattle.schema_core.specs.Spelling.{line_text, file_text};
+ghost use Rattle.schema_core.specs.SchemaText.{value_parts, domain_parts, attr_line, head_line, table_lines, file_lines, canonical};
 ghost use Rattle.schema_core.specs.SchemaFiles.{reads};
 
 use crate::quoting::push_quoted;
 use crate::schema::{Attr, Domain, Schema, Table};
 use crate::text::Text;
+use crate::writing::{Writes, push_spaced_list};
 use std::alloc::{AllocError, Global};
 
-fn push_values(out: &mut Vec<u8>, values: &[Text]) -> Result<(), AllocError>
-    ensures { OnOk result (out.new.items ≡ out.old.items ++ others_text (value_tokens values.now)) }
-{
-    for (i, value) in values.iter().enumerate() {
-        out.extend_from_slice(if i == 0 { b" " } else { b", " })?;
-        push_quoted(out, value.as_str())?;
+/// The values of a domain.
+struct Values;
+
+impl Writes<Text> for Values {
+    ghost written = { value_parts };
+
+    fn push(out: &mut Vec<u8>, value: &Text) -> Result<(), AllocError> {
+        push_quoted(out, value.as_str())
     }
-    Ok(())
 }
 
 fn push_domain(out: &mut Vec<u8>, domain: &Domain) -> Result<(), AllocError>
-    ensures { OnOk result (out.new.items ≡ out.old.items ++ others_text (domain_tokens domain.now)) }
+    ensures { OnOk result (out.new.items ≡ out.old.items ++ line_text (domain_parts domain.now)) }
 {
     match domain {
         Domain::AnyText => Ok(()),
         Domain::Finite(values) => {
             out.extend_from_slice(b" in")?;
-            push_values(out, values.as_slice())
+            push_spaced_list::<Values, Text>(out, values.as_slice())
         }
     }
 }
 
 fn push_attr(out: &mut Vec<u8>, attr: &Attr) -> Result<(), AllocError>
-    ensures { OnOk result (out.new.items ≡ out.old.items ++ (attr_text attr.now ++ 10 ∷ [])) }
+    ensures { OnOk result (out.new.items ≡ out.old.items ++ (line_text (attr_line attr.now) ++ 10 ∷ [])) }
 {
     out.extend_from_slice(b"attr ")?;
     out.extend_from_slice(attr.name.as_str().as_bytes())?;
@@ -45,7 +47,7 @@ fn push_attr(out: &mut Vec<u8>, attr: &Attr) -> Result<(), AllocError>
 }
 
 fn push_head(out: &mut Vec<u8>, table: &Table) -> Result<(), AllocError>
-    ensures { OnOk result (out.new.items ≡ out.old.items ++ (head_text table.now ++ 10 ∷ [])) }
+    ensures { OnOk result (out.new.items ≡ out.old.items ++ (line_text (head_line table.now) ++ 10 ∷ [])) }
 {
     if table.master {
         out.extend_from_slice(b"master ")?;

@@ -9,15 +9,11 @@ ghost use Rattle.schema_core.specs.Names.{is_name_byte};
 ghost use Rattle.schema_core.specs.Tokens.{is_blank, after_blanks, begins_blank, is_passed, escaped, with_byte, text_from, one_mark, two_marks, mark_at, name_len, digits_len, quoted_token, token_at, is_word, tokens_from, line_tokens};
 ghost use Rattle.schema_core.specs.GoodTokens.{HasGoodTokens};
 
+use crate::bounds::{NAME_BYTES, NUMBER_DIGITS};
 use crate::list::List;
 use crate::text::Text;
 use crate::tokens::{LineTokens, Mark, Token};
 use std::alloc::{AllocError, Global};
-
-/// The most bytes of a name, and the most digits of a number.
-const NAME_BYTES: usize = 64;
-
-const DIGITS: usize = 12;
 
 fn is_utf8(bytes: &[u8]) -> bool
     ensures { result ≡ is_utf8 bytes.now }
@@ -105,15 +101,15 @@ fn digits_end(bytes: &[u8]) -> Option<usize>
 fn digits_len(bytes: &[u8]) -> usize
     ensures len { result ≡ digits_len bytes.now }
     ensures within { result ≤ length bytes.now }
-    ensures few { result ≤ 12 }
+    ensures few { result ≤ NUMBER_DIGITS }
 {
-    let front = &bytes[..bytes.len().min(DIGITS)];
+    let front = &bytes[..bytes.len().min(NUMBER_DIGITS)];
     digits_end(front).unwrap_or(front.len())
 }
 
-/// The number that at most twelve digits write.
+/// The number that a few digits write.
 fn number_of(digits: &[u8]) -> u64
-    requires few { length digits.now ≤ 12 }
+    requires few { length digits.now ≤ NUMBER_DIGITS }
     requires digits { AllDigits 10 digits.now }
     ensures { result ≡ digits_value 10 digits.now }
 {

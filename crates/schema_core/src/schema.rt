@@ -5,10 +5,10 @@ ghost use Rattle.std.specs.List.{HoldsAt, list_any};
 ghost use Rattle.std.specs.Str.{bytes_eq};
 ghost use Rattle.schema_core.specs.Schemas.{table_place, attr_place, admits, Admits};
 
+use crate::fault::LineFault;
 use crate::limits::Limit;
 use crate::list::List;
 use crate::text::{Text, Texts};
-use thiserror::Error;
 
 /// The texts that an attribute may have.
 #[derive(Debug, Drop, PartialEq, Eq)]
@@ -52,13 +52,7 @@ pub enum SchemaCause {
 }
 
 /// Why a schema file is refused.
-#[derive(Debug, Drop, Error, PartialEq, Eq)]
-pub enum SchemaFault {
-    #[error("line {line}: {cause:?}")]
-    At { line: usize, cause: SchemaCause },
-    #[error("out of memory")]
-    Memory,
-}
+pub type SchemaFault = LineFault<SchemaCause>;
 
 fn contains_text(values: &[Text], text: &str) -> bool
     ensures test { result ≡ list_any (λ v. bytes_eq v text.now) values.now }

@@ -1,2 +1,2 @@
-pub mod Answering
-pub mod ScriptLemmas
+pub mod EachHasReply
+pub mod SameRules

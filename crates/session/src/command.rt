@@ -1,11 +1,10 @@
 //! The commands of a script, and why a script or its answers end early.
 
 ghost use Rattle.std.specs.Prelude.{◌≡◌};
-ghost use Rattle.session.specs.declared.command.ScriptFault.TheVariants as script_fault;
 ghost use Rattle.session.specs.declared.command.ServeFault.TheVariants as serve_fault;
 
-use bench_core::Edit;
-use schema_core::Limit;
+use edit_log::Edit;
+use schema_core::{Limit, LineFault};
 use std::alloc::AllocError;
 use thiserror::Error;
 
@@ -26,13 +25,7 @@ pub enum ScriptCause {
 }
 
 /// Why a script is refused.
-#[derive(Debug, Drop, Error, PartialEq, Eq)]
-pub enum ScriptFault {
-    #[error("line {line}: {cause:?}")]
-    At { line: usize, cause: ScriptCause },
-    #[error("out of memory")]
-    Memory,
-}
+pub type ScriptFault = LineFault<ScriptCause>;
 
 /// Why the answers end before the last command.
 #[derive(Debug, Drop, Error, PartialEq, Eq)]
@@ -41,14 +34,6 @@ pub enum ServeFault {
     WriteFault,
     #[error("out of memory")]
     Memory,
-}
-
-impl From<AllocError> for ScriptFault {
-    ghost from_gives = { λ _ e. e ≡ script_fault.Memory };
-
-    fn from(_e: AllocError) -> ScriptFault {
-        ScriptFault::Memory
-    }
 }
 
 impl From<AllocError> for ServeFault {

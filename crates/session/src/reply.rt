@@ -1,12 +1,15 @@
 //! The texts of replies, each appended to a buffer.
 
-ghost use Rattle.std.specs.Prelude.{◌≡◌, ◌++◌, decimal, All, OnOk};
+ghost use Rattle.std.specs.Prelude.{◌≡◌, ◌++◌, codes, decimal, All, OnOk};
 ghost use Rattle.std.specs.List.{flat_map};
+ghost use Rattle.bench_core.specs.Edited.{name_of_table};
 ghost use Rattle.violation_report.specs.Text.{IsLineOf, line_text};
-ghost use Rattle.session.specs.Replies.{done_text, fault_text, refused_text, list_text, listed_text};
+ghost use Rattle.session.specs.Replies.{changed_text, done_text, fault_text, refused_text, list_text, listed_text};
 
-use bench_core::{Applied, Bench, Edit, EditFault};
+use bench_core::{Applied, Bench, EditFault};
+use edit_log::Edit;
 use rule_model::RuleBook;
+use schema_core::Text;
 use std::alloc::{AllocError, Global};
 use violation_report::{Line, list, push_line};
 
@@ -15,6 +18,56 @@ fn push_number(alloc: Global, out: &mut Vec<u8>, number: u64) -> Result<(), Allo
 {
     let digits = number.to_string(alloc)?;
     out.extend_from_slice(digits.as_bytes())
+}
+
+/// A word, and the row that it is said of.
+fn push_row(
+    alloc: Global,
+    out: &mut Vec<u8>,
+    word: &[u8],
+    table: &Text,
+    row: u64,
+) -> Result<(), AllocError>
+    ensures { OnOk result (out.new.items ≡ out.old.items ++ (word.now ++ table.now ++ codes " " ++ decimal row)) }
+{
+    out.extend_from_slice(word)?;
+    out.extend_from_slice(table.as_str().as_bytes())?;
+    out.extend_from_slice(b" ")?;
+    push_number(alloc, out, row)
+}
+
+fn table_of(edit: &Edit) -> &Text
+    ensures { result.now ≡ name_of_table edit.now }
+{
+    match edit {
+        Edit::Insert { table, .. }
+        | Edit::Set { table, .. }
+        | Edit::Delete { table, .. }
+        | Edit::Fix { table, .. } => table,
+    }
+}
+
+fn push_changed(alloc: Global, out: &mut Vec<u8>, edit: &Edit) -> Result<(), AllocError>
+    ensures { OnOk result (out.new.items ≡ out.old.items ++ changed_text edit.now) }
+{
+    match edit {
+        Edit::Set {
+            table,
+            row,
+            attr,
+            ..
+        } => {
+            push_row(alloc, out, b"set ", table, *row)?;
+            out.extend_from_slice(b" ")?;
+            out.extend_from_slice(attr.as_str().as_bytes())?;
+            out.extend_from_slice(b"\n")
+        }
+        Edit::Delete { table, row } => {
+            push_row(alloc, out, b"deleted ", table, *row)?;
+            out.extend_from_slice(b"\n")
+        }
+        Edit::Insert { .. } | Edit::Fix { .. } => Ok(()),
+    }
 }
 
 /// Tells an edit that was done.
@@ -26,13 +79,13 @@ pub fn push_done(
 ) -> Result<(), AllocError>
     ensures { OnOk result (out.new.items ≡ out.old.items ++ done_text edit.now applied) }
 {
-    let Edit::Insert { table, .. } = edit;
-    let Applied::Inserted(row) = applied;
-    out.extend_from_slice(b"inserted ")?;
-    out.extend_from_slice(table.as_str().as_bytes())?;
-    out.extend_from_slice(b" ")?;
-    push_number(alloc, out, row)?;
-    out.extend_from_slice(b"\n")
+    match applied {
+        Applied::Inserted(row) => {
+            push_row(alloc, out, b"inserted ", table_of(edit), row)?;
+            out.extend_from_slice(b"\n")
+        }
+        Applied::Changed => push_changed(alloc, out, edit),
+    }
 }
 
 fn push_fault(out: &mut Vec<u8>, fault: &EditFault) -> Result<(), AllocError>
@@ -40,6 +93,8 @@ fn push_fault(out: &mut Vec<u8>, fault: &EditFault) -> Result<(), AllocError>
 {
     match fault {
         EditFault::UnknownTable => out.extend_from_slice(b"UnknownTable"),
+        EditFault::UnknownRow => out.extend_from_slice(b"UnknownRow"),
+        EditFault::UnknownAttr => out.extend_from_slice(b"UnknownAttr"),
         EditFault::WrongWidth => out.extend_from_slice(b"WrongWidth"),
         EditFault::TextTooLong => out.extend_from_slice(b"TextTooLong"),
         EditFault::NotInDomain(attr) => {
@@ -81,7 +136,7 @@ fn push_lines(rules: &RuleBook, lines: &[Line], out: &mut Vec<u8>) -> Result<(),
 
 /// Tells the list of the bench.
 pub fn push_list(alloc: Global, out: &mut Vec<u8>, bench: &Bench) -> Result<(), AllocError>
-    ensures { OnOk result (out.new.items ≡ out.old.items ++ list_text bench.now) }
+    ensures { OnOk result (out.new.items ≡ out.old.items ++ list_text bench.now.rules bench.now.state) }
 {
     let lines = list(alloc, bench)?;
     push_lines(bench.rules(), lines.as_slice(), out)?;

@@ -1,148 +1,122 @@
-//! Script files. Each function reads one rule of the grammar off the front of a line's tokens.
+//! Script files. Each line is read by one rule, and its texts are moved from the tokens to the command.
 
-ghost use Rattle.std.specs.Prelude.{◌≡◌, ◌≤◌, Ok, length, IfOk};
-ghost use Rattle.std.specs.Option.{option_copied, option_map};
-ghost use Rattle.schema_core.specs.Tokens.{line_tokens};
-ghost use Rattle.schema_core.specs.TokenLists.{behind_comma, list1_at, none_after};
-ghost use Rattle.session.specs.Scripts.{text_at, insert_line, list_line, command_line, with_line, at_line, script_of, IsScriptUnlessMemory};
+ghost use Rattle.std.specs.Prelude.{⊤, ◌≡◌, ◌≤◌, length, IfOk};
+ghost use Rattle.schema_core.specs.Faults.{IsUnlessMemory, line_tells};
+ghost use Rattle.schema_core.specs.Phrases.{Reads};
+ghost use Rattle.schema_core.specs.declared.limits.Limits.{Limits as AllLimits};
+ghost use Rattle.session.specs.Scripts.{insert_at, command_for, command_at, script_causes, with_line, script_of};
+ghost use Rattle.session.specs.declared.command.Command.{Command as AnyCommand};
 
 use crate::command::{Command, ScriptCause, ScriptFault};
-use bench_core::Edit;
+use edit_log::Edit;
 use schema_core::{
-    Limit, Limits, LineTokens, List, Mark, Text, Texts, Token, read_tokens, split_line,
+    Gather, Limit, Limits, Line, LineCause, List, Phrase, Quoted, Text, Tokens, Unread, read_lines,
 };
-use std::alloc::{AllocError, Global};
+use std::alloc::Global;
 
-/// The text at the front, and the tokens after it.
-fn text_at(tokens: &[Token]) -> Option<(&Text, &[Token])>
-    ensures { option_map (λ x. (x.0.now, x.1.now)) result ≡ text_at tokens.now }
-{
-    match tokens {
-        [Token::Quoted(text), rest @ ..] => Some((text, rest)),
-        _ => None,
+impl LineCause for ScriptCause {
+    ghost causes = { script_causes };
+
+    fn not_utf8() -> ScriptCause {
+        ScriptCause::NotUtf8
+    }
+
+    fn bad_line() -> ScriptCause {
+        ScriptCause::BadLine
     }
 }
 
-/// The tokens behind a comma at the front.
-fn behind_comma(tokens: &[Token]) -> Option<&[Token]>
-    ensures { option_copied result ≡ behind_comma tokens.now }
+/// A command by its first word.
+struct CommandLine;
+
+/// A table and the texts of a row.
+fn insert_at(alloc: Global, tokens: &mut Tokens) -> Result<Command, Unread>
+    ensures { Reads insert_at tokens.old tokens.new result }
 {
-    match tokens {
-        [Token::Sign(Mark::Comma), rest @ ..] => Some(rest),
-        _ => None,
-    }
+    let table = tokens.name()?;
+    let values = tokens.list1::<Quoted>(alloc)?;
+    Ok(Command::Edit(Edit::Insert { table, values }))
 }
 
-/// The texts that are listed to the end of the line, at least one.
-fn texts_of(alloc: Global, tokens: &[Token]) -> Result<Option<Texts>, AllocError>
-    ensures { IfOk result (λ values. values ≡ none_after (list1_at text_at tokens.now)) }
+fn command_for(alloc: Global, word: &Text, tokens: &mut Tokens) -> Result<Command, Unread>
+    ensures { Reads (command_for word.now) tokens.old tokens.new result }
 {
-    let mut values = List::new(alloc);
-    let mut rest = tokens;
-    loop {
-        let Some((text, after)) = text_at(rest) else {
-            return Ok(None);
-        };
-        values.push(text.clone()?)?;
-        let Some(behind) = behind_comma(after) else {
-            if after.is_empty() {
-                return Ok(Some(values));
-            }
-            return Ok(None);
-        };
-        rest = behind;
-    }
-}
-
-/// What follows the word `insert`: the name of a table, and the texts of a row.
-fn insert_line(alloc: Global, tokens: &[Token]) -> Result<Option<Command>, AllocError>
-    ensures { IfOk result (λ command. command ≡ insert_line tokens.now) }
-{
-    let [Token::Name(table), rest @ ..] = tokens else {
-        return Ok(None);
-    };
-    let Some(values) = texts_of(alloc, rest)? else {
-        return Ok(None);
-    };
-    let table = table.clone()?;
-    Ok(Some(Command::Edit(Edit::Insert { table, values })))
-}
-
-/// What follows the word `list`.
-fn list_line(tokens: &[Token]) -> Option<Command>
-    ensures { result ≡ list_line tokens.now }
-{
-    if tokens.is_empty() {
-        Some(Command::List)
-    } else {
-        None
-    }
-}
-
-/// The command that the tokens of a line say.
-fn command_line(alloc: Global, tokens: &[Token]) -> Result<Option<Command>, AllocError>
-    ensures { IfOk result (λ command. command ≡ command_line tokens.now) }
-{
-    let [Token::Name(word), rest @ ..] = tokens else {
-        return Ok(None);
-    };
     if word.is("insert") {
-        insert_line(alloc, rest)
+        insert_at(alloc, tokens)
     } else if word.is("list") {
-        Ok(list_line(rest))
+        Ok(Command::List)
     } else {
-        Ok(None)
+        Err(Unread::Absent)
     }
 }
 
-/// The commands with that of a line, which is the one with this number.
-fn with_line(
-    alloc: Global,
-    limits: &Limits,
-    mut commands: List<Command>,
-    number: usize,
-    line: &[u8],
-) -> Result<List<Command>, ScriptFault>
-    ensures { IsScriptUnlessMemory result (at_line number (with_line limits.now commands (line_tokens line.now)) Ok) }
-{
-    let cause = match read_tokens(alloc, line)? {
-        LineTokens::Passed => return Ok(commands),
-        LineTokens::NotUtf8 => ScriptCause::NotUtf8,
-        LineTokens::BadTokens(_) => ScriptCause::BadLine,
-        LineTokens::Tokens(tokens) => match command_line(alloc, tokens.as_slice())? {
-            None => ScriptCause::BadLine,
-            Some(_) if commands.as_slice().len() as u64 >= limits.commands => {
-                ScriptCause::TooMany(Limit::Commands)
-            }
-            Some(command) => {
-                commands.push(command)?;
-                return Ok(commands);
-            }
-        },
-    };
-    Err(ScriptFault::At {
-        line: number,
-        cause,
-    })
+impl Phrase for CommandLine {
+    type Value = Command;
+
+    ghost reads = { command_at };
+
+    ghost is_fit = { λ _. ⊤ };
+
+    #[tactic(auto, unfolding(crate::specs::Scripts::command_at))]
+    fn take(alloc: Global, tokens: &mut Tokens) -> Result<Command, Unread> {
+        let word = tokens.name()?;
+        command_for(alloc, &word, tokens)
+    }
+}
+
+/// The commands of the lines so far.
+#[derive(Drop)]
+struct Commands {
+    limits: Limits,
+    commands: List<Command>,
+}
+
+impl Gather<Line> for Commands {
+    type Cause = ScriptCause;
+
+    ghost use Rattle.std.specs.Prelude.{List, ◌≤◌, length};
+
+    ghost Gathered = { List AnyCommand };
+
+    ghost Made = { AllLimits };
+
+    ghost gathered = { λ script. script.commands };
+
+    ghost made = { λ script. script.limits };
+
+    ghost with_item = { with_line };
+
+    ghost is_fit = { λ limits commands. length commands ≤ limits.commands };
+
+    #[tactic(auto, unfolding(crate::specs::Scripts::with_line))]
+    fn add(&mut self, alloc: Global, line: Line) -> Result<(), ScriptFault> {
+        let number = line.number;
+        let command = line.read::<CommandLine, ScriptCause>(alloc)?;
+        if self.commands.as_slice().len() as u64 >= self.limits.commands {
+            return Err(ScriptFault::At {
+                line: number,
+                cause: ScriptCause::TooMany(Limit::Commands),
+            });
+        }
+        self.commands.push(command)?;
+        Ok(())
+    }
 }
 
 /// The commands that a script spells, one a line, or the first faulty line, counted from 1, with its cause.
+#[tactic(auto, unfolding(crate::specs::Scripts::script_of))]
 pub fn parse_script(
     alloc: Global,
     bytes: &[u8],
     limits: &Limits,
 ) -> Result<List<Command>, ScriptFault>
-    ensures exact { IsScriptUnlessMemory result (script_of limits.now bytes.now) }
+    ensures exact { IsUnlessMemory line_tells (script_of limits.now bytes.now) result }
     ensures count { IfOk result (λ commands. length commands ≤ limits.now.commands) }
 {
-    let mut commands = List::new(alloc);
-    let mut rest = bytes;
-    let mut number = 1;
-    while !rest.is_empty() {
-        let (line, behind) = split_line(rest);
-        commands = with_line(alloc, limits, commands, number, line)?;
-        rest = behind;
-        number += 1;
-    }
-    Ok(commands)
+    let mut script = Commands {
+        limits: *limits,
+        commands: List::new(alloc),
+    };
+    read_lines(alloc, &mut script, bytes)?;
+    Ok(script.commands)
 }

@@ -1,14 +1,15 @@
 //! The answers of a script.
 
-ghost use Rattle.std.specs.Prelude.{◌≡◌, ◌≤◌, [], Err, OnOk, OnErr};
+ghost use Rattle.std.specs.Prelude.{◌≡◌, ◌≤◌, ℕ, List, [], ◌∷◌, Option, Err, OnOk, OnErr};
 ghost use Rattle.shelf_io.specs.Rising.{Rose};
-ghost use Rattle.bench_core.specs.Edited.{fault_of_edit};
+ghost use Rattle.shelf_io.specs.Transcript.{Answers, AnswersFront};
+ghost use Rattle.bench_core.specs.Edited.{edited};
 ghost use Rattle.session.specs.Replies.{IsReply, IsEditReply};
-ghost use Rattle.session.specs.Transcript.{Answers, AnswersFront, HasAnswered, IsBeforeOrAfter, IsCut};
 
 use crate::command::{Command, ServeFault};
 use crate::reply::{push_done, push_list, push_refused};
-use bench_core::{Bench, Edit, EditFault};
+use bench_core::{Bench, EditFault};
+use edit_log::Edit;
 use schema_core::List;
 use shelf_io::{PutFailed, Sink, write_out};
 use std::alloc::{AllocError, Global};
@@ -21,12 +22,13 @@ pub fn serve<O: Sink>(
     commands: &List<Command>,
     out: &mut O,
 ) -> Result<(), ServeFault>
-    ensures ok { OnOk result (Answers bench.old commands.now (O.written out.old) (O.written out.new) bench.new) }
+    ensures ok { OnOk result (Answers (IsReply bench.old.rules bench.old.limits) bench.old.state commands.now bench.new.state (O.told out.old).written (O.told out.new).written) }
 
     // After a fault some of the commands were answered, the last reply perhaps not to its end.
-    ensures fault { OnErr result (AnswersFront bench.old commands.now (O.written out.old) (O.written out.new) bench.new) }
-    ensures write_fault { result ≡ Err ServeFault.WriteFault → Rose (O.faults out.old) (O.faults out.new) }
-    ensures faults { O.faults out.old ≤ O.faults out.new }
+    ensures fault { OnErr result (AnswersFront (IsReply bench.old.rules bench.old.limits) bench.old.state commands.now bench.new.state (O.told out.old).written (O.told out.new).written) }
+    ensures made_with { (bench.new.rules ≡ bench.old.rules) × (bench.new.limits ≡ bench.old.limits) }
+    ensures write_fault { result ≡ Err ServeFault.WriteFault → Rose (O.told out.old).faults (O.told out.new).faults }
+    ensures faults { (O.told out.old).faults ≤ (O.told out.new).faults }
 {
     let mut reply = Vec::new(alloc);
     for command in commands.as_slice() {
@@ -43,10 +45,11 @@ fn answer_one<O: Sink>(
     reply: &mut Vec<u8>,
     out: &mut O,
 ) -> Result<(), ServeFault>
-    ensures ok { OnOk result (HasAnswered bench.old command.now (O.written out.old) (O.written out.new) bench.new) }
-    ensures fault { OnErr result (IsCut bench.old command.now (O.written out.old) (O.written out.new) bench.new) }
-    ensures write_fault { result ≡ Err ServeFault.WriteFault → Rose (O.faults out.old) (O.faults out.new) }
-    ensures faults { O.faults out.old ≤ O.faults out.new }
+    ensures ok { OnOk result (Answers (IsReply bench.old.rules bench.old.limits) bench.old.state (command.now ∷ []) bench.new.state (O.told out.old).written (O.told out.new).written) }
+    ensures fault { OnErr result (AnswersFront (IsReply bench.old.rules bench.old.limits) bench.old.state (command.now ∷ []) bench.new.state (O.told out.old).written (O.told out.new).written) }
+    ensures made_with { (bench.new.rules ≡ bench.old.rules) × (bench.new.limits ≡ bench.old.limits) }
+    ensures write_fault { result ≡ Err ServeFault.WriteFault → Rose (O.told out.old).faults (O.told out.new).faults }
+    ensures faults { (O.told out.old).faults ≤ (O.told out.new).faults }
 {
     reply.clear();
     answer(alloc, bench, command, reply)?;
@@ -64,8 +67,11 @@ fn answer(
     reply: &mut Vec<u8>,
 ) -> Result<(), AllocError>
     requires { reply.old.items ≡ [] }
-    ensures ok { OnOk result (IsReply bench.old command.now reply.new.items bench.new) }
-    ensures memory { OnErr result (IsBeforeOrAfter bench.old command.now bench.new) }
+    ensures ok { OnOk result (IsReply bench.old.rules bench.old.limits bench.old.state command.now reply.new.items bench.new.state) }
+
+    // The bench is as before the command or as after it, and the sink wasn't touched.
+    ensures memory { OnErr result ((written : Option (List ℕ)) → AnswersFront (IsReply bench.old.rules bench.old.limits) bench.old.state (command.now ∷ []) bench.new.state written written) }
+    ensures made_with { (bench.new.rules ≡ bench.old.rules) × (bench.new.limits ≡ bench.old.limits) }
 {
     match command {
         Command::Edit(edit) => answer_edit(alloc, bench, edit, reply),
@@ -80,8 +86,9 @@ fn answer_edit(
     reply: &mut Vec<u8>,
 ) -> Result<(), AllocError>
     requires { reply.old.items ≡ [] }
-    ensures ok { OnOk result (IsEditReply bench.old edit.now (fault_of_edit bench.old edit.now) reply.new.items bench.new) }
-    ensures memory { OnErr result (IsBeforeOrAfter bench.old (Command.Edit edit.now) bench.new) }
+    ensures ok { OnOk result (IsEditReply bench.old.state edit.now (edited bench.old.rules bench.old.limits bench.old.state edit.now) reply.new.items bench.new.state) }
+    ensures memory { OnErr result ((written : Option (List ℕ)) → AnswersFront (IsReply bench.old.rules bench.old.limits) bench.old.state (Command.Edit edit.now ∷ []) bench.new.state written written) }
+    ensures made_with { (bench.new.rules ≡ bench.old.rules) × (bench.new.limits ≡ bench.old.limits) }
 {
     match bench.apply(edit) {
         Ok(applied) => push_done(alloc, reply, edit, applied),

@@ -1,6 +1,6 @@
 // Scripts as their commands, or as the first fault.
 use super::*;
-use bench_core::Edit;
+use edit_log::Edit;
 use schema_core::Limits;
 use std::alloc::AllocError;
 use std::process::Abort;
@@ -18,6 +18,7 @@ fn show_command(text: &mut String, command: &Command) -> Result<(), AllocError> 
                 text.push_str(">")?;
             }
         }
+        Command::Edit(_) => text.push_str("another edit")?,
     }
     text.push_str("; ")
 }

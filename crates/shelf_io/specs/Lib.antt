@@ -4,5 +4,7 @@ pub mod Held
 pub mod MemoryShelf
 pub mod MemorySink
 pub mod Rising
+pub mod Shelf
 pub mod Sink
 pub mod SteadyShelf
+pub mod Transcript

@@ -3,6 +3,7 @@ ghost use Rattle.std.specs.Prelude.{◌≡◌, ◌+◌, ◌≤◌, ℕ, length, 
 ghost use Rattle.shelf_io.specs.Counts.{no_counts, counts_after};
 ghost use Rattle.shelf_io.specs.Files.{file_at, front_at};
 ghost use Rattle.shelf_io.specs.Rising.{Rose};
+ghost use Rattle.shelf_io.specs.Shelf.{ShelfTold};
 
 use crate::counts::FetchCounts;
 use crate::{FetchFault, Shelf};
@@ -44,13 +45,12 @@ impl<R: Files> FolderShelf<R> {
 }
 
 impl<R: Files> Shelf for FolderShelf<R> {
-    ghost holding = { λ _. None };
-
-    ghost faults = { λ shelf. shelf.faults };
-
-    ghost absences = { λ shelf. shelf.absences };
-
-    ghost calls = { λ shelf. shelf.calls };
+    ghost told = { λ shelf. record {
+      holding = None;
+      calls = shelf.calls;
+      faults = shelf.faults;
+      absences = shelf.absences;
+    } };
 
     fn fetch(&mut self, name: &str, most: usize) -> Result<Vec<u8>, FetchFault>
         ensures length { IfOk result (λ bytes. length bytes.items ≤ most) }

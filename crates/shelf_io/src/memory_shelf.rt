@@ -6,6 +6,7 @@ ghost use Rattle.shelf_io.specs.Files.{file_at, front_at, with_file};
 ghost use Rattle.shelf_io.specs.Held.{IsAnswer};
 ghost use Rattle.shelf_io.specs.MemoryShelf.{IsFailing};
 ghost use Rattle.shelf_io.specs.Rising.{Rose};
+ghost use Rattle.shelf_io.specs.Shelf.{ShelfTold};
 
 use crate::counts::{FetchCounts, next_count};
 use crate::files::HeldFiles;
@@ -56,13 +57,12 @@ impl MemoryShelf {
 }
 
 impl Shelf for MemoryShelf {
-    ghost holding = { λ shelf. Some shelf.files };
-
-    ghost faults = { λ shelf. shelf.counts.faults };
-
-    ghost absences = { λ shelf. shelf.counts.absences };
-
-    ghost calls = { λ shelf. shelf.counts.calls };
+    ghost told = { λ shelf. record {
+      holding = Some shelf.files;
+      calls = shelf.counts.calls;
+      faults = shelf.counts.faults;
+      absences = shelf.counts.absences;
+    } };
 
     fn fetch(&mut self, name: &str, most: usize) -> Result<Vec<u8>, FetchFault>
         ensures listed { IsFailing self.old → result ≡ Err FetchFault.Failed }

@@ -2,7 +2,7 @@
 ghost use Rattle.std.specs.Prelude.{◌≡◌, ◌↔◌, ◌-◌, ◌<◌, ◌≤◌, ℕ, List, [], ◌∷◌, length, take, min, Option, Some, IsOk, IsErr, IfOk, OnErr};
 ghost use Rattle.shelf_io.specs.MemorySink.{IsRefusing, count_that_fits, after_put, after_failure};
 ghost use Rattle.shelf_io.specs.Rising.{Rose};
-ghost use Rattle.shelf_io.specs.Sink.{appended, TakesPart};
+ghost use Rattle.shelf_io.specs.Sink.{SinkTold, TakesPart, appended};
 
 use crate::counts::next_count;
 use crate::{PutFailed, Sink};
@@ -60,9 +60,7 @@ impl MemorySink {
 }
 
 impl Sink for MemorySink {
-    ghost written = { λ sink. Some sink.bytes };
-
-    ghost faults = { λ sink. sink.faults };
+    ghost told = { λ sink. record { written = Some sink.bytes; faults = sink.faults } };
 
     fn put(&mut self, bytes: &[u8]) -> Result<usize, PutFailed>
         ensures part { IfOk result (λ taken. TakesPart taken bytes.now) }

@@ -2,7 +2,8 @@
 ghost use Rattle.std.specs.Prelude.{◌≡◌, ◌+◌, ◌≤◌, ℕ, List, length, Option, None, Some, IsSome, IfOk, IfSome, IsErrOf};
 ghost use Rattle.shelf_io.specs.declared.shelf.FetchFault.TheVariants.{Memory};
 ghost use Rattle.shelf_io.specs.Rising.{Rose};
-ghost use Rattle.shelf_io.specs.Files.{Files, file_at, front_at};
+ghost use Rattle.shelf_io.specs.Files.{file_at, front_at};
+ghost use Rattle.shelf_io.specs.Shelf.{ShelfTold};
 
 use std::alloc::AllocError;
 use thiserror::Error;
@@ -28,37 +29,28 @@ impl From<AllocError> for FetchFault {
 
 /// A device that hands out files by their names.
 pub trait Shelf {
-    /// What it holds, where it tells that: a finite map from names to bytes.
-    ghost holding: { Self → Option Files };
-
-    /// How many fetches failed.
-    ghost faults: { Self → ℕ };
-
-    /// How many fetches found no file.
-    ghost absences: { Self → ℕ };
-
-    /// How many fetches were made.
-    ghost calls: { Self → ℕ };
+    /// What it holds, where it tells that, and its counts of fetches, failures and absences.
+    ghost told: { Self → ShelfTold };
 
     /// The bytes of the named file, or the first `most` of them where it is longer.
     fn fetch(&mut self, name: &str, most: usize) -> Result<Vec<u8>, FetchFault>
         // Where the shelf tells what it holds, these are the held bytes.
-        ensures bytes { IfOk result (λ bytes. IfSome (holding self.old)
+        ensures bytes { IfOk result (λ bytes. IfSome (told self.old).holding
             (λ files. front_at files name.now most ≡ Some bytes.items)) }
         ensures length { IfOk result (λ bytes. length bytes.items ≤ most) }
 
         // Each failure and each absence is counted, and no absence of a file that is held.
-        ensures failed { IsErrOf result FetchFault.Failed → Rose (faults self.old) (faults self.new) }
-        ensures absent { IsErrOf result FetchFault.Absent → Rose (absences self.old) (absences self.new) }
+        ensures failed { IsErrOf result FetchFault.Failed → Rose (told self.old).faults (told self.new).faults }
+        ensures absent { IsErrOf result FetchFault.Absent → Rose (told self.old).absences (told self.new).absences }
         ensures not_held { IsErrOf result FetchFault.Absent
-            → IfSome (holding self.old) (λ files. file_at files name.now ≡ None) }
-        ensures held { IfSome (holding self.old) (λ files. IsSome (file_at files name.now)
-            → absences self.new ≡ absences self.old) }
+            → IfSome (told self.old).holding (λ files. file_at files name.now ≡ None) }
+        ensures held { IfSome (told self.old).holding (λ files. IsSome (file_at files name.now)
+            → (told self.new).absences ≡ (told self.old).absences) }
 
         // No count falls, the calls rise by at most one, and what is held stays.
-        ensures faults { faults self.old ≤ faults self.new }
-        ensures absences { absences self.old ≤ absences self.new }
-        ensures calls { calls self.old ≤ calls self.new }
-        ensures one_call { calls self.new ≤ calls self.old + 1 }
-        ensures holding { holding self.new ≡ holding self.old };
+        ensures faults { (told self.old).faults ≤ (told self.new).faults }
+        ensures absences { (told self.old).absences ≤ (told self.new).absences }
+        ensures calls { (told self.old).calls ≤ (told self.new).calls }
+        ensures one_call { (told self.new).calls ≤ (told self.old).calls + 1 }
+        ensures holding { (told self.new).holding ≡ (told self.old).holding };
 }

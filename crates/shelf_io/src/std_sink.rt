@@ -1,7 +1,7 @@
 // Standard output.
 ghost use Rattle.std.specs.Prelude.{◌≡◌, ◌<◌, ◌≤◌, ℕ, List, [], length, take, Option, None, is_ok, if◌then◌else◌, IsOk, IfOk, OnErr};
 ghost use Rattle.shelf_io.specs.Rising.{Rose, raised};
-ghost use Rattle.shelf_io.specs.Sink.{appended, TakesPart};
+ghost use Rattle.shelf_io.specs.Sink.{SinkTold, TakesPart, appended};
 
 use crate::counts::next_count;
 use crate::{PutFailed, Sink};
@@ -31,9 +31,7 @@ impl<R: Print> StdSink<R> {
 }
 
 impl<R: Print> Sink for StdSink<R> {
-    ghost written = { λ _. None };
-
-    ghost faults = { λ sink. sink };
+    ghost told = { λ sink. record { written = None; faults = sink } };
 
     // One write of the system, so that a failure has written nothing. A write that takes nothing is one.
     fn put(&mut self, bytes: &[u8]) -> Result<usize, PutFailed>

@@ -5,6 +5,7 @@ ghost use Rattle.shelf_io.specs.Counts.{no_counts, counts_after};
 ghost use Rattle.shelf_io.specs.Files.{file_at, front_at, with_file};
 ghost use Rattle.shelf_io.specs.Held.{IsAnswer};
 ghost use Rattle.shelf_io.specs.Rising.{Rose};
+ghost use Rattle.shelf_io.specs.Shelf.{ShelfTold};
 
 use crate::counts::FetchCounts;
 use crate::files::HeldFiles;
@@ -52,13 +53,12 @@ impl SteadyShelf {
 }
 
 impl Shelf for SteadyShelf {
-    ghost holding = { λ shelf. Some shelf.files };
-
-    ghost faults = { λ _. 0 };
-
-    ghost absences = { λ shelf. shelf.counts.absences };
-
-    ghost calls = { λ shelf. shelf.counts.calls };
+    ghost told = { λ shelf. record {
+      holding = Some shelf.files;
+      calls = shelf.counts.calls;
+      faults = 0;
+      absences = shelf.counts.absences;
+    } };
 
     fn fetch(&mut self, name: &str, most: usize) -> Result<Vec<u8>, FetchFault>
         ensures answer { IsAnswer self.old.files name.now most result }

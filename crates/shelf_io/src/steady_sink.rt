@@ -1,7 +1,7 @@
 // Bytes that are dropped.
 ghost use Rattle.std.specs.Prelude.{◌≡◌, ◌+◌, ◌-◌, ◌^◌, ◌≤◌, ℕ, List, [], length, take, min, Option, None, Ok, IsOk, IfOk, OnErr};
 ghost use Rattle.shelf_io.specs.Rising.{Rose};
-ghost use Rattle.shelf_io.specs.Sink.{appended, TakesPart};
+ghost use Rattle.shelf_io.specs.Sink.{SinkTold, TakesPart, appended};
 
 use crate::{PutFailed, Sink};
 use std::marker::Model;
@@ -37,9 +37,7 @@ impl SteadySink {
 }
 
 impl Sink for SteadySink {
-    ghost written = { λ _. None };
-
-    ghost faults = { λ _. 0 };
+    ghost told = { λ _. record { written = None; faults = 0 } };
 
     fn put(&mut self, bytes: &[u8]) -> Result<usize, PutFailed>
         ensures all { result ≡ Ok (length bytes.now) }

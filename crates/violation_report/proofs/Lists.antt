@@ -1,68 +1,67 @@
--- Facts on the list of a bench: when it is empty, and that its lines are in range of the rules.
-use Rattle.std.proofs.Common.{◌≡◌, ℕ, ◌+◌, ◌<◌, ◌↔◌, Bool, List, [], ◌∷◌, map, length, drop, get_or, Option, None, Some, refl, ap, ◌∙◌, inl, inr, arith}
-use Rattle.std.specs.List.{All, slice_get}
-use Rattle.std.specs.Str.{bytes_eq}
+-- Facts on the list of a state: when it is empty, and that its lines are in range of the rules.
+use Rattle.std.proofs.Common.{◌≡◌, ℕ, ◌+◌, ◌<◌, ◌↔◌, Bool, List, [], ◌∷◌, ◌++◌, map, length, drop, get_or, Option, None, Some, refl, ap, subst, ◌∙◌, inl, inr, arith}
+use Rattle.std.specs.List.{All, Contains, enumerate_from, flat_map, slice_get}
+use Rattle.std.specs.Option.{IsSomeAnd}
 use Rattle.std.proofs.lemmas.Bool.{cases_lt}
 use Rattle.std.proofs.lemmas.Cmp.{nat_list_eq_equiv}
+use Rattle.std.specs.Str.{bytes_eq}
 use Rattle.std.proofs.lemmas.List.{drop_more, drop_all}
 use Rattle.std.proofs.lemmas.Option.{slice_get-get_or}
-use Rattle.std.proofs.lemmas.List.Elements.{All-nil, All-cons, All-head, All-tail, All-append, All-map, All-weaker}
-use Rattle.cfd_semantics.specs.declared.pattern.TableauRow.{TableauRow}
-use Rattle.cfd_semantics.specs.declared.scan.Violation.{Violation}
-use Rattle.cfd_semantics.specs.Violation.{Entry, entries, violations, numbered, violations_from, dependency_violations}
+use Rattle.std.proofs.lemmas.List.Elements.{All-nil, All-append, All-map, All-weaker, Contains-get_or}
+use Rattle.cfd_semantics.specs.declared.violation.Violation.{Violation}
+use Rattle.cfd_semantics.specs.Numbered.{numbered}
+use Rattle.cfd_semantics.specs.Tuple.{tuples_of}
+use Rattle.cfd_semantics.specs.Violation.{entries, violating}
+use Rattle.cfd_semantics.specs.Orphan.{left_entries, right_entries, orphaned}
 use Rattle.cfd_semantics.proofs.Law.{listing_is_empty_where_satisfied}
+use Rattle.cfd_semantics.proofs.InclusionLaw.{orphans_are_none_where_included}
 use Rattle.cfd_semantics.proofs.Members.{append-empty, map-empty}
+use Rattle.cfd_semantics.proofs.Numbers.{numbered-empty, numbered-in_range}
 use Rattle.rule_model.specs.declared.dep.Dep.{Dep}
-use Rattle.rule_model.specs.Books.{Book, book_deps}
-use Rattle.bench_core.specs.declared.rows.TableRows.{TableRows}
-use Rattle.bench_core.specs.Edited.{BenchState}
-use Rattle.violation_report.specs.Listing.{rows_at, line_of, dep_lines, lines_from, listing, AllSatisfied, IsSatisfied}
-use Rattle.violation_report.specs.Text.{IsLineOf, HasTableauRow}
+use Rattle.rule_model.specs.declared.cind.Cind.{Cind}
+use Rattle.rule_model.specs.Books.{Book, book_deps, book_cinds}
+use Rattle.rule_model.specs.Satisfied.{SatisfyDep, SatisfyCind}
+use Rattle.bench_core.specs.State.{State, rows_at}
+use Rattle.violation_report.specs.declared.line.Line.{Line}
+use Rattle.violation_report.specs.Listing.{dep_violations, dep_line, dep_lines, cind_orphans, cind_line, cind_lines, listing, IsSatisfied}
+use Rattle.violation_report.specs.Text.{IsLineOf, HasDepRow, HasCindRow}
 
 -- ---- an empty list
 
-law_of_dep : (tables : List TableRows) (number : ℕ) (dep : Dep) → dep_lines tables number dep ≡ [] ↔ IsSatisfied tables dep
-law_of_dep tables number dep =
-    let law = listing_is_empty_where_satisfied nat_list_eq_equiv [] dep.x dep.a dep.rows (rows_at tables dep.table) in (
-      (λ empty. law.0 (map-empty (line_of number) (dependency_violations bytes_eq dep.rows (entries [] dep.x dep.a (rows_at tables dep.table))) empty)),
-      (λ satisfied. ap (map (line_of number)) (law.1 satisfied)),
+all_from_members : {T : Type 0} (P : T → Type 0) (items : List T) → ((item : T) → Contains items item → P item) → All P items
+all_from_members P items each = λ k d lt. each (get_or items k d) (Contains-get_or items k d lt)
+
+members_from_all : {T : Type 0} (P : T → Type 0) (items : List T) → All P items → (item : T) → Contains items item → P item
+members_from_all P items all item (k, lt, is) = subst P is (all k item lt)
+
+-- the lines of rules of a kind are none exactly where each rule is satisfied
+law_of_kind : {T X : Type 0} (gives : T → List X) (line : ℕ × X → Line) (P : T → Type 0) → ((item : T) → gives item ≡ [] ↔ P item) → (items : List T) → map line (numbered gives items) ≡ [] ↔ All P items
+law_of_kind gives line P one items =
+    let none = numbered-empty gives items in (
+      (λ empty. all_from_members P items (λ item member. (one item).0 (none.0 (map-empty line (numbered gives items) empty) item member))),
+      (λ all. ap (map line) (none.1 (λ item member. (one item).1 (members_from_all P items all item member)))),
     )
 
-law_from : (tables : List TableRows) (first : ℕ) (deps : List Dep) → lines_from tables first deps ≡ [] ↔ All (IsSatisfied tables) deps
-law_from tables first [] = ((λ empty. All-nil (IsSatisfied tables)), (λ all. refl))
-law_from tables first (dep ∷ deps) =
-    let here = law_of_dep tables first dep in
-    let later = law_from tables (first + 1) deps in (
-      (λ empty.
-          let parts = append-empty (dep_lines tables first dep) (lines_from tables (first + 1) deps) empty in
-          All-cons (IsSatisfied tables) dep deps (here.0 parts.0) (later.0 parts.1)),
-      (λ all. rw (here.1 (All-head (IsSatisfied tables) dep deps all), later.1 (All-tail (IsSatisfied tables) dep deps all)) refl),
-    )
+law_of_deps : (rules : Book) (state : State) → dep_lines rules state ≡ [] ↔ All (λ (dep : Dep). SatisfyDep dep (tuples_of (rows_at state dep.table))) (book_deps rules)
+law_of_deps rules state =
+    law_of_kind (dep_violations state) dep_line (λ (dep : Dep). SatisfyDep dep (tuples_of (rows_at state dep.table)))
+    (λ dep. listing_is_empty_where_satisfied nat_list_eq_equiv dep.rule (rows_at state dep.table)) (book_deps rules)
 
--- the list is empty exactly where the rows of each table satisfy all its dependencies
-pub listing_is_empty : (bench : BenchState) → listing bench ≡ [] ↔ AllSatisfied bench
-listing_is_empty bench = law_from bench.tables 0 (book_deps bench.rules)
+law_of_cinds : (rules : Book) (state : State) → cind_lines rules state ≡ [] ↔ All (λ (cind : Cind). SatisfyCind cind (tuples_of (rows_at state cind.left)) (tuples_of (rows_at state cind.right))) (book_cinds rules)
+law_of_cinds rules state =
+    law_of_kind (cind_orphans state) cind_line (λ (cind : Cind). SatisfyCind cind (tuples_of (rows_at state cind.left)) (tuples_of (rows_at state cind.right)))
+    (λ cind. orphans_are_none_where_included bytes_eq cind.rule (rows_at state cind.left) (rows_at state cind.right)) (book_cinds rules)
+
+-- the list is empty exactly where all rules are satisfied
+pub listing_is_empty : (rules : Book) (state : State) → listing rules state ≡ [] ↔ IsSatisfied rules state
+listing_is_empty rules state =
+    let deps = law_of_deps rules state in
+    let cinds = law_of_cinds rules state in (
+      (λ empty. let parts = append-empty (dep_lines rules state) (cind_lines rules state) empty in record { deps = deps.0 parts.0; cinds = cinds.0 parts.1 }),
+      (λ satisfied. rw (deps.1 satisfied.deps, cinds.1 satisfied.cinds) refl),
+    )
 
 -- ---- numbers in range
-
-numbers_in_range : {V : Type 0} (eq : V → V → Bool) (first : ℕ) (tableau : List (TableauRow V)) (all : List (Entry V)) → All (λ (v : Violation). v.tableau_row < first + length tableau) (violations_from eq first tableau all)
-numbers_in_range eq first [] all = All-nil _
-numbers_in_range eq first (t ∷ rest) all =
-    All-append (λ (v : Violation). v.tableau_row < first + length (t ∷ rest)) (numbered first (violations eq t all)) (violations_from eq (first + 1) rest all)
-    (All-map (λ (v : Violation). v.tableau_row < first + length (t ∷ rest)) _ (violations eq t all) (λ k d below. omega arith))
-    (All-weaker (λ (v : Violation). v.tableau_row < first + 1 + length rest) (λ (v : Violation). v.tableau_row < first + length (t ∷ rest)) (λ v below. omega arith) (violations_from eq (first + 1) rest all) (numbers_in_range eq (first + 1) rest all))
-
-line_in_range : (rules : Book) (number k row : ℕ) (partner : Option ℕ) → HasTableauRow rules number k → IsLineOf rules (line_of number (record { tableau_row = k; row = row; partner = partner }))
-line_in_range rules number k row None has = has
-line_in_range rules number k row (Some partner) has = has
-
-dep_lines_in_range : (rules : Book) (tables : List TableRows) (number : ℕ) (dep : Dep) → slice_get (book_deps rules) number ≡ Some dep → All (IsLineOf rules) (dep_lines tables number dep)
-dep_lines_in_range rules tables number dep here =
-    let found = dependency_violations bytes_eq dep.rows (entries [] dep.x dep.a (rows_at tables dep.table)) in
-    All-map (IsLineOf rules) (line_of number) found
-    (All-weaker (λ (v : Violation). v.tableau_row < 0 + length dep.rows) (λ v. IsLineOf rules (line_of number v))
-    (λ v below. line_in_range rules number v.tableau_row v.row v.partner (rw here (omega (arith, below))))
-    found (numbers_in_range bytes_eq 0 dep.rows (entries [] dep.x dep.a (rows_at tables dep.table))))
 
 -- what is left of a list from a place on begins with the element there
 at_rest : {X : Type 0} (xs : List X) (i : ℕ) (y : X) (ys : List X) → drop i xs ≡ y ∷ ys → (slice_get xs i ≡ Some y) × (drop (i + 1) xs ≡ ys)
@@ -74,14 +73,37 @@ at_rest xs i y ys rest = elim (cases_lt i (length xs)) [
   | inr past ↦ let none = drop_all i xs past in absurd (cc)
 ]
 
-lines_in_range : (rules : Book) (tables : List TableRows) (first : ℕ) (deps : List Dep) → drop first (book_deps rules) ≡ deps → All (IsLineOf rules) (lines_from tables first deps)
-lines_in_range rules tables first [] rest = All-nil (IsLineOf rules)
-lines_in_range rules tables first (dep ∷ deps) rest =
-    let parts = at_rest (book_deps rules) first dep deps rest in
-    All-append (IsLineOf rules) (dep_lines tables first dep) (lines_from tables (first + 1) deps)
-    (dep_lines_in_range rules tables first dep parts.0)
-    (lines_in_range rules tables (first + 1) deps parts.1)
+-- what holds of all that an item gives holds of each numbered one, for the item with its number
+module _ {T X : Type 0} (gives : T → List X) (Q : T → X → Type 0) (each : (item : T) → All (Q item) (gives item)) (all : List T) where
+  abbrev IsOfItem : ℕ × X → Type 0
+  IsOfItem one = IsSomeAnd (slice_get all one.0) (λ item. Q item one.1)
 
--- each line of the list names a dependency of the rules, and a tableau row of it
-pub listing_in_range : (bench : BenchState) → All (IsLineOf bench.rules) (listing bench)
-listing_in_range bench = lines_in_range bench.rules bench.tables 0 (book_deps bench.rules) refl
+  of_items_from : (n : ℕ) (rest : List T) → drop n all ≡ rest → All IsOfItem (flat_map (λ (item : ℕ × T). map (λ given. (item.0, given)) (gives item.1)) (enumerate_from n rest))
+  of_items_from n [] is = All-nil IsOfItem
+  of_items_from n (item ∷ rest) is =
+      let parts = at_rest all n item rest is in
+      All-append IsOfItem (map (λ given. (n, given)) (gives item)) (flat_map (λ (item : ℕ × T). map (λ given. (item.0, given)) (gives item.1)) (enumerate_from (n + 1) rest))
+      (All-map IsOfItem (λ given. (n, given)) (gives item) (All-weaker (Q item) (λ given. IsOfItem (n, given)) (λ given holds. rw parts.0 holds) (gives item) (each item)))
+      (of_items_from (n + 1) rest parts.1)
+
+  of_items : All IsOfItem (numbered gives all)
+  of_items = of_items_from 0 all refl
+
+dep_line-in_range : (rules : Book) (one : ℕ × (ℕ × Violation)) → HasDepRow rules one.0 one.1.0 → IsLineOf rules (dep_line one)
+dep_line-in_range rules (dep, (k, found)) has = partner_cases found.partner
+  where
+    partner_cases : (partner : Option ℕ) → IsLineOf rules (dep_line (dep, (k, record { row = found.row; partner = partner })))
+    partner_cases None = has
+    partner_cases (Some partner) = has
+
+-- each line of the list names a rule of its kind, and a tableau row of it
+pub listing_in_range : (rules : Book) (state : State) → All (IsLineOf rules) (listing rules state)
+listing_in_range rules state =
+    All-append (IsLineOf rules) (dep_lines rules state) (cind_lines rules state)
+    (All-map (IsLineOf rules) dep_line (numbered (dep_violations state) (book_deps rules))
+    (All-weaker (λ (one : ℕ × (ℕ × Violation)). HasDepRow rules one.0 one.1.0) (λ one. IsLineOf rules (dep_line one)) (dep_line-in_range rules) (numbered (dep_violations state) (book_deps rules))
+    (of_items (dep_violations state) (λ (dep : Dep) (one : ℕ × Violation). one.0 < length dep.rule.rows)
+    (λ dep. numbered-in_range (λ t. violating bytes_eq t (entries dep.rule (rows_at state dep.table))) dep.rule.rows) (book_deps rules))))
+    (All-map (IsLineOf rules) cind_line (numbered (cind_orphans state) (book_cinds rules))
+    (of_items (cind_orphans state) (λ (cind : Cind) (one : ℕ × ℕ). one.0 < length cind.rule.rows)
+    (λ cind. numbered-in_range (λ t. orphaned bytes_eq t (left_entries cind.rule (rows_at state cind.left)) (right_entries cind.rule (rows_at state cind.right))) cind.rule.rows) (book_cinds rules)))

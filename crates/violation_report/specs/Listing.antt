@@ -1,45 +1,55 @@
--- The list of violations of a bench.
-use Rattle.std.specs.Prelude.{ℕ, ◌+◌, List, [], ◌∷◌, ◌++◌, map, All}
-use Rattle.std.specs.List.{slice_get}
+-- The list of violations of a state.
+use Rattle.std.specs.Prelude.{◌≡◌, ℕ, List, ◌++◌, map, All}
 use Rattle.std.specs.Option.{option_map_or}
 use Rattle.std.specs.Str.{bytes_eq}
-use Rattle.cfd_semantics.specs.declared.scan.Violation.{Violation}
-use Rattle.cfd_semantics.specs.Violation.{entries, dependency_violations}
-use Rattle.cfd_semantics.specs.Satisfaction.{Satisfies}
+use Rattle.cfd_semantics.specs.declared.violation.Violation.{Violation}
+use Rattle.cfd_semantics.specs.Numbered.{numbered}
+use Rattle.cfd_semantics.specs.Tuple.{tuples_of}
+use Rattle.cfd_semantics.specs.Violation.{entries, violations}
+use Rattle.cfd_semantics.specs.Orphan.{left_entries, right_entries, orphans}
 use Rattle.rule_model.specs.declared.dep.Dep.{Dep}
-use Rattle.rule_model.specs.Books.{book_deps}
-use Rattle.bench_core.specs.declared.rows.TableRows.{TableRows}
-use Rattle.bench_core.specs.State.{Row}
-use Rattle.bench_core.specs.Edited.{BenchState}
+use Rattle.rule_model.specs.declared.cind.Cind.{Cind}
+use Rattle.rule_model.specs.Books.{Book, book_deps, book_cinds}
+use Rattle.rule_model.specs.Satisfied.{SatisfyDep, SatisfyCind}
+use Rattle.bench_core.specs.State.{State, rows_at}
 use Rattle.violation_report.specs.declared.line.Line.{Line}
-use Rattle.violation_report.specs.declared.line.Line.TheVariants.{Single, Pair}
+use Rattle.violation_report.specs.declared.line.Line.TheVariants.{Single, Pair, Orphan}
 
--- The rows of a table by its number, by rising ids.
-abbrev pub rows_at : List TableRows → ℕ → List Row
-rows_at tables table = option_map_or (λ (t : TableRows). t.rows) (slice_get tables table) []
+-- ---- dependencies
 
--- A violation of a dependency as a line: a pair where there is a partner, and else a single.
-abbrev pub line_of : ℕ → Violation → Line
-line_of dep found = option_map_or (λ partner. Pair dep found.tableau_row found.row partner) found.partner (Single dep found.tableau_row found.row)
+-- The violations of a dependency among the rows of its table, each with the number of its tableau row: by tableau row,
+-- and for each by rising row. A row with partners is listed once, with the least of them.
+abbrev pub dep_violations : State → Dep → List (ℕ × Violation)
+dep_violations state dep = violations bytes_eq dep.rule (entries dep.rule (rows_at state dep.table))
 
--- The lines of a dependency, by tableau row, and for each by rising row. A row with partners is listed once, with the
--- least of them.
-abbrev pub dep_lines : List TableRows → ℕ → Dep → List Line
-dep_lines tables number dep = map (line_of number) (dependency_violations bytes_eq dep.rows (entries [] dep.x dep.a (rows_at tables dep.table)))
+-- A violation of a numbered dependency as a line: a pair where there is a partner, and else a single.
+abbrev pub dep_line : ℕ × (ℕ × Violation) → Line
+dep_line (dep, (k, found)) = option_map_or (λ partner. Pair dep k found.row partner) found.partner (Single dep k found.row)
 
--- The lines of the dependencies in their order, whose numbers begin at `first`.
-abbrev pub lines_from : List TableRows → ℕ → List Dep → List Line
-lines_from tables first [] = []
-lines_from tables first (dep ∷ deps) = dep_lines tables first dep ++ lines_from tables (first + 1) deps
+abbrev pub dep_lines : Book → State → List Line
+dep_lines rules state = map dep_line (numbered (dep_violations state) (book_deps rules))
 
--- The list of a bench: the lines of its dependencies, in the order of the rules.
-abbrev pub listing : BenchState → List Line
-listing bench = lines_from bench.tables 0 (book_deps bench.rules)
+-- ---- inclusion dependencies
 
--- The rows of its table satisfy a dependency.
-abbrev pub IsSatisfied : List TableRows → Dep → Type 0
-IsSatisfied tables dep = Satisfies bytes_eq [] dep.x dep.a dep.rows (map (λ (row : Row). row.1) (rows_at tables dep.table))
+-- The orphans of an inclusion dependency: the rows of the left table that no row of the right one answers, each with the
+-- number of its tableau row, by tableau row and for each by rising row.
+abbrev pub cind_orphans : State → Cind → List (ℕ × ℕ)
+cind_orphans state cind = orphans bytes_eq cind.rule (left_entries cind.rule (rows_at state cind.left)) (right_entries cind.rule (rows_at state cind.right))
 
--- The rows of each table satisfy all its dependencies.
-abbrev pub AllSatisfied : BenchState → Type 0
-AllSatisfied bench = All (IsSatisfied bench.tables) (book_deps bench.rules)
+abbrev pub cind_line : ℕ × (ℕ × ℕ) → Line
+cind_line (cind, (k, row)) = Orphan cind k row
+
+abbrev pub cind_lines : Book → State → List Line
+cind_lines rules state = map cind_line (numbered (cind_orphans state) (book_cinds rules))
+
+-- ---- the list
+
+-- The lines of the dependencies in the order of the rules, and then those of the inclusion dependencies.
+abbrev pub listing : Book → State → List Line
+listing rules state = dep_lines rules state ++ cind_lines rules state
+
+-- The rows of each table satisfy all its dependencies, and those of each two tables the inclusion dependencies between
+-- them.
+pub record IsSatisfied (rules : Book) (state : State) : Type 0 where
+  pub deps : All (λ (dep : Dep). SatisfyDep dep (tuples_of (rows_at state dep.table))) (book_deps rules)
+  pub cinds : All (λ (cind : Cind). SatisfyCind cind (tuples_of (rows_at state cind.left)) (tuples_of (rows_at state cind.right))) (book_cinds rules)

@@ -1,5 +1,5 @@
-//! The violations of a bench: which rows break which dependency, as a list and as lines of text. The list is the one
-//! of the definition `listing`, and it is empty exactly where the rows of each table satisfy all its dependencies.
+//! The violations of a bench: which rows break which rule, as a list and as lines of text. The list is the one of the
+//! definition `listing`, and it is empty exactly where the rows satisfy all dependencies and inclusion dependencies.
 #![tactic(auto)]
 
 mod line;

@@ -2,14 +2,14 @@
 
 ghost use Rattle.std.specs.Prelude.{◌≡◌, ◌++◌, ◌+◌, map, IfOk, OnOk, OnErr};
 ghost use Rattle.std.specs.List.{concat};
-ghost use Rattle.violation_report.specs.Text.{HasTableauRow, IsLineOf, attr_name, line_text, rule_name, table_name};
+ghost use Rattle.violation_report.specs.Text.{HasCindRow, HasDepRow, IsLineOf, cind_name, cind_table, dep_attr, dep_name, dep_table, line_text};
 
-use bench_core::RowId;
 use itoa::Buffer;
+use row_store::RowId;
 use rule_model::RuleBook;
 use std::alloc::{AllocError, Global};
 
-/// A violation. Dependencies and their tableau rows are numbered from 0.
+/// A line of the list. Rules of a kind and their tableau rows are numbered from 0.
 #[derive(Clone, Copy, PartialEq, Eq, Debug)]
 pub enum Line {
     /// The row matches the tableau row on the left side, and doesn't on the right side.
@@ -24,6 +24,12 @@ pub enum Line {
         k: usize,
         row: RowId,
         partner: RowId,
+    },
+    /// The row of the left table has the constants of the tableau row, and no row of the right table answers it.
+    Orphan {
+        cind: usize,
+        k: usize,
+        row: RowId,
     },
 }
 
@@ -51,6 +57,7 @@ pub fn push_line(rules: &RuleBook, line: &Line, out: &mut Vec<u8>) -> Result<(),
             row,
             partner,
         } => push_pair(rules, *dep, *k, *row, *partner, out),
+        Line::Orphan { cind, k, row } => push_orphan(rules, *cind, *k, *row, out),
     }
 }
 
@@ -61,11 +68,11 @@ fn push_single(
     row: RowId,
     out: &mut Vec<u8>,
 ) -> Result<(), AllocError>
-    requires { HasTableauRow rules.now dep k }
+    requires { HasDepRow rules.now dep k }
     ensures ok { OnOk result (out.new.items ≡ out.old.items ++ line_text rules.now (Line.Single dep k row)) }
     ensures err { OnErr result (out.new.items ≡ out.old.items) }
 {
-    let head = head_of(rules, dep, k);
+    let head = dep_head(rules, dep, k);
     let mut number = Buffer::new();
     let mut id = Buffer::new();
     push_all(
@@ -94,11 +101,11 @@ fn push_pair(
     partner: RowId,
     out: &mut Vec<u8>,
 ) -> Result<(), AllocError>
-    requires { HasTableauRow rules.now dep k }
+    requires { HasDepRow rules.now dep k }
     ensures ok { OnOk result (out.new.items ≡ out.old.items ++ line_text rules.now (Line.Pair dep k row partner)) }
     ensures err { OnErr result (out.new.items ≡ out.old.items) }
 {
-    let head = head_of(rules, dep, k);
+    let head = dep_head(rules, dep, k);
     let mut number = Buffer::new();
     let mut id = Buffer::new();
     let mut other = Buffer::new();
@@ -122,30 +129,85 @@ fn push_pair(
     )
 }
 
+fn push_orphan(
+    rules: &RuleBook,
+    cind: usize,
+    k: usize,
+    row: RowId,
+    out: &mut Vec<u8>,
+) -> Result<(), AllocError>
+    requires { HasCindRow rules.now cind k }
+    ensures ok { OnOk result (out.new.items ≡ out.old.items ++ line_text rules.now (Line.Orphan cind k row)) }
+    ensures err { OnErr result (out.new.items ≡ out.old.items) }
+{
+    let head = cind_head(rules, cind, k);
+    let mut number = Buffer::new();
+    let mut id = Buffer::new();
+    push_all(
+        &[
+            b"orphan ",
+            head.rule.as_bytes(),
+            b".",
+            number.format(head.number).as_bytes(),
+            b" ",
+            head.table.as_bytes(),
+            b" ",
+            id.format(row).as_bytes(),
+            b"\n",
+        ],
+        out,
+    )
+}
+
 // What a line tells of its dependency: the rule, the tableau row's number from 1, the right attribute and the table.
 #[derive(Drop)]
-struct Head<'a> {
+struct DepHead<'a> {
     rule: &'a str,
     number: usize,
     attr: &'a str,
     table: &'a str,
 }
 
-fn head_of(rules: &RuleBook, dep: usize, k: usize) -> Head<'_>
-    requires { HasTableauRow rules.now dep k }
-    ensures rule { result.rule.now ≡ rule_name rules.now dep }
+fn dep_head(rules: &RuleBook, dep: usize, k: usize) -> DepHead<'_>
+    requires { HasDepRow rules.now dep k }
+    ensures rule { result.rule.now ≡ dep_name rules.now dep }
     ensures number { result.number ≡ k + 1 }
-    ensures attr { result.attr.now ≡ attr_name rules.now dep }
-    ensures table { result.table.now ≡ table_name rules.now dep }
+    ensures attr { result.attr.now ≡ dep_attr rules.now dep }
+    ensures table { result.table.now ≡ dep_table rules.now dep }
 {
     let dep = &rules.deps().as_slice()[dep];
-    prove!(k < dep.rows.as_slice().len());
+    prove!(k < dep.rule.rows.as_slice().len());
     let table = &rules.schema().tables.as_slice()[dep.table];
-    let attr = &table.attrs.as_slice()[dep.a];
-    Head {
+    let attr = &table.attrs.as_slice()[dep.rule.a];
+    DepHead {
         rule: dep.name.as_str(),
         number: k + 1,
         attr: attr.name.as_str(),
+        table: table.name.as_str(),
+    }
+}
+
+// The same of an inclusion dependency, with its left table.
+#[derive(Drop)]
+struct CindHead<'a> {
+    rule: &'a str,
+    number: usize,
+    table: &'a str,
+}
+
+fn cind_head(rules: &RuleBook, cind: usize, k: usize) -> CindHead<'_>
+    requires { HasCindRow rules.now cind k }
+    ensures rule { result.rule.now ≡ cind_name rules.now cind }
+    ensures number { result.number ≡ k + 1 }
+    ensures table { result.table.now ≡ cind_table rules.now cind }
+{
+    let cind = &rules.cinds().as_slice()[cind];
+    prove!(k < cind.rule.rows.as_slice().len());
+    let table = &rules.schema().tables.as_slice()[cind.left];
+    let number = k + 1;
+    CindHead {
+        rule: cind.name.as_str(),
+        number,
         table: table.name.as_str(),
     }
 }

@@ -1,91 +1,103 @@
 //! The list of a small bench, and its text.
 
-ghost use Rattle.std.specs.Prelude.{◌≡◌, length, IfOk};
-ghost use Rattle.schema_core.specs.Schemas.{IsValidSchema};
-ghost use Rattle.rule_model.specs.Declarations.{IsWritten, IsWrittenRow};
+ghost use Rattle.std.specs.Prelude.{ℕ, IfOk};
+ghost use Rattle.bench_core.specs.Loading.{AreTables};
+ghost use Rattle.rule_model.specs.Declarations.{IsWritten, IsWrittenCell, IsWrittenRow};
 
 use super::*;
-use bench_core::{Bench, Edit};
-use cfd_semantics::Pattern;
-use rule_model::{CfdDecl, CfdRow, Decl, RuleBook};
-use schema_core::{Attr, Domain, Limits, List, Schema, Table, Text, Texts};
+use bench_core::Bench;
+use cfd_semantics::{InclusionRow, Pattern};
+use edit_log::Edit;
+use rule_model::{Cell, CfdDecl, CfdRow, CindDecl, CindRow, Decl, RuleBook};
+use schema_core::{Limits, List, Schema, Text, Texts, parse_schema};
 use std::alloc::{AllocError, Global};
 use std::test::Fail;
 
-fn attr(alloc: Global, name: &str) -> Result<Attr, AllocError>
-    ensures { IfOk result (λ attr. attr ≡ record { name = name.now; domain = Domain.AnyText }) }
-{
-    Ok(Attr {
-        name: Text::new(alloc, name)?,
-        domain: Domain::AnyText,
-    })
+const SCHEMA: &[u8] = b"table cust 'cust.csv'\nattr zip\nattr street\n";
+
+fn one(alloc: Global, text: &str) -> Result<Texts, AllocError> {
+    let mut texts = List::new(alloc);
+    texts.push(Text::new(alloc, text)?)?;
+    Ok(texts)
 }
 
-// `table cust 'cust.csv'` with the attributes `zip` and `street`.
-fn schema(alloc: Global) -> Result<Schema, AllocError>
-    ensures valid { IfOk result IsValidSchema }
-    ensures one { IfOk result (λ schema. length schema.tables ≡ 1) }
+fn row(alloc: Global, x: Cell, y: Cell) -> Result<CfdRow, AllocError>
+    requires x { IsWrittenCell x }
+    requires y { IsWrittenCell y }
+    ensures { IfOk result IsWrittenRow }
 {
-    let mut attrs = List::new(alloc);
-    attrs.push(attr(alloc, "zip")?)?;
-    attrs.push(attr(alloc, "street")?)?;
-    let mut tables = List::new(alloc);
-    tables.push(Table {
-        name: Text::new(alloc, "cust")?,
-        file: Text::new(alloc, "cust.csv")?,
-        master: false,
-        attrs,
-    })?;
-    Ok(Schema {
-        tables,
-        rules: None,
-        script: None,
-    })
+    let mut left = List::new(alloc);
+    left.push(x)?;
+    let mut right = List::new(alloc);
+    right.push(y)?;
+    Ok(CfdRow { x: left, y: right })
 }
 
 // `cfd f1 cust: [zip] -> [street]` with the rows `'EH4' || 'High St'` and `_ || _`.
-fn decl(alloc: Global) -> Result<Decl, AllocError>
+fn dependency(alloc: Global) -> Result<Decl, AllocError>
     ensures { IfOk result IsWritten }
 {
-    let mut x = List::new(alloc);
-    x.push(Text::new(alloc, "zip")?)?;
     let mut y = List::new(alloc);
     y.push(Text::new(alloc, "street")?)?;
     let mut rows = List::new(alloc);
-    rows.push(first_row(alloc)?)?;
-    rows.push(last_row(alloc)?)?;
+    rows.push(row(
+        alloc,
+        Pattern::Is(Text::new(alloc, "EH4")?),
+        Pattern::Is(Text::new(alloc, "High St")?),
+    )?)?;
+    rows.push(row(alloc, Pattern::Any, Pattern::Any)?)?;
     Ok(Decl::Cfd(CfdDecl {
         name: Text::new(alloc, "f1")?,
         table: Text::new(alloc, "cust")?,
-        x,
+        x: one(alloc, "zip")?,
         y,
         rows,
     }))
 }
 
-fn first_row(alloc: Global) -> Result<CfdRow, AllocError>
-    ensures { IfOk result IsWrittenRow }
+// `cind c1 cust[street; ] in cust[zip; ]` with the row `||`.
+fn inclusion(alloc: Global) -> Result<Decl, AllocError>
+    ensures { IfOk result IsWritten }
 {
-    let mut x = List::new(alloc);
-    x.push(Pattern::Is(Text::new(alloc, "EH4")?))?;
-    let mut y = List::new(alloc);
-    y.push(Pattern::Is(Text::new(alloc, "High St")?))?;
-    Ok(CfdRow { x, y })
+    let mut rows: List<CindRow> = List::new(alloc);
+    rows.push(InclusionRow {
+        xp: List::new(alloc),
+        yp: List::new(alloc),
+    })?;
+    Ok(Decl::Cind(CindDecl {
+        name: Text::new(alloc, "c1")?,
+        left: Text::new(alloc, "cust")?,
+        x: one(alloc, "street")?,
+        xp: List::new(alloc),
+        right: Text::new(alloc, "cust")?,
+        y: one(alloc, "zip")?,
+        yp: List::new(alloc),
+        rows,
+    }))
 }
 
-fn last_row(alloc: Global) -> Result<CfdRow, AllocError>
-    ensures { IfOk result IsWrittenRow }
+fn no_rows(alloc: Global, schema: &Schema) -> Result<List<List<Texts>>, AllocError>
+    ensures { IfOk result (λ tables. (cell_bytes : ℕ) → AreTables schema.now cell_bytes tables) }
 {
-    let mut x = List::new(alloc);
-    x.push(Pattern::Any)?;
-    let mut y = List::new(alloc);
-    y.push(Pattern::Any)?;
-    Ok(CfdRow { x, y })
+    let mut tables = List::new(alloc);
+    for table in schema.tables.as_slice() {
+        tables.push(List::new(alloc))?;
+    }
+    Ok(tables)
+}
+
+fn bench(alloc: Global) -> Result<Bench, Fail> {
+    let limits = Limits::standard();
+    let schema = parse_schema(alloc, SCHEMA, &limits)?;
+    let tables = no_rows(alloc, &schema)?;
+    let mut rules = RuleBook::new(alloc, schema, limits);
+    rules.add(inclusion(alloc)?)?;
+    rules.add(dependency(alloc)?)?;
+    Ok(Bench::load(alloc, rules, tables, limits)?)
 }
 
 fn insert(alloc: Global, bench: &mut Bench, zip: &str, street: &str) -> Result<(), Fail> {
-    let mut values = List::new(alloc);
-    values.push(Text::new(alloc, zip)?)?;
+    let mut values = one(alloc, zip)?;
     values.push(Text::new(alloc, street)?)?;
     let edit = Edit::Insert {
         table: Text::new(alloc, "cust")?,
@@ -95,16 +107,8 @@ fn insert(alloc: Global, bench: &mut Bench, zip: &str, street: &str) -> Result<(
     Ok(())
 }
 
-fn bench(alloc: Global) -> Result<Bench, Fail> {
-    let mut rules = RuleBook::new(alloc, schema(alloc)?, Limits::standard());
-    rules.add(decl(alloc)?)?;
-    let mut tables = List::new(alloc);
-    tables.push(List::new(alloc))?;
-    Ok(Bench::load(alloc, rules, tables, Limits::standard())?)
-}
-
 fn fill(alloc: Global, bench: &mut Bench) -> Result<(), Fail> {
-    let rows = [("EH4", "High St"), ("EH4", "Mid St"), ("SW1", "Mid St")];
+    let rows = [("EH4", "High St"), ("EH4", "Mid St"), ("SW1", "EH4")];
     for (zip, street) in rows {
         insert(alloc, bench, zip, street)?;
     }
@@ -129,8 +133,11 @@ fn tells_each_violation_in_a_line(rt: HostRuntime) -> Result<(), Fail> {
     let mut bench = bench(alloc)?;
     fill(alloc, &mut bench)?;
     let (whole, joined) = texts(alloc, &bench)?;
-    let wanted =
-        "single f1.1 street cust 2\npair f1.2 street cust 1 2\npair f1.2 street cust 2 1\n";
+    let wanted = "single f1.1 street cust 2\n\
+        pair f1.2 street cust 1 2\n\
+        pair f1.2 street cust 2 1\n\
+        orphan c1.1 cust 1\n\
+        orphan c1.1 cust 2\n";
     assert_eq!(rt; whole.as_slice(), wanted.as_bytes());
     assert_eq!(rt; joined.as_slice(), wanted.as_bytes());
     Ok(())

@@ -1,7 +1,5 @@
-use Rattle.std.proofs.Common.{◌≡◌}
-use Rattle.bench_core.specs.State.{loaded_tables}
-use Rattle.bench_core.proofs.Loads.{IsClear}
+use Rattle.bench_core.proofs.Loads.{IsSoFar}
 use Rattle.bench_core.proofs.bench.load_tables.Given as goal
 
 abbrev pub invariant-loop-tuples : goal.invariant-loop-tuples
-invariant-loop-tuples l = (l.loaded.items ≡ loaded_tables l.yielded) × IsClear l.limits l.deps l.loaded.items
+invariant-loop-tuples l = IsSoFar l.rules l.limits l.yielded l.all.items l.counts.weights.items l.counts.rows l.counts.cells

@@ -1,6 +1,6 @@
 use Rattle.std.proofs.Common.{arith}
 use Rattle.std.proofs.lemmas.Grind.{common_steps}
-use Rattle.bench_core.proofs.Rooms.{enumerate_from-push}
+use Rattle.bench_core.proofs.Numbers.{enumerate_from-push}
 use Rattle.bench_core.proofs.rows.load_table.Goals as goal
 
 pub loop-tuple-preserved : goal.loop-tuple-preserved

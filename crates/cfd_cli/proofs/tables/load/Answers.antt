@@ -1,25 +1,32 @@
-use Rattle.std.proofs.Common.{ap, map, ◌∙◌, arith}
+use Rattle.std.proofs.Common.{◌≡◌, ap, map, sym, subst, ◌∙◌, arith}
 use Rattle.schema_core.specs.declared.schema.Schema.{Schema}
 use Rattle.schema_core.specs.declared.schema.Table.{Table}
-use Rattle.cfd_cli.proofs.FullTables.{told_name, told_file, fails_full}
+use Rattle.cfd_cli.specs.Fetching.{Reads}
+use Rattle.cfd_cli.proofs.FullTables.{full_refusal, loaded_bench, told_name}
 use Rattle.cfd_cli.proofs.tables.load.Goals as goal
 
 pub bounds-as_slice-table : goal.bounds-as_slice-table
 bounds-as_slice-table c =
-    let full = rw c.in-Err-RowsFull.field-0-is at c.in-Err-RowsFull.ensures.fault in
+    let full = rw c.in-Err-RowsFull.field-0-is at c.in-Err-RowsFull.ensures.loaded in
     let names = c.as_slice.ensures ∙ c.in_ok-names.ensures ∙ ap (λ (s : Schema). map (λ (t : Table). t.file) s.tables) c.schema.ensures.schema in
     omega (arith, told_name c.args.limits.now c.args.rules c.args.tables c.in-Err-RowsFull.table c.as_slice.result.now c.requires.tables full names)
 
 pub offset_bounds-as_slice-table : goal.offset_bounds-as_slice-table
 offset_bounds-as_slice-table c =
-    let full = rw c.in-Err-RowsFull.field-0-is at c.in-Err-RowsFull.ensures.fault in
+    let full = rw c.in-Err-RowsFull.field-0-is at c.in-Err-RowsFull.ensures.loaded in
     let names = c.as_slice.ensures ∙ c.in_ok-names.ensures ∙ ap (λ (s : Schema). map (λ (t : Table). t.file) s.tables) c.schema.ensures.schema in
     omega (arith, c.as_slice.type_inv.1, told_name c.args.limits.now c.args.rules c.args.tables c.in-Err-RowsFull.table c.as_slice.result.now c.requires.tables full names)
 
-pub returns-in-Err-RowsFull-clause-bench : goal.returns-in-Err-RowsFull-clause-bench
-returns-in-Err-RowsFull-clause-bench c =
-    let full = rw c.in-Err-RowsFull.field-0-is at c.in-Err-RowsFull.ensures.fault in
+pub returns-in-Ok : goal.returns-in-Ok
+returns-in-Ok c = record {
+  gives = loaded_bench c.args.rules c.args.limits.now c.args.tables c.in-Ok.bench c.in-Ok.ensures.loaded c.in-Ok.ensures.made_with.0 c.in-Ok.ensures.made_with.1;
+  no_fault = λ fault. fault;
+}
+
+pub returns-in-Err-RowsFull : goal.returns-in-Err-RowsFull
+returns-in-Err-RowsFull c =
+    let full = rw c.in-Err-RowsFull.field-0-is at c.in-Err-RowsFull.ensures.loaded in
     let names = c.as_slice.ensures ∙ c.in_ok-names.ensures ∙ ap (λ (s : Schema). map (λ (t : Table). t.file) s.tables) c.schema.ensures.schema in
-    fails_full _ c.args.rules c.args.limits.now c.args.tables c.in-Err-RowsFull.table c.index-as_slice-table.result c.refused.result full
-    (told_file c.args.limits.now c.args.rules c.args.tables c.in-Err-RowsFull.table c.as_slice.result.now c.index-as_slice-table.result c.requires.tables full names c.index-as_slice-table.is)
+    subst (λ found. Reads found (λ bench. bench) c.refused.result)
+    (sym (full_refusal c.args.limits.now c.args.rules c.args.tables c.in-Err-RowsFull.table c.as_slice.result.now c.index-as_slice-table.result c.requires.tables full names c.index-as_slice-table.is))
     c.refused.ensures

@@ -2,13 +2,13 @@ use Rattle.std.proofs.Common.{◌++◌, ◌∷◌, [], List, map, sym, ap, ◌�
 use Rattle.std.specs.List.{range_with_len}
 use Rattle.std.proofs.lemmas.List.FromFn.{map-range_with_len_more}
 use Rattle.rule_model.specs.declared.dep.Dep.{Dep}
-use Rattle.rule_model.specs.Dependencies.{dep_at}
+use Rattle.rule_model.specs.Rules.{dep_at}
 use Rattle.rule_model.proofs.numbering.append_deps.Goals as goal
 
 pub loop-place-preserved : goal.loop-place-preserved
 loop-place-preserved c =
     let place = c.loop-place.place in
-    let made = dep_at c.args.cfd.now c.args.table c.args.x.now c.args.y.now in
+    let made = dep_at c.args.schema.now c.args.cfd.now in
     let so_far = map made (range_with_len 0 place) in
     c.in_ok-push.ensures.ok
     ∙ ap (λ (deps : List Dep). deps ++ c.in_ok-dep.field-0 ∷ []) c.loop-place.invariant

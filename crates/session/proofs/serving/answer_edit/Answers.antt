@@ -1,15 +1,30 @@
-use Rattle.std.proofs.Common.{Ok, Err, Option, inr, refl, sym, subst, OnErr}
-use Rattle.bench_core.specs.Edited.{applied_by}
+use Rattle.std.proofs.Common.{◌≡◌, Ok, Err, ℕ, List, [], ◌∷◌, Option, Result, refl, ap, sym, subst, OnErr}
+use Rattle.shelf_io.specs.Transcript.{AnswersFront}
+use Rattle.shelf_io.proofs.Transcripts.{front-not_begun, front-not_written}
+use Rattle.bench_core.specs.Bench.{BenchModel}
+use Rattle.bench_core.specs.State.{State}
+use Rattle.bench_core.specs.declared.edit.Applied.{Applied}
 use Rattle.bench_core.specs.declared.edit.EditFault.{EditFault}
-use Rattle.session.specs.Replies.{IsEditReply, done_text}
-use Rattle.session.specs.Transcript.{IsBeforeOrAfter}
+use Rattle.session.specs.Replies.{IsEditReply, IsReply, done_text}
 use Rattle.session.specs.declared.command.Command.TheVariants.{Edit}
 use Rattle.session.proofs.serving.answer_edit.Goals as goal
 
 -- the edit was done, whether or not its reply could be made
 pub returns-in-Ok-clause-memory : goal.returns-in-Ok-clause-memory
 returns-in-Ok-clause-memory c =
-    let reply = done_text c.args.edit.now (applied_by c.args.bench.now c.args.edit.now) in
-    let after : IsBeforeOrAfter c.args.bench.now (Edit c.args.edit.now) c.apply.new.self =
-    inr (reply, subst (λ (found : Option EditFault). IsEditReply c.args.bench.now c.args.edit.now found reply c.apply.new.self) (sym c.in-Ok.ensures.fault) (refl, c.in-Ok.ensures.edited)) in
-    elim c.push_done.result as (λ r. OnErr r (IsBeforeOrAfter c.args.bench.now (Edit c.args.edit.now) c.apply.new.self)) [ Ok done ↦ tt | Err memory ↦ after ]
+    let start = c.args.bench.now in
+    let end = c.apply.new.self.state in
+    let edit = c.args.edit.now in
+    let reply = done_text edit c.in-Ok.applied in
+    let is = subst (λ (made : Result (State × Applied) EditFault). IsEditReply start.state edit made reply end) (sym c.in-Ok.ensures.edited) (refl, refl) in
+    let done = λ (written : Option (List ℕ)). front-not_written (IsReply start.rules start.limits) start.state end (Edit edit) reply written is in
+    elim c.push_done.result as (λ r. OnErr r ((written : Option (List ℕ)) → AnswersFront (IsReply start.rules start.limits) start.state (Edit edit ∷ []) end written written)) [ Ok made ↦ tt | Err memory ↦ done ]
+
+-- the edit was refused, whether or not that could be told
+pub returns-in-Err-clause-memory : goal.returns-in-Err-clause-memory
+returns-in-Err-clause-memory c =
+    let start = c.args.bench.now in
+    let end = c.apply.new.self.state in
+    let edit = c.args.edit.now in
+    let kept = λ (written : Option (List ℕ)). front-not_begun (IsReply start.rules start.limits) start.state end (Edit edit ∷ []) written (ap (λ (b : BenchModel). b.state) c.in-Err.ensures.unchanged) in
+    elim c.push_refused.result as (λ r. OnErr r ((written : Option (List ℕ)) → AnswersFront (IsReply start.rules start.limits) start.state (Edit edit ∷ []) end written written)) [ Ok made ↦ tt | Err memory ↦ kept ]

@@ -1,19 +1,41 @@
-use Rattle.std.proofs.Common.{Ok, Err, OnErr, arith}
-use Rattle.session.specs.Transcript.{AnswersFront}
-use Rattle.session.proofs.Answering.{answers-cut, answers-more}
+use Rattle.std.proofs.Common.{◌≡◌, [], ◌∷◌, Ok, Err, OnErr, refl, arith, ◌∙◌}
+use Rattle.shelf_io.specs.Transcript.{Answers, AnswersFront}
+use Rattle.shelf_io.proofs.Transcripts.{answers-all, answers-cut, answers-more, answers-none}
+use Rattle.session.specs.Replies.{IsReply}
+use Rattle.session.proofs.SameRules.{under_same}
 use Rattle.session.proofs.serving.serve.Goals as goal
+
+pub loop-command-init : goal.loop-command-init
+loop-command-init g c = record {
+  answered = answers-none (IsReply c.args.bench.now.rules c.args.bench.now.limits) c.args.bench.now.state c.args.commands.now (g.O.Sink.told c.args.out.now).written;
+  rules = refl;
+  limits = refl;
+  faults = omega arith;
+}
+
+pub loop-command-preserved : goal.loop-command-preserved
+loop-command-preserved g c =
+    let start = c.args.bench.now in
+    let so_far = c.loop-command.invariant in
+    let between = (g.O.Sink.told c.loop-command.out).written in
+    let now = (g.O.Sink.told c.answer_one.new.out).written in
+    let next = under_same (λ rules limits. Answers (IsReply rules limits) c.loop-command.bench.state (c.command-item.result ∷ []) c.answer_one.new.bench.state between now) _ _ _ _ so_far.rules so_far.limits c.in_ok-answer_one.ensures.ok in
+    record {
+      answered = answers-more (IsReply start.rules start.limits) start.state c.loop-command.bench.state c.answer_one.new.bench.state c.args.commands.now c.loop-command.command-index c.command-item.result _ between now
+          (rw c.as_slice-command-items.ensures at c.loop-command-test.true) (rw c.as_slice-command-items.ensures at c.command-item.is) so_far.answered next;
+      rules = c.answer_one.ensures.made_with.0 ∙ so_far.rules;
+      limits = c.answer_one.ensures.made_with.1 ∙ so_far.limits;
+      faults = omega (arith, so_far.faults, c.answer_one.ensures.faults);
+    }
 
 pub returns-in_err-answer_one-clause-fault : goal.returns-in_err-answer_one-clause-fault
 returns-in_err-answer_one-clause-fault g c =
-    let front = answers-cut c.args.bench.now c.loop-command.bench c.answer_one.new.bench c.args.commands.now c.loop-command.command-index c.command-item.result
-    (g.O.Sink.written c.args.out.now) (g.O.Sink.written c.loop-command.out) (g.O.Sink.written c.answer_one.new.out)
-    (rw c.as_slice-command-items.ensures at c.loop-command-test.true) (rw c.as_slice-command-items.ensures at c.command-item.is) c.loop-command.invariant.0 c.in_err-answer_one.ensures.fault in
-    elim c.from_residual.result as (λ r. OnErr r (AnswersFront c.args.bench.now c.args.commands.now (g.O.Sink.written c.args.out.now) (g.O.Sink.written c.answer_one.new.out) c.answer_one.new.bench)) [ Ok done ↦ tt | Err fault ↦ front ]
-
-pub loop-command-preserved : goal.loop-command-preserved
-loop-command-preserved g c = (
-  answers-more c.args.bench.now c.loop-command.bench c.answer_one.new.bench c.args.commands.now c.loop-command.command-index c.command-item.result
-      (g.O.Sink.written c.args.out.now) (g.O.Sink.written c.loop-command.out) (g.O.Sink.written c.answer_one.new.out)
-      (rw c.as_slice-command-items.ensures at c.loop-command-test.true) (rw c.as_slice-command-items.ensures at c.command-item.is) c.loop-command.invariant.0 c.in_ok-answer_one.ensures.ok,
-  omega (arith, c.loop-command.invariant.1, c.answer_one.ensures.faults),
-)
+    let start = c.args.bench.now in
+    let so_far = c.loop-command.invariant in
+    let was = (g.O.Sink.told c.args.out.now).written in
+    let between = (g.O.Sink.told c.loop-command.out).written in
+    let now = (g.O.Sink.told c.answer_one.new.out).written in
+    let next = under_same (λ rules limits. AnswersFront (IsReply rules limits) c.loop-command.bench.state (c.command-item.result ∷ []) c.answer_one.new.bench.state between now) _ _ _ _ so_far.rules so_far.limits c.in_err-answer_one.ensures.fault in
+    let front = answers-cut (IsReply start.rules start.limits) start.state c.loop-command.bench.state c.answer_one.new.bench.state c.args.commands.now c.loop-command.command-index c.command-item.result was between now
+    (rw c.as_slice-command-items.ensures at c.loop-command-test.true) (rw c.as_slice-command-items.ensures at c.command-item.is) so_far.answered next in
+    elim c.from_residual.result as (λ r. OnErr r (AnswersFront (IsReply start.rules start.limits) start.state c.args.commands.now c.answer_one.new.bench.state was now)) [ Ok done ↦ tt | Err fault ↦ front ]

@@ -1,8 +1,14 @@
-use Rattle.std.proofs.Common.{◌≤◌, take}
-use Rattle.session.specs.Transcript.{Answers}
+use Rattle.std.proofs.Common.{◌≡◌, ◌≤◌, take}
+use Rattle.shelf_io.specs.Transcript.{Answers}
+use Rattle.session.specs.Replies.{IsReply}
 use Rattle.session.proofs.serving.serve.Given as goal
 
 abbrev pub invariant-loop-command : goal.invariant-loop-command
 invariant-loop-command g l =
-    Answers l.initial.bench (take l.command-index l.commands) (g.O.Sink.written l.initial.out) (g.O.Sink.written l.out) l.bench
-    × (g.O.Sink.faults l.initial.out ≤ g.O.Sink.faults l.out)
+    let start = l.initial.bench in
+    record {
+      answered : Answers (IsReply start.rules start.limits) start.state (take l.command-index l.commands) l.bench.state (g.O.Sink.told l.initial.out).written (g.O.Sink.told l.out).written;
+      rules : l.bench.rules ≡ start.rules;
+      limits : l.bench.limits ≡ start.limits;
+      faults : (g.O.Sink.told l.initial.out).faults ≤ (g.O.Sink.told l.out).faults;
+    }

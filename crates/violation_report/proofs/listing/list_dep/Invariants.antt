@@ -1,6 +1,6 @@
 use Rattle.std.proofs.Common.{◌≡◌, ◌++◌, map, take}
-use Rattle.violation_report.specs.Listing.{line_of}
+use Rattle.violation_report.specs.Listing.{dep_line}
 use Rattle.violation_report.proofs.listing.list_dep.Given as goal
 
-abbrev pub invariant-loop-violation : goal.invariant-loop-violation
-invariant-loop-violation l = l.lines ≡ l.initial.lines ++ map (line_of l.number) (take l.violation-index l.violation-items)
+abbrev pub invariant-loop-k : goal.invariant-loop-k
+invariant-loop-k l = l.lines ≡ l.initial.lines ++ map (λ found. dep_line (l.number, found)) (take l.k-index l.k-items)

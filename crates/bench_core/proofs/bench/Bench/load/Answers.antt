@@ -1,13 +1,12 @@
-use Rattle.std.proofs.Common.{◌≤◌, arith}
-use Rattle.bench_core.specs.State.{loaded_tables, rows_in}
-use Rattle.bench_core.proofs.Loads.{loaded-states, rows-within}
+use Rattle.std.proofs.lemmas.Slice.Zip.{AllZip-long}
+use Rattle.bench_core.proofs.Loads.{loaded-bench}
 use Rattle.bench_core.proofs.bench.Bench.load.Goals as goal
 
+pub load_tables-requires-clause-each : goal.load_tables-requires-clause-each
+load_tables-requires-clause-each c = AllZip-long _ _ _ c.requires.tables
+
 pub invariant_of-result : goal.invariant_of-result
-invariant_of-result c =
-    let few : rows_in (loaded_tables c.args.tables) ≤ c.args.limits.rows = rows-within c.args.limits c.as_slice.result.now _ (rw c.in_ok-tables.ensures.ok at c.in_ok-tables.ensures.within) in
-    let ids = c.requires.limits.id_for_each_row in
-    record {
-      allowed = c.requires.limits;
-      states = rw c.in_ok-tables.ensures.ok (loaded-states c.args.rules.schema.tables c.args.limits.cell_bytes c.args.limits.last_id c.args.tables c.requires.tables (omega arith));
-    }
+invariant_of-result c = record {
+  bench = loaded-bench c.args.rules c.args.limits c.args.tables c.in_ok-tables.tables.items c.requires.limits c.requires.tables c.in_ok-tables.ensures.loaded;
+  counts = c.in_ok-tables.ensures.counts;
+}

@@ -1,12 +1,13 @@
-use Rattle.std.proofs.Common.{◌<◌, ◌∙◌, refl, sym, ap, length}
+use Rattle.std.proofs.Common.{◌<◌, ◌∙◌, sym, ap, length}
 use Rattle.std.proofs.lemmas.Result.{err_from_is_err_and}
 use Rattle.schema_core.specs.Schemas.{admits}
 use Rattle.csv.specs.Records.{fields_of}
-use Rattle.csv_tables.proofs.RowFacts.{domain_fault-passes, domain_fault-refuses, field_of-is, row_of-more}
+use Rattle.csv_tables.proofs.RowFacts.{domain_fault-passes, domain_fault-refuses, field_of-is, refusal-tells, row_of-more}
+use Rattle.csv_tables.specs.declared.fault.TableFault.TheVariants as fault
 use Rattle.csv_tables.proofs.columns.Columns.cells.Goals as goal
 
-pub returns-in_err-cell-clause-refused : goal.returns-in_err-cell-clause-refused
-returns-in_err-cell-clause-refused c =
+pub returns-in_err-cell-clause-fault : goal.returns-in_err-cell-clause-fault
+returns-in_err-cell-clause-fault c =
     let attrs = c.args.self.now.table.now.attrs in
     let header = fields_of c.args.self.now.header in
     let fields = fields_of c.args.fields.now in
@@ -14,11 +15,9 @@ returns-in_err-cell-clause-refused c =
     let inside : c.loop-i.i < length attrs = rw (← c.as_slice-attr-items.ensures) c.loop-i-test.true in
     let field = field_of-is attrs header _ c.args.self.now.in_place c.loop-i.i c.attr-item.result c.index.result.now inside this c.index.ensures fields c.requires.width in
     let p = err_from_is_err_and c.from_residual.result c.from_residual.ensures.1 in
-    rw (p.1, p.2) (λ other.
-    let why = c.in_err-cell.ensures.refused other in
-    c.loop-i.invariant.admitted
-    ∙ domain_fault-refuses attrs header fields c.args.at c.loop-i.i c.attr-item.result inside this (ap (admits c.attr-item.result.domain) field ∙ why.0)
-    ∙ rw why.1 refl)
+    rw (p.1, p.2)
+    (refusal-tells _ _ (fault.NotInDomain c.args.at c.attr-item.result.name) _
+    (λ refused. c.loop-i.invariant.admitted ∙ domain_fault-refuses attrs header fields c.args.at c.loop-i.i c.attr-item.result inside this (ap (admits c.attr-item.result.domain) field ∙ refused)) c.in_err-cell.ensures.domain)
 
 pub loop-i-preserved : goal.loop-i-preserved
 loop-i-preserved c =
@@ -31,7 +30,7 @@ loop-i-preserved c =
     record {
       admitted =
           c.loop-i.invariant.admitted
-          ∙ domain_fault-passes attrs header fields c.args.at c.loop-i.i c.attr-item.result inside this (ap (admits c.attr-item.result.domain) field ∙ c.in_ok-cell.ensures.admitted);
+          ∙ domain_fault-passes attrs header fields c.args.at c.loop-i.i c.attr-item.result inside this (ap (admits c.attr-item.result.domain) field ∙ c.in_ok-cell.ensures.domain);
       so_far =
           rw (c.in_ok-push.ensures.ok, c.in_ok-cell.ensures.value, ← field)
           (sym (row_of-more attrs header fields c.args.at c.loop-i.i c.attr-item.result inside this c.loop-i.row) ∙ c.loop-i.invariant.so_far);

@@ -1,0 +1,38 @@
+-- The state that tables are loaded to.
+use Rattle.std.specs.Prelude.{ℕ, ◌+◌, List, length, take, map, All, Option, Some, None, Result}
+use Rattle.std.specs.List.{AllZip, enumerate_from, position, range_with_len}
+use Rattle.schema_core.specs.Rows.{IsRowOf}
+use Rattle.schema_core.specs.declared.limits.Limits.{Limits}
+use Rattle.schema_core.specs.declared.schema.Table.{Table}
+use Rattle.schema_core.specs.declared.schema.Schema.{Schema}
+use Rattle.rule_model.specs.Books.{Book}
+use Rattle.bench_core.specs.State.{TableState, State}
+use Rattle.bench_core.specs.Sizes.{is_over}
+use Rattle.bench_core.specs.Found.{unless_found}
+use Rattle.bench_core.specs.declared.edit.LoadFault.{LoadFault}
+use Rattle.bench_core.specs.declared.edit.LoadFault.TheVariants.{RowsFull, Memory}
+
+-- the rows of a table file
+abbrev pub Tuples : Type 0
+Tuples = List (List (List ℕ))
+
+-- there is a list of rows for each table of the schema, and they are rows of it
+abbrev pub AreTables : Schema → ℕ → List Tuples → Type 0
+AreTables schema cell_bytes tables = AllZip (λ (table : Table) rows. All (IsRowOf table.attrs cell_bytes) rows) schema.tables tables
+
+-- the rows of a table get the ids 1, 2, 3 in order
+abbrev pub loaded_table : Tuples → TableState
+loaded_table tuples = record { rows = enumerate_from 1 tuples; next_id = length tuples + 1 }
+
+-- the place of the first table with which there are too many rows, or too many cells of indexes
+abbrev pub first_over : Book → Limits → State → Option ℕ
+first_over rules limits state = position (λ place. is_over rules limits (take (place + 1) state)) (range_with_len 0 (length state))
+
+-- the state of tables as they are loaded, or the place of the first table with which they are too many
+abbrev pub loaded : Book → Limits → List Tuples → Result State ℕ
+loaded rules limits tables = unless_found (first_over rules limits (map loaded_table tables)) (map loaded_table tables)
+
+-- what a fault tells: the table that is too many, and nothing of want of memory
+abbrev pub full_table : LoadFault → Option ℕ
+full_table (RowsFull table) = Some table
+full_table Memory = None

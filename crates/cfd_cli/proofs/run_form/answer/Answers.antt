@@ -1,0 +1,26 @@
+use Rattle.std.proofs.Common.{Err, ap, sym, subst}
+use Rattle.rule_model.specs.Books.{Book}
+use Rattle.violation_report.specs.Listing.{listing}
+use Rattle.session.specs.Replies.{IsReply}
+use Rattle.session.proofs.EachHasReply.{reply_of}
+use Rattle.cfd_cli.specs.Transcripts.{HasStatus}
+use Rattle.cfd_cli.proofs.Ends.{ends-answered, ends-memory, ends-write_fault}
+use Rattle.cfd_cli.proofs.run_form.answer.Goals as goal
+
+pub returns-in-Ok : goal.returns-in-Ok
+returns-in-Ok g c =
+    let bench = c.args.project.bench in
+    let last = c.serve.new.bench in
+    let status = subst (λ (rules : Book). HasStatus (listing rules last.state) c.status_of.result) c.serve.ensures.made_with.0 c.status_of.ensures in
+    ends-answered (IsReply bench.rules bench.limits) (listing bench.rules) bench.state c.args.project.commands last.state c.status_of.result (g.O.Sink.told c.args.out.now) (g.O.Sink.told c.serve.new.out) c.in-Ok.ensures.ok status
+
+pub returns-in-Err-WriteFault : goal.returns-in-Err-WriteFault
+returns-in-Err-WriteFault g c =
+    let bench = c.args.project.bench in
+    ends-write_fault (IsReply bench.rules bench.limits) (listing bench.rules) bench.state c.args.project.commands (reply_of bench.rules bench.limits) c.serve.new.bench.state (g.O.Sink.told c.args.out.now) (g.O.Sink.told c.serve.new.out)
+    c.in-Err-WriteFault.ensures.fault (c.in-Err-WriteFault.ensures.write_fault (ap Err c.in-Err-WriteFault.field-0-is))
+
+pub returns : goal.returns
+returns g c =
+    let bench = c.args.project.bench in
+    ends-memory (IsReply bench.rules bench.limits) (listing bench.rules) bench.state c.args.project.commands (reply_of bench.rules bench.limits) c.serve.new.bench.state (g.O.Sink.told c.args.out.now) (g.O.Sink.told c.serve.new.out) c.in-Err-Memory.ensures.fault

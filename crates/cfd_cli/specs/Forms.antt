@@ -1,0 +1,31 @@
+-- What each form of words asks for.
+use Rattle.std.specs.Prelude.{ℕ, List, Option, None, Some, Ok, codes}
+use Rattle.schema_core.specs.declared.limits.Limits.{Limits}
+use Rattle.cfd_cli.specs.declared.form.Form.{Form}
+use Rattle.cfd_cli.specs.declared.form.Form.TheVariants.{Run}
+use Rattle.cfd_cli.specs.declared.status.Status.TheVariants.{Usage}
+use Rattle.cfd_cli.specs.Fetching.{given}
+use Rattle.cfd_cli.specs.Output.{Only, Task}
+use Rattle.cfd_cli.specs.RunForm.{run_task}
+use Rattle.cfd_cli.specs.Words.{form_of}
+
+-- the line that is written where the words have no form
+abbrev pub usage_line : List ℕ
+usage_line = codes "usage: run PROJECT | report PROJECT | consistent PROJECT TABLE BUDGET | implies PROJECT DEP BUDGET | check PROJECT CERT | generate N | cover PROJECT TABLE BUDGET | find PROJECT TABLE WIDTH SUPPORT | desk PROJECT EVENTS\n"
+
+abbrev pub usage_task : Task
+usage_task = record {
+  Found = Unit {0};
+  fetching = given (Ok tt);
+  outputs = λ _. Only usage_line Usage;
+  most_fetches = 0;
+}
+
+-- what each form asks for; without a form the usage line is asked for
+abbrev pub form_task : Limits → Option Form → Task
+form_task limits None = usage_task
+form_task limits (Some (Run project)) = run_task limits project
+
+-- what the words ask for
+abbrev pub task_of : Limits → List (List ℕ) → Task
+task_of limits words = form_task limits (form_of words)

@@ -1,6 +1,0 @@
-use Rattle.std.proofs.Common.{◌≡◌, ◌++◌, take}
-use Rattle.cfd_semantics.specs.Violation.{numbered}
-use Rattle.cfd_semantics.proofs.scan.push_numbered.Given as goal
-
-abbrev pub invariant-loop-row : goal.invariant-loop-row
-invariant-loop-row l = l.all ≡ l.initial.all ++ numbered l.tableau_row (take l.row-index l.found)

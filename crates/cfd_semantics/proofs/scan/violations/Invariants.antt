@@ -1,9 +1,0 @@
-use Rattle.std.proofs.Common.{◌≡◌, take}
-use Rattle.std.specs.List.{filter_map}
-use Rattle.cfd_semantics.specs.Violation.{entries, violation_of}
-use Rattle.cfd_semantics.proofs.scan.violations.Given as goal
-
--- what is listed of the rows so far
-abbrev pub invariant-loop-row : goal.invariant-loop-row
-invariant-loop-row g l =
-    (missing : g.row.V.Denot) → l.found ≡ filter_map (violation_of g.V.PartialEq.eq l.tableau_row (entries missing l.x l.a l.rows)) (entries missing l.x l.a (take l.row-index l.rows))

@@ -1,0 +1,19 @@
+//! A conditional functional dependency X -> A: attributes on both sides, and a pattern tableau.
+
+use crate::pattern::Pattern;
+use schema_core::List;
+
+/// A tableau row of a dependency: a cell for each attribute of X, and one for A.
+#[derive(Debug, Drop)]
+pub struct TableauRow<V> {
+    pub x: List<Pattern<V>>,
+    pub a: Pattern<V>,
+}
+
+/// A dependency: the attributes X, the attribute A, and the rows of its tableau. Attributes are places in a tuple.
+#[derive(Debug, Drop)]
+pub struct Dependency<V> {
+    pub x: List<usize>,
+    pub a: usize,
+    pub rows: List<TableauRow<V>>,
+}

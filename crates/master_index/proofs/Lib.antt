@@ -1,0 +1,7 @@
+pub mod RisingIds
+pub mod KeyedRowFacts
+pub mod KeyFacts
+pub mod MasterRowFacts
+pub mod MasterSteps
+pub mod MatchFacts
+pub mod TestLists

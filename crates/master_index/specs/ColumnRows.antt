@@ -1,0 +1,59 @@
+-- Rows under keys: a key is the list of the value ids that a tuple has in some columns, and under it stand the ids of
+-- the rows with such a tuple.
+use Rattle.std.specs.Prelude.{◌≡◌, ℕ, ◌<◌, ◌==◌, ◌&&◌, ◌||◌, not, Bool, List, [], map, length, slice_index, slice_get, All, IsSomeAnd}
+use Rattle.std.specs.List.Sorted.{IsStrictlyIncreasing}
+use Rattle.std.specs.List.{list_any}
+use Rattle.std.specs.Map.{lookup}
+use Rattle.std.specs.Option.{option_map_or}
+use Rattle.std.specs.Str.{bytes_eq}
+use Rattle.std.specs.declared.vec.Vec.{Vec}
+use Rattle.std.specs.declared.alloc.Global.{Global}
+
+-- what the code keeps: keys with their row ids
+abbrev pub KeyedRows : Type 0
+KeyedRows = List (Vec ℕ Global × Vec ℕ Global)
+
+-- the ids of a tuple in the columns, which it has
+abbrev pub ids_in : List ℕ → List ℕ → List ℕ
+ids_in tuple columns = map (slice_index tuple) columns
+
+-- the rows under a key, which are none where the key isn't there
+abbrev pub rows_under : List ℕ → KeyedRows → List ℕ
+rows_under ids entries = option_map_or (λ rows. rows.items) (lookup (λ key. bytes_eq ids key.items) entries) []
+
+-- whether the row is among them
+abbrev pub is_among : ℕ → List ℕ → Bool
+is_among row rows = list_any (λ held. row == held) rows
+
+-- the row ids under each key rise
+abbrev pub AreRising : KeyedRows → Type 0
+AreRising entries = All (λ entry. IsStrictlyIncreasing entry.1.items) entries
+
+-- no key stands without rows
+abbrev pub HaveRows : KeyedRows → Type 0
+HaveRows entries = All (λ entry. 0 < length entry.1.items) entries
+
+-- whether the row stands under the key
+abbrev pub is_under : List ℕ → ℕ → KeyedRows → Bool
+is_under ids row entries = is_among row (rows_under ids entries)
+
+-- the row came in under the key, and nothing else changed
+abbrev pub IsPutUnder : KeyedRows → KeyedRows → List ℕ → ℕ → Type 0
+IsPutUnder old new key row = (ids : List ℕ) (other : ℕ) → is_under ids other new ≡ ((bytes_eq ids key && other == row) || is_under ids other old)
+
+-- the row doesn't stand under the key any more, and nothing else changed
+abbrev pub IsTakenFrom : KeyedRows → KeyedRows → List ℕ → ℕ → Type 0
+IsTakenFrom old new key row = (ids : List ℕ) (other : ℕ) → is_under ids other new ≡ (not (bytes_eq ids key && other == row) && is_under ids other old)
+
+-- the same rows stand under each key
+abbrev pub HoldAlike : KeyedRows → KeyedRows → Type 0
+HoldAlike old new = (ids : List ℕ) (other : ℕ) → is_under ids other new ≡ is_under ids other old
+
+-- the entry at the place has the key
+abbrev pub HasKeyAt : KeyedRows → ℕ → List ℕ → Type 0
+HasKeyAt entries place key = IsSomeAnd (slice_get entries place) (λ entry. entry.0.items ≡ key)
+
+-- the row ids under each key rise, and no key stands without rows
+pub record AreOrderly (entries : KeyedRows) : Type 0 where
+  pub rising : AreRising entries
+  pub filled : HaveRows entries

@@ -1,0 +1,4 @@
+pub mod ColumnRows
+pub mod ColumnWatch
+pub mod Masters
+pub mod InStep

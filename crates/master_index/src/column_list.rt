@@ -1,0 +1,8 @@
+use schema_core::List;
+
+/// Columns of a master table, by which its rows are looked up.
+#[derive(Debug, Drop)]
+pub struct ColumnList {
+    pub master: usize,
+    pub columns: List<usize>,
+}

@@ -1,0 +1,135 @@
+// The rows of all master tables, and the indexes of their columns.
+ghost use Rattle.std.specs.Prelude.{◌≡◌, ◌+◌, ◌*◌, ◌≤◌, ◌↔◌, ℕ, None, length, Contains, IsSome, IfOk, OnOk, OnErr};
+ghost use Rattle.std.specs.List.Sorted.{IsStrictlyIncreasing};
+ghost use Rattle.std.specs.FinMap as finite;
+ghost use Rattle.row_store.specs.Tuple.{ids_of, ids_behind};
+ghost use Rattle.master_index.specs.Masters.{IsRowWith, IsWideFor, lists_of};
+
+use crate::column_index::ColumnIndex;
+use crate::column_list::ColumnList;
+use probe_steps::Steps;
+use row_store::{RowId, Tuple, add_to_all, remove_from_all};
+use std::alloc::{AllocError, Global};
+use std::collections::HashMap;
+use std::marker::Model;
+use std::sync::ledger::Ledger;
+use value_pool::ValueId;
+
+/// Rows of master tables, looked up by their ids and by the values in the columns that were handed in.
+#[derive(Drop)]
+pub struct MasterIndex {
+    columns: Vec<ColumnIndex>,
+    tuples: HashMap<(usize, RowId), Tuple>,
+}
+
+impl Model for MasterIndex {
+    ghost use Rattle.std.specs.Prelude.{map};
+    ghost use Rattle.master_index.specs.Masters.{Masters, masters_code, rows_in};
+
+    ghost Value = { Masters };
+
+    ghost coded = { masters_code };
+
+    ghost use Rattle.master_index.specs.InStep.{IsMasterIndex};
+
+    ghost view = { λ m. record { lists = map (λ index. index.list) m.columns.items; rows = rows_in m.tuples.entries } };
+
+    ghost invariant = { λ m. IsMasterIndex m.columns.items (rows_in m.tuples.entries) };
+}
+
+impl MasterIndex {
+    /// An index without rows, for these lists of columns.
+    pub fn new(alloc: Global, lists: Vec<ColumnList>) -> Result<MasterIndex, AllocError>
+        ensures lists { IfOk result (λ index. index.lists ≡ lists.items) }
+        ensures empty { IfOk result (λ index. index.rows ≡ finite.empty) }
+    {
+        let mut columns = Vec::with_capacity(alloc, lists.len())?;
+        for list in lists {
+            columns.push(ColumnIndex::new(alloc, list)?)?;
+        }
+        Ok(MasterIndex {
+            columns,
+            tuples: HashMap::new(alloc),
+        })
+    }
+
+    /// The tuple of a row, if it is there.
+    pub fn tuple(&self, master: usize, row: RowId) -> Option<&Tuple>
+        ensures { ids_behind result ≡ finite.get self.now.rows (master, row) }
+    {
+        self.tuples.get(&(master, row))
+    }
+
+    /// The rows with these ids in these columns, by rising ids. It takes no memory.
+    pub fn matches(&self, master: usize, columns: &[usize], ids: &[ValueId]) -> &[RowId]
+        requires { Contains self.now.lists (record { master = master; columns = columns.now }) }
+        ensures rising { IsStrictlyIncreasing result.now }
+        ensures exactly { (row : ℕ) → Contains result.now row ↔ IsRowWith self.now.rows master columns.now ids.now row }
+    {
+        for index in &self.columns {
+            if index.is_of(master, columns) {
+                return index.rows(ids);
+            }
+        }
+        &[]
+    }
+
+    /// Adds a row that isn't there. After a refusal the rows are as before.
+    pub fn add<L: Ledger>(
+        &mut self,
+        master: usize,
+        row: RowId,
+        tuple: &Tuple,
+        steps: &mut Steps<L>,
+    ) -> Result<(), AllocError>
+        requires absent { finite.get self.old.rows (master, row) ≡ None }
+        requires wide { IsWideFor self.old.lists master (ids_of tuple.now) }
+        ensures ok { OnOk result (self.new.rows ≡ finite.insert self.old.rows (master, row) (ids_of tuple.now)) }
+        ensures err { OnErr result (self.new.rows ≡ self.old.rows) }
+        ensures lists { self.new.lists ≡ self.old.lists }
+        ensures probes { OnOk result (steps.new ≤ steps.old + lists_of self.old.lists master) }
+        ensures probes_twice { steps.new ≤ steps.old + 2 * lists_of self.old.lists master }
+    {
+        let shared = tuple.clone()?;
+        self.tuples.reserve(1)?;
+        add_to_all(&mut self.columns, master, row, None, tuple, steps)?;
+        self.tuples.insert((master, row), shared)?;
+        Ok(())
+    }
+
+    /// Takes a row away. It takes no memory.
+    pub fn remove<L: Ledger>(&mut self, master: usize, row: RowId, steps: &mut Steps<L>)
+        requires { IsSome (finite.get self.old.rows (master, row)) }
+        ensures rows { self.new.rows ≡ finite.remove self.old.rows (master, row) }
+        ensures lists { self.new.lists ≡ self.old.lists }
+        ensures probes { steps.new ≤ steps.old + lists_of self.old.lists master }
+    {
+        if let Some(tuple) = self.tuples.remove(&(master, row)) {
+            remove_from_all(&mut self.columns, master, row, &tuple, None, steps);
+        }
+    }
+
+    /// Puts the tuple in place of the row's. After a refusal the rows are as before.
+    pub fn replace<L: Ledger>(
+        &mut self,
+        master: usize,
+        row: RowId,
+        tuple: &Tuple,
+        steps: &mut Steps<L>,
+    ) -> Result<(), AllocError>
+        requires there { IsSome (finite.get self.old.rows (master, row)) }
+        requires wide { IsWideFor self.old.lists master (ids_of tuple.now) }
+        ensures ok { OnOk result (self.new.rows ≡ finite.insert self.old.rows (master, row) (ids_of tuple.now)) }
+        ensures err { OnErr result (self.new.rows ≡ self.old.rows) }
+        ensures lists { self.new.lists ≡ self.old.lists }
+        ensures probes { steps.new ≤ steps.old + 2 * lists_of self.old.lists master }
+    {
+        let shared = tuple.clone()?;
+        let old = self.tuples[&(master, row)].clone()?;
+        let columns = self.columns.as_mut_slice();
+        add_to_all(columns, master, row, Some(&old), tuple, steps)?;
+        remove_from_all(columns, master, row, &old, Some(tuple), steps);
+        self.tuples.insert((master, row), shared)?;
+        Ok(())
+    }
+}

@@ -1,0 +1,20 @@
+//! The rows of master tables, looked up by their ids and by the values in columns that were handed in. Contracts see
+//! the lists of columns and a finite map from table and row to tuples, of which the look-up by values gives exactly
+//! the rows that have them.
+//!
+//! A change of a row costs a hash for each list of columns of its table, and a binary search and a move among the rows
+//! with the same values; a look-up by values costs a hash.
+#![tactic(auto)]
+
+mod column_index;
+mod column_list;
+mod column_rows;
+mod entry;
+mod index;
+mod rising;
+
+pub use column_list::ColumnList;
+pub use index::MasterIndex;
+
+#[cfg(test)]
+mod tests;

@@ -1,0 +1,34 @@
+-- Files of named lists of numbers, one a line:
+--
+--     NAME: LIST1(NUMBER)
+use Rattle.std.specs.Prelude.{ℕ, List, [], ◌∷◌, ◌++◌, Option, Some, Ok}
+use Rattle.schema_core.specs.Faults as Fault
+use Rattle.schema_core.specs.FileLines as FileLine
+use Rattle.schema_core.specs.Groups.{read_lines}
+use Rattle.schema_core.specs.Phrases.{◌>>=◌, name_at, after_mark, number_at}
+use Rattle.schema_core.specs.TokenLists.{Reader, list1_at, none_after}
+use Rattle.schema_core.specs.declared.line.Line.{Line}
+use Rattle.schema_core.specs.declared.tokens.Mark.TheVariants.{Colon}
+use Rattle.number_lists.specs.declared.lists.NumberCause.{NumberCause}
+use Rattle.number_lists.specs.declared.lists.NumberCause.TheVariants.{NotUtf8, BadLine}
+use Rattle.number_lists.specs.declared.rules.NumberList.{NumberList}
+
+-- a line, read from left to right
+unfoldable pub list_at_front : Reader NumberList
+list_at_front tokens = do
+  name ← name_at tokens
+  rest ← after_mark Colon name.1
+  numbers ← list1_at number_at rest
+  Some (record { name = name.0; numbers = numbers.0 }, numbers.1)
+
+abbrev pub number_causes : Fault.Causes NumberCause
+number_causes = record { not_utf8 = NotUtf8; bad_line = BadLine }
+
+-- the lists so far, with that of a line that leaves no token
+abbrev pub with_line : List NumberList → Line → Fault.Reading (List NumberList) NumberCause
+with_line earlier line =
+    Fault.◌>>=◌ (FileLine.read_line number_causes (λ tokens. none_after (list_at_front tokens)) line) (λ list. Ok (earlier ++ list ∷ []))
+
+-- the lists of a file, or its first fault
+unfoldable pub lists_of : List ℕ → Fault.Reading (List NumberList) NumberCause
+lists_of bytes = read_lines with_line [] bytes

@@ -1,0 +1,9 @@
+use Rattle.std.proofs.Common.{◌≡◌, take, drop, map, ◌++◌}
+use Rattle.schema_core.specs.Firsts.{first_in}
+use Rattle.rule_model.specs.Faults.{repeated_in_cell}
+use Rattle.std.specs.List.{zip}
+use Rattle.rule_model.proofs.cells.cells_are_distinct.Given as goal
+
+-- what is left gives the answer
+abbrev pub invariant-loop-name : goal.invariant-loop-name
+invariant-loop-name l = first_in repeated_in_cell (zip l.name-iterator.a.rest.now l.name-iterator.b.rest.now) ≡ first_in repeated_in_cell (zip l.names l.cells)

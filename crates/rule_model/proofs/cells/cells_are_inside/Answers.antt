@@ -1,0 +1,11 @@
+use Rattle.std.proofs.Common.{inl, inr}
+use Rattle.rule_model.specs.Faults.{outside_in_cell}
+use Rattle.rule_model.proofs.Firsts.{ended_left, ended_right}
+use Rattle.rule_model.proofs.cells.cells_are_inside.Goals as goal
+
+pub returns : goal.returns
+returns c =
+    elim c.in-None.ensures.steps [
+      | inl p ↦ ended_left (outside_in_cell c.args.attrs.now) c.loop-name.name-iterator.a.rest.now c.loop-name.name-iterator.b.rest.now _ p.1.0 c.loop-name.invariant
+      | inr p ↦ ended_right (outside_in_cell c.args.attrs.now) c.loop-name.name-iterator.a.rest.now c.loop-name.name-iterator.b.rest.now _ p.1.0 c.loop-name.invariant
+    ]

@@ -1,0 +1,8 @@
+use Rattle.std.proofs.Common.{◌≡◌, take, drop, map, ◌++◌}
+use Rattle.schema_core.specs.Firsts.{first_in}
+use Rattle.rule_model.specs.Faults.{repeated_in_row}
+use Rattle.rule_model.proofs.cells.cfd_is_distinct.Given as goal
+
+-- what is left gives the answer
+abbrev pub invariant-loop-row : goal.invariant-loop-row
+invariant-loop-row l = first_in (repeated_in_row l.cfd) (drop l.row-index l.cfd.rows) ≡ first_in (repeated_in_row l.cfd) l.cfd.rows

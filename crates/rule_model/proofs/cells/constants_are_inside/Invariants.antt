@@ -1,0 +1,9 @@
+use Rattle.std.proofs.Common.{◌≡◌, take, drop, map, ◌++◌}
+use Rattle.schema_core.specs.Firsts.{first_in}
+use Rattle.rule_model.specs.Faults.{outside_constant}
+use Rattle.std.specs.List.{zip}
+use Rattle.rule_model.proofs.cells.constants_are_inside.Given as goal
+
+-- what is left gives the answer
+abbrev pub invariant-loop-name : goal.invariant-loop-name
+invariant-loop-name l = first_in (outside_constant l.attrs) (zip l.name-iterator.a.rest.now l.name-iterator.b.rest.now) ≡ first_in (outside_constant l.attrs) (zip l.names l.values)

@@ -1,8 +1,0 @@
-use Rattle.std.proofs.Common.{◌≡◌, drop}
-use Rattle.std.specs.List.{zip}
-use Rattle.rule_model.specs.Faults.{first_in, repeated_in_cell}
-use Rattle.rule_model.proofs.checks.cells_are_distinct.Given as goal
-
--- what is left gives the answer
-abbrev pub invariant-loop-i : goal.invariant-loop-i
-invariant-loop-i l = first_in repeated_in_cell (zip (drop l.i l.names) (drop l.i l.cells)) ≡ first_in repeated_in_cell (zip l.names l.cells)

@@ -1,0 +1,9 @@
+pub mod Lists
+pub mod Extending
+pub mod Agreeing
+pub mod MarkBits
+pub mod Moving
+pub mod StartFacts
+pub mod Running
+pub mod Searching
+pub mod Renaming

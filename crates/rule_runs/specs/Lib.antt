@@ -1,0 +1,4 @@
+pub mod Runs
+pub mod Marks
+pub mod Moves
+pub mod Starts
