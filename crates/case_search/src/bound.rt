@@ -1,4 +1,4 @@
-// The budget from which on the search never gives up.
+//! The budget from which on the search never gives up.
 ghost use Rattle.std.specs.Prelude.{◌≡◌};
 ghost use Rattle.case_search.specs.Enough.{enough_of};
 

@@ -1,7 +1,7 @@
-// What the search looks at first at a node, brought up to date as variables are set and unset, so that no node has to
-// look through all variables, clauses or cells. The search tests each hint before it goes by it, and where no hint is
-// left it looks through everything. So nothing has to be proved of hints: a wrong one could only cost time or change
-// the order of the splits, which tests pin.
+//! What the search looks at first at a node, brought up to date as variables are set and unset, so that no node has to
+//! look through all variables, clauses or cells. The search tests each hint before it goes by it, and where no hint is
+//! left it looks through everything. So nothing has to be proved of hints: a wrong one could only cost time or change
+//! the order of the splits, which tests pin.
 ghost use Rattle.std.specs.Prelude.{◌≡◌, ◌+◌, ◌^◌, ◌<◌, length};
 ghost use Rattle.case_tree.specs.CaseTree.{var_count};
 

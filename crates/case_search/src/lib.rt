@@ -1,5 +1,5 @@
-// The search for an assignment that makes all clauses true: a model, or a case tree that refutes the clauses, or, where
-// the budget of leaves is spent before, a partial tree. From a budget of `enough` on it never gives up.
+//! The search for an assignment that makes all clauses true: a model, or a case tree that refutes the clauses, or, where
+//! the budget of leaves is spent before, a partial tree. From a budget of `enough` on it never gives up.
 #![tactic(auto)]
 
 mod bound;

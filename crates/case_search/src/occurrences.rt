@@ -1,4 +1,4 @@
-// For each variable the clauses in which it occurs, so that a set variable leads to the clauses that it may make false.
+//! For each variable the clauses in which it occurs, so that a set variable leads to the clauses that it may make false.
 ghost use Rattle.std.specs.Prelude.{◌≡◌, ◌<◌, Some, length, slice_get, IfOk, OnOk, vec_len};
 ghost use Rattle.std.specs.List.{All};
 ghost use Rattle.case_search.specs.Places.{Has, IsIndexOf, KeepsAll, lists_of};

@@ -1,4 +1,4 @@
-// The search: a walk down and up the tree of cases, whose nodes are written in preorder as it comes to them.
+//! The search: a walk down and up the tree of cases, whose nodes are written in preorder as it comes to them.
 ghost use Rattle.std.specs.Prelude.{◌≡◌, ◌<◌, ◌≤◌, ◌++◌, Bool, Some, true, IfOk, OnOk, length, replicate};
 ghost use Rattle.std.specs.List.{All, range_with_len};
 ghost use Rattle.case_tree.specs.CaseTree.{IsOneTree, value_on, var_count};

@@ -1,4 +1,4 @@
-// What the search does at a node.
+//! What the search does at a node.
 ghost use Rattle.std.specs.Prelude.{◌≡◌, ◌+◌, ◌^◌, ◌<◌, ◌≢◌, ◌⊎◌, ℕ, Some, None, true, false, length, IfSome, IfNone, IsTrue, IsSomeAnd, slice_get, [], ◌∷◌};
 ghost use Rattle.std.specs.Bool.{MatchBool};
 ghost use Rattle.std.specs.List.{All};

@@ -1,4 +1,4 @@
-// Worked clause sets with the trees that were written down by hand, in the order of the search.
+//! Worked clause sets with the trees that were written down by hand, in the order of the search.
 ghost use Rattle.std.specs.Prelude.{◌≡◌, true, IsTrue};
 ghost use Rattle.std.specs.List.{All};
 ghost use Rattle.case_search.specs.Answer.{HasOneFree};

@@ -1,4 +1,4 @@
-// The checker: one walk over the nodes of a tree, with the path of the present node in hand.
+//! The checker: one walk over the nodes of a tree, with the path of the present node in hand.
 ghost use Rattle.std.specs.Prelude.{◌≡◌, ◌↔◌, ℕ, [], IsTrue, IfOk};
 ghost use Rattle.case_tree.specs.CaseTree.{HasNoneAllowed, HoldsAbove, IsFirstWrong, IsOneTree, IsPartial, IsRight, Refutes, leaf_count, var_count};
 ghost use Rattle.case_tree.specs.Verdict.{IsVerdict};

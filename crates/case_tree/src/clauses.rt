@@ -1,4 +1,4 @@
-// Clauses over variables, which lie in cells: of the variables of one cell at most one is true.
+//! Clauses over variables, which lie in cells: of the variables of one cell at most one is true.
 ghost use Rattle.std.specs.Prelude.{◌≡◌, ◌↔◌, ◌+◌, ◌^◌, ◌<◌, Some, length, slice_get, IsTrue, IfSome, IfNone, IsSomeAnd};
 ghost use Rattle.std.specs.List.{All};
 ghost use Rattle.case_tree.specs.CaseTree.{FollowFrom, IsIn, IsWellFormed, clause_set, literals_of, var_count};

@@ -1,4 +1,4 @@
-// Whether a reason holds under a path. A test looks at what the reason names and at nothing else.
+//! Whether a reason holds under a path. A test looks at what the reason names and at nothing else.
 ghost use Rattle.std.specs.Prelude.{◌≡◌, ◌↔◌, ◌+◌, ◌^◌, ◌<◌, ℕ, Some, false, IsTrue};
 ghost use Rattle.std.specs.List.{All, Any};
 ghost use Rattle.case_tree.specs.CaseTree.{FollowFrom, Holds, IsFalseOn, IsIn, value_on};

@@ -1,4 +1,4 @@
-// Worked trees with the answers that a person gave, and each call once with ample memory.
+//! Worked trees with the answers that a person gave, and each call once with ample memory.
 use super::*;
 use std::alloc::{AllocError, Global};
 use std::process::Abort;

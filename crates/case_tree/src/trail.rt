@@ -1,4 +1,4 @@
-// The path of the node that a walk through a tree has come to.
+//! The path of the node that a walk through a tree has come to.
 ghost use Rattle.std.specs.Prelude.{◌≡◌, ◌↔◌, ◌<◌, ◌≤◌, length, IsTrue, Some, None, IfOk, IfSome, MatchOption, [], ◌∷◌};
 ghost use Rattle.case_tree.specs.CaseTree.{value_on};
 ghost use Rattle.case_tree.specs.Walk.{next_path};

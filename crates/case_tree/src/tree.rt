@@ -1,4 +1,4 @@
-// Trees of cases, as lists of nodes in preorder.
+//! Trees of cases, as lists of nodes in preorder.
 ghost use Rattle.std.specs.Prelude.{◌≡◌, ◌↔◌, IsTrue, IsOk, IfOk, IfErr};
 ghost use Rattle.case_tree.specs.CaseTree.{IsOneTree};
 

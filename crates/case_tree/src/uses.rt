@@ -1,4 +1,4 @@
-// A use of the checker, as a caller writes it: clauses and a tree that come from outside.
+//! A use of the checker, as a caller writes it: clauses and a tree that come from outside.
 ghost use Rattle.std.specs.Prelude.{IsTrue, IfOk};
 ghost use Rattle.case_tree.specs.CaseTree.{HasNoneAllowed, clause_set};
 

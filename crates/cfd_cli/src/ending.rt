@@ -1,4 +1,4 @@
-// How a call ends that writes one text, or whose files weren't read to the end.
+//! How a call ends that writes one text, or whose files weren't read to the end.
 ghost use Rattle.std.specs.Prelude.{◌≡◌, ◌⊎◌};
 ghost use Rattle.cfd_cli.specs.Output.{Ends, EndsBy, IsWhole, Only};
 

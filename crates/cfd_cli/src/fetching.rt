@@ -1,4 +1,4 @@
-// Files off the shelf, within the limits on their bytes.
+//! Files off the shelf, within the limits on their bytes.
 ghost use Rattle.std.specs.Prelude.{◌≡◌, Err};
 ghost use Rattle.schema_core.specs.Limits.{AreLimits};
 ghost use Rattle.cfd_cli.specs.Fetching.{Fetches, Reads, file};

@@ -1,4 +1,4 @@
-// What the words of a call ask for.
+//! What the words of a call ask for.
 ghost use Rattle.std.specs.Prelude.{◌≡◌, IfOk, IsOk};
 ghost use Rattle.cfd_cli.specs.Words.{HasForm, form_of, is_plain};
 

@@ -1,4 +1,4 @@
-// The top call.
+//! The top call.
 ghost use Rattle.std.specs.Prelude.{◌≡◌, ◌⊎◌};
 ghost use Rattle.schema_core.specs.Limits.{AreLimits, standard};
 ghost use Rattle.cfd_cli.specs.Forms.{task_of, usage_line};

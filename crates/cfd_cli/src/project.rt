@@ -1,5 +1,5 @@
-// A project's files, in the order in which they are fetched and read: schema, rules, tables, script. `left` is
-// everywhere how many bytes the files that are still to come may have together.
+//! A project's files, in the order in which they are fetched and read: schema, rules, tables, script. `left` is
+//! everywhere how many bytes the files that are still to come may have together.
 ghost use Rattle.std.specs.Prelude.{◌≡◌, IfOk};
 ghost use Rattle.schema_core.specs.Limits.{AreLimits};
 ghost use Rattle.schema_core.specs.Schemas.{IsValidSchema};

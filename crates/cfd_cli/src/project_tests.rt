@@ -1,7 +1,7 @@
-// Whole projects, each with what the program writes and the status that it ends with.
-//
-// A case is a name, files behind `@`, and behind `=` the status and what is written. Files that a case leaves out are those of one
-// project: a schema, rules, a table with no row and an empty script.
+//! Whole projects, each with what the program writes and the status that it ends with.
+//!
+//! A case is a name, files behind `@`, and behind `=` the status and what is written. Files that a case leaves out are those of one
+//! project: a schema, rules, a table with no row and an empty script.
 use super::*;
 use schema_core::{Limits, List, Text};
 use shelf_io::{MemoryShelf, MemorySink};

@@ -1,11 +1,12 @@
-// Why a call is refused, and the line that says so.
+//! Why a call is refused, and the line that says so.
+
 ghost use Rattle.std.specs.Prelude.{◌≡◌, ◌++◌, OnOk, IfOk};
 ghost use Rattle.cfd_cli.specs.Refusals.{limit_text, too_many, at_line, at_record, with_name, then_text, schema_text, rule_text, parse_text, table_text, script_text, cause_text, refusal_line};
 
 use csv_tables::TableFault;
 use rule_model::RuleFault;
 use rule_parser::ParseCause;
-use schema_core::{Limit, SchemaCause, Text, push_quoted};
+use schema_core::{Limit, SchemaCause, Text, push_number, push_quoted};
 use session::ScriptCause;
 use std::alloc::{AllocError, Global};
 
@@ -37,12 +38,12 @@ pub fn refusal_line(alloc: Global, refusal: &Refusal) -> Result<Vec<u8>, AllocEr
     line.extend_from_slice(b"refused ")?;
     push_quoted(&mut line, refusal.what.as_str())?;
     line.push(b' ')?;
-    push_cause(alloc, &mut line, &refusal.cause)?;
+    push_cause(&mut line, &refusal.cause)?;
     line.push(b'\n')?;
     Ok(line)
 }
 
-fn push_cause(alloc: Global, line: &mut Vec<u8>, cause: &Cause) -> Result<(), AllocError>
+fn push_cause(line: &mut Vec<u8>, cause: &Cause) -> Result<(), AllocError>
     ensures { OnOk result (line.new.items ≡ line.old.items ++ cause_text cause.now) }
 {
     match cause {
@@ -50,16 +51,16 @@ fn push_cause(alloc: Global, line: &mut Vec<u8>, cause: &Cause) -> Result<(), Al
         Cause::TooLarge => line.extend_from_slice(b"TooLarge"),
         Cause::Schema { line: at, cause } => {
             push_schema_cause(line, *cause)?;
-            push_line_number(alloc, line, *at)
+            push_line_number(line, *at)
         }
         Cause::Rules { line: at, cause } => {
             push_parse_cause(line, cause)?;
-            push_line_number(alloc, line, *at)
+            push_line_number(line, *at)
         }
-        Cause::Table(fault) => push_table_fault(alloc, line, fault),
+        Cause::Table(fault) => push_table_fault(line, fault),
         Cause::Script { line: at, cause } => {
             push_script_cause(line, *cause)?;
-            push_line_number(alloc, line, *at)
+            push_line_number(line, *at)
         }
         Cause::RowsFull => line.extend_from_slice(b"RowsFull"),
     }
@@ -111,25 +112,25 @@ fn push_rule_fault(line: &mut Vec<u8>, fault: &RuleFault) -> Result<(), AllocErr
     }
 }
 
-fn push_table_fault(alloc: Global, line: &mut Vec<u8>, fault: &TableFault) -> Result<(), AllocError>
+fn push_table_fault(line: &mut Vec<u8>, fault: &TableFault) -> Result<(), AllocError>
     ensures { OnOk result (line.new.items ≡ line.old.items ++ table_text fault.now) }
 {
     match fault {
         TableFault::NoHeader => line.extend_from_slice(b"NoHeader"),
-        TableFault::NotUtf8 { at } => push_at_record(alloc, line, b"NotUtf8", *at),
+        TableFault::NotUtf8 { at } => push_at_record(line, b"NotUtf8", *at),
         TableFault::HeaderColumn(name) => {
             line.extend_from_slice(b"HeaderColumn")?;
             push_text(line, name)
         }
         TableFault::HeaderRepeats(name) => push_named(line, b"HeaderRepeats", name),
         TableFault::HeaderLacks(name) => push_named(line, b"HeaderLacks", name),
-        TableFault::Width { at } => push_at_record(alloc, line, b"Width", *at),
-        TableFault::TextTooLong { at } => push_at_record(alloc, line, b"TextTooLong", *at),
+        TableFault::Width { at } => push_at_record(line, b"Width", *at),
+        TableFault::TextTooLong { at } => push_at_record(line, b"TextTooLong", *at),
         TableFault::NotInDomain { at, attr } => {
             push_named(line, b"NotInDomain", attr)?;
-            push_record_number(alloc, line, *at)
+            push_record_number(line, *at)
         }
-        TableFault::RowsFull { at } => push_at_record(alloc, line, b"RowsFull", *at),
+        TableFault::RowsFull { at } => push_at_record(line, b"RowsFull", *at),
         TableFault::Memory => line.extend_from_slice(b"Memory"),
     }
 }
@@ -194,30 +195,23 @@ fn push_text(line: &mut Vec<u8>, text: &Text) -> Result<(), AllocError>
     push_quoted(line, text.as_str())
 }
 
-fn push_line_number(alloc: Global, line: &mut Vec<u8>, at: usize) -> Result<(), AllocError>
+fn push_line_number(line: &mut Vec<u8>, at: usize) -> Result<(), AllocError>
     ensures { OnOk result (line.new.items ≡ line.old.items ++ at_line at) }
 {
-    let number = at.to_string(alloc)?;
     line.extend_from_slice(b" line ")?;
-    line.extend_from_slice(number.as_bytes())
+    push_number(line, at as u64)
 }
 
-fn push_record_number(alloc: Global, line: &mut Vec<u8>, at: usize) -> Result<(), AllocError>
+fn push_record_number(line: &mut Vec<u8>, at: usize) -> Result<(), AllocError>
     ensures { OnOk result (line.new.items ≡ line.old.items ++ at_record at) }
 {
-    let number = at.to_string(alloc)?;
     line.extend_from_slice(b" record ")?;
-    line.extend_from_slice(number.as_bytes())
+    push_number(line, at as u64)
 }
 
-fn push_at_record(
-    alloc: Global,
-    line: &mut Vec<u8>,
-    word: &[u8],
-    at: usize,
-) -> Result<(), AllocError>
+fn push_at_record(line: &mut Vec<u8>, word: &[u8], at: usize) -> Result<(), AllocError>
     ensures { OnOk result (line.new.items ≡ line.old.items ++ (word.now ++ at_record at)) }
 {
     line.extend_from_slice(word)?;
-    push_record_number(alloc, line, at)
+    push_record_number(line, at)
 }

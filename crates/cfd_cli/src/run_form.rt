@@ -1,4 +1,4 @@
-// The form `run PROJECT`: answers the project's script.
+//! The form `run PROJECT`: answers the project's script.
 ghost use Rattle.std.specs.Prelude.{◌≡◌, Some, IfErr, IfOk, IsTrue, map};
 ghost use Rattle.schema_core.specs.Limits.{AreLimits};
 ghost use Rattle.violation_report.specs.Listing.{listing};

@@ -1,4 +1,4 @@
-// How a call ends.
+//! How a call ends.
 
 /// How a call ends. The program's exit status is the number.
 #[derive(Clone, Copy, Debug, PartialEq, Eq)]

@@ -1,4 +1,4 @@
-// The files of the tables, and the bench of what they hold.
+//! The files of the tables, and the bench of what they hold.
 ghost use Rattle.std.specs.Prelude.{◌≡◌, length, map, All, IfOk};
 ghost use Rattle.std.specs.List.{AllZip};
 ghost use Rattle.schema_core.specs.Limits.{AreLimits};

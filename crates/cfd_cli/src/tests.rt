@@ -1,4 +1,4 @@
-// Calls of the program over a shelf and a sink in memory: what they write, and how they end.
+//! Calls of the program over a shelf and a sink in memory: what they write, and how they end.
 use super::*;
 use schema_core::{Limits, List, Text};
 use shelf_io::{MemoryShelf, MemorySink};

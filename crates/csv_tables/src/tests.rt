@@ -1,3 +1,5 @@
+//! Table files with their rows, or their faults, and tables written and read again.
+
 ghost use Rattle.std.specs.Prelude.{◌≡◌, IfOk, length};
 ghost use Rattle.schema_core.specs.Limits.{AreLimits};
 

@@ -1,4 +1,4 @@
-// What an edit did to one row.
+//! What an edit did to one row.
 use row_store::{RowId, Tuple};
 
 /// The row's tuple before and after. An inserted row has no old one, a deleted row no new one.

@@ -1,4 +1,4 @@
-// An edit of one row, as the user asks for it: tables and attributes by name, values as texts.
+//! An edit of one row, as the user asks for it: tables and attributes by name, values as texts.
 use row_store::RowId;
 use schema_core::text::{Text, Texts};
 

@@ -1,4 +1,4 @@
-// One vector of changes and a place in it: the past lies before the place, the undone changes from it on.
+//! One vector of changes and a place in it: the past lies before the place, the undone changes from it on.
 ghost use Rattle.std.specs.Prelude.{◌≡◌, ◌+◌, ◌-◌, ◌<◌, ◌≤◌, [], ◌∷◌, ◌++◌, OnOk, option_copied};
 
 use crate::change::Change;

@@ -1,4 +1,4 @@
-// A long walk beside two plain lists, and what a caller knows after going back and forward.
+//! A long walk beside two plain lists, and what a caller knows after going back and forward.
 ghost use Rattle.std.specs.Prelude.{◌≡◌};
 
 use crate::{Change, Log};

@@ -1,5 +1,5 @@
-// The one look-up of a call that may add a key: the index of the key, which goes last, with the fresh
-// value, where it is new. The key is hashed once.
+//! The one look-up of a call that may add a key: the index of the key, which goes last, with the fresh
+//! value, where it is new. The key is hashed once.
 ghost use Rattle.std.specs.Prelude.{◌≡◌, ◌+◌, ◌++◌, [], ◌∷◌, None, IfOk, OnOk, OnErr};
 ghost use Rattle.indexmap.specs.IndexMap.{get, insert_index, ContainsKey, IsUnique};
 

@@ -1,3 +1,5 @@
+//! Walks beside a plain list of the keys and which are marked.
+
 ghost use Rattle.std.specs.Prelude.{◌≡◌, ◌<◌};
 
 use super::*;

@@ -1,4 +1,4 @@
-// Uses of the map, as a caller writes them: accounts with their debts, of which those in debt are marked.
+//! Uses of the map, as a caller writes them: accounts with their debts, of which those in debt are marked.
 ghost use Rattle.std.specs.Prelude.{◌≡◌, ◌+◌, ◌<◌, ◌≤◌, ◌^◌, length, nat_eq, take, sum, IfOk};
 ghost use Rattle.std.specs.Map.{values_of};
 ghost use Rattle.marked_map.specs.Lending.{with_value};

@@ -1,4 +1,4 @@
-// The rows of one master table by the ids in some of its columns, kept in step with the rows.
+//! The rows of one master table by the ids in some of its columns, kept in step with the rows.
 ghost use Rattle.std.specs.Prelude.{◌≡◌, ◌+◌, ◌≤◌, ◌<◌, ◌==◌, ◌&&◌, ℕ, List, length, All, IfOk, IsTrue, ◌↔◌, vec_capacity, false, []};
 ghost use Rattle.std.specs.Str.{bytes_eq};
 ghost use Rattle.row_store.specs.Tuple.{ids_of};

@@ -1,3 +1,5 @@
+//! A list of columns, as an editing rule looks at them.
+
 use schema_core::List;
 
 /// Columns of a master table, by which its rows are looked up.

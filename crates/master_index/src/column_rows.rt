@@ -1,5 +1,5 @@
-// The rows by the value ids in some columns: a hashed map from keys to row ids, in which no key stands
-// without rows.
+//! The rows by the value ids in some columns: a hashed map from keys to row ids, in which no key stands
+//! without rows.
 ghost use Rattle.std.specs.Prelude.{◌≡◌, ◌+◌, ◌<◌, ◌≤◌, ◌++◌, [], ◌∷◌, None, ℕ, List, length, IfOk, OnOk, OnErr};
 ghost use Rattle.indexmap.specs.IndexMap.{get, insert_index, ContainsKey, IsUnique};
 ghost use Rattle.master_index.specs.ColumnRows.{rows_under, AreOrderly, HasKeyAt, HoldAlike, IsPutUnder, IsTakenFrom};

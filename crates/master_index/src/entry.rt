@@ -1,5 +1,5 @@
-// The one look-up of a call that may add a key: the place of the key, which comes in last with the fresh rows where it is
-// new. The key is hashed once.
+//! The one look-up of a call that may add a key: the place of the key, which comes in last with the fresh rows where it is
+//! new. The key is hashed once.
 ghost use Rattle.std.specs.Prelude.{◌≡◌, ◌+◌, ◌++◌, [], ◌∷◌, None, IfOk, OnOk, OnErr};
 ghost use Rattle.indexmap.specs.IndexMap.{get, insert_index, ContainsKey, IsUnique};
 

@@ -1,4 +1,4 @@
-// Row ids in rising order.
+//! Row ids in rising order.
 ghost use Rattle.std.specs.Prelude.{◌≡◌, ◌==◌, ◌||◌, ◌&&◌, ◌+◌, ◌≤◌, ℕ, length, false, not, OnOk, OnErr};
 ghost use Rattle.std.specs.List.Sorted.{IsStrictlyIncreasing};
 ghost use Rattle.master_index.specs.ColumnRows.{is_among};

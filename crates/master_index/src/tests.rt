@@ -1,4 +1,4 @@
-// Some hundred random changes of two master tables, after each of which every look-up equals a scan.
+//! Some hundred random changes of two master tables, after each of which every look-up equals a scan.
 ghost use Rattle.std.specs.Prelude.{◌≡◌, ◌<◌, [], ◌∷◌, length, IfOk};
 ghost use Rattle.row_store.specs.Tuple.{ids_of};
 ghost use Rattle.master_index.specs.Masters.{IsWideFor};

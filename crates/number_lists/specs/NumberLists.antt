@@ -5,7 +5,8 @@ use Rattle.std.specs.Prelude.{ℕ, List, [], ◌∷◌, ◌++◌, Option, Some, 
 use Rattle.schema_core.specs.Faults as Fault
 use Rattle.schema_core.specs.FileLines as FileLine
 use Rattle.schema_core.specs.Groups.{read_lines}
-use Rattle.schema_core.specs.Phrases.{◌>>=◌, name_at, after_mark, number_at}
+use Rattle.schema_core.specs.Phrases.{◌>>=◌, name_at, number_at}
+use Rattle.schema_core.specs.Marks.{after_mark}
 use Rattle.schema_core.specs.TokenLists.{Reader, list1_at, none_after}
 use Rattle.schema_core.specs.declared.line.Line.{Line}
 use Rattle.schema_core.specs.declared.tokens.Mark.TheVariants.{Colon}

@@ -1,3 +1,5 @@
+//! Files with their lists, or the first fault.
+
 use crate::{NumberCause, NumberFault, parse_lists};
 
 #[test]

@@ -1,5 +1,5 @@
-// The counter of index probes. It takes no bytes and its calls cost nothing when they run: the count
-// exists in contracts alone, so that a call can promise how often it looks something up.
+//! The counter of index probes. It takes no bytes and its calls cost nothing when they run: the count
+//! exists in contracts alone, so that a call can promise how often it looks something up.
 #![tactic(auto)]
 
 ghost use Rattle.std.specs.Prelude.{◌≡◌, ◌+◌, ◌<◌};

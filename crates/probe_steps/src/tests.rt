@@ -1,4 +1,4 @@
-// How other crates count with `Steps`: a bound over a loop, bounds that add up, a counter of one's own.
+//! How other crates count with `Steps`: a bound over a loop, bounds that add up, a counter of one's own.
 ghost use Rattle.std.specs.Prelude.{◌≡◌, ◌+◌, ◌<◌, ◌≤◌, length};
 
 use super::*;

@@ -1,4 +1,4 @@
-// A walk over the rows of a store.
+//! A walk over the rows of a store.
 ghost use Rattle.std.specs.Prelude.{◌≡◌};
 ghost use Rattle.row_store.specs.Slots.{entries_from};
 

@@ -1,4 +1,4 @@
-// What is kept in step with the rows of tables, as an index is.
+//! What is kept in step with the rows of tables, as an index is.
 ghost use Rattle.std.specs.Prelude.{◌≡◌, ◌↔◌, ◌+◌, ◌≤◌, ◌||◌, ℕ, Bool, true, false, List, OnOk, OnErr};
 ghost use Rattle.std.specs.Option.{ForSome};
 ghost use Rattle.row_store.specs.Tuple.{ids_of, ids_behind};

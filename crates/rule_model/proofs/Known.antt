@@ -14,7 +14,7 @@ use Rattle.std.proofs.lemmas.List.{get_or-map, length-map}
 use Rattle.std.proofs.lemmas.List.Elements.{All-from_recursion, All-map}
 use Rattle.std.proofs.lemmas.List.Quantifiers.{position-Some}
 use Rattle.std.proofs.lemmas.Slice.Eq.{bytes_eq-Decides}
-use Rattle.rule_model.specs.Lookups.{table_number, place_of, attr_number, attr_numbers}
+use Rattle.schema_core.specs.Lookups.{table_number, place_of, attr_number, attr_numbers}
 use Rattle.rule_model.specs.Rules.{AreAttrsOf}
 use Rattle.schema_core.specs.Firsts.{first_in}
 use Rattle.rule_model.specs.Faults.{unknown_table_name, unknown_name, unknown_in, unknown_in_pair}

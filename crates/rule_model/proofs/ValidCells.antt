@@ -18,7 +18,7 @@ use Rattle.rule_model.specs.declared.decl.CfdDecl.{CfdDecl}
 use Rattle.rule_model.specs.declared.edit_rule.EditCell.{EditCell}
 use Rattle.rule_model.specs.declared.edit_rule.EditCell.TheVariants as edit_cells
 use Rattle.rule_model.specs.Declarations.{constants_of, edit_constants_of, IsWrittenSet, IsWrittenCell, IsWrittenEditCell}
-use Rattle.rule_model.specs.Lookups.{attr_number, attr_numbers, domain_at, domain_of}
+use Rattle.schema_core.specs.Lookups.{attr_number, attr_numbers, domain_at, domain_of}
 use Rattle.rule_model.specs.Rules.{IsConstantOf, IsSetOf, IsCellOf, AreConstantsOf, IsEditCellOf, IsValidPattern, numbered_pattern, pattern_attrs}
 use Rattle.rule_model.specs.Faults.{outside_in, outside_in_cell, outside_constant, outside_in_pattern, repeated_in_cell, is_within}
 use Rattle.rule_model.proofs.Passing.{both_true, all_pass, none_found, map_none, not_false, each_weaker, distinct_if_none}

@@ -22,7 +22,7 @@ use Rattle.rule_model.specs.declared.decl.Decl.{Decl}
 use Rattle.rule_model.specs.declared.decl.Decl.TheVariants.{Cfd, Cind, Edit}
 use Rattle.rule_model.specs.declared.edit_rule.EditCell.{EditCell}
 use Rattle.rule_model.specs.Declarations.{IsWrittenCell, IsWrittenEditCell, IsWrittenRow, IsWrittenInclusionRow, IsWrittenCfd, IsWrittenCind, IsWrittenEdit, IsWritten}
-use Rattle.rule_model.specs.Lookups.{table_number, attrs_at, attrs_of, attr_number, attr_numbers, domain_at}
+use Rattle.schema_core.specs.Lookups.{table_number, attrs_at, attrs_of, attr_number, attr_numbers, domain_at}
 use Rattle.rule_model.specs.Rules.{row_at, dep_at, cind_of, edit_of, deps_of, cinds_of, edits_of, numbered_pattern, pattern_attrs, IsCellOf, IsValidRow, IsValidDep, IsValidInclusionRow, IsValidCind, IsValidPattern, IsValidEditRule}
 use Rattle.rule_model.specs.declared.fault.RuleFault.{RuleFault}
 use Rattle.rule_model.specs.Counts.{counts_of}

@@ -31,7 +31,7 @@ use Rattle.schema_core.specs.Faults.{IsUnlessMemory}
 use Rattle.schema_core.specs.Firsts.{first_of, first_in}
 use Rattle.schema_core.specs.Repeats.{first_repeated}
 use Rattle.rule_model.specs.Declarations.{name_of, constants_of, edit_constants_of}
-use Rattle.rule_model.specs.Lookups.{table_number, attrs_of, master_at, place_of, domain_of}
+use Rattle.schema_core.specs.Lookups.{table_number, attrs_of, master_at, place_of, domain_of}
 use Rattle.rule_model.specs.Rules.{pattern_attrs}
 
 -- a fault where a test does not hold

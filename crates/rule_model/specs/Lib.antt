@@ -1,4 +1,3 @@
-pub mod Lookups
 pub mod Declarations
 pub mod Counts
 pub mod Rules

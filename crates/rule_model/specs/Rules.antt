@@ -24,7 +24,7 @@ use Rattle.rule_model.specs.declared.edit_rule.EditCell.{EditCell}
 use Rattle.rule_model.specs.declared.edit_rule.EditCell.TheVariants as edit_cells
 use Rattle.rule_model.specs.declared.edit_rule.EditRule.{EditRule}
 use Rattle.rule_model.specs.declared.rules.Rules.{Rules}
-use Rattle.rule_model.specs.Lookups.{table_number, attrs_at, attrs_of, master_at, attr_number, attr_numbers, domain_at}
+use Rattle.schema_core.specs.Lookups.{table_number, attrs_at, attrs_of, master_at, attr_number, attr_numbers, domain_at}
 
 -- ---- what a declaration stands for
 

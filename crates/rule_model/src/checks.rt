@@ -6,7 +6,7 @@ ghost use Rattle.std.specs.List.{list_all};
 ghost use Rattle.schema_core.specs.Schemas.{admits};
 ghost use Rattle.schema_core.specs.declared.schema.Domain.TheVariants.{AnyText};
 ghost use Rattle.rule_model.specs.Counts.{counts_of};
-ghost use Rattle.rule_model.specs.Lookups.{attrs_of, domain_of};
+ghost use Rattle.schema_core.specs.Lookups.{attrs_of, domain_of};
 ghost use Rattle.rule_model.specs.Faults.{Finds, is_within, domain_mismatch, schema_tests, fault_of};
 ghost use Rattle.schema_core.specs.Firsts.{first_of};
 

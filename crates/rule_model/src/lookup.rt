@@ -4,7 +4,7 @@ ghost use Rattle.std.specs.Prelude.{◌≡◌, drop, length, IfOk};
 ghost use Rattle.std.specs.Option.{option_map_or};
 ghost use Rattle.schema_core.specs.Schemas.{admits};
 ghost use Rattle.schema_core.specs.declared.schema.Domain.TheVariants.{AnyText};
-ghost use Rattle.rule_model.specs.Lookups.{table_number, attrs_of, master_at, place_of, attr_number, attr_numbers, domain_of};
+ghost use Rattle.schema_core.specs.Lookups.{table_number, attrs_of, master_at, place_of, attr_number, attr_numbers, domain_of};
 ghost use Rattle.rule_model.specs.Rules.{pattern_attrs};
 
 use crate::edit_rule::EditCell;

@@ -8,7 +8,7 @@ ghost use Rattle.std.specs.Str.{bytes_eq};
 ghost use Rattle.schema_core.specs.Firsts.{first_in};
 ghost use Rattle.schema_core.specs.Repeats.{repeated_after};
 ghost use Rattle.rule_model.specs.Declarations.{name_of};
-ghost use Rattle.rule_model.specs.Lookups.{attrs_of};
+ghost use Rattle.schema_core.specs.Lookups.{attrs_of};
 ghost use Rattle.rule_model.specs.Faults.{Finds, duplicate_rule, unknown_table_name, unknown_table, not_master, unknown_name, unknown_in, unknown_in_pair, unknown_in_pairs, unknown_attr, repeated_in, repeated_attr, no_match_column, target_in_x};
 
 use crate::decl::{CfdDecl, CindDecl, Decl, EditDecl};

@@ -27,7 +27,7 @@ use Rattle.cfd_semantics.specs.declared.dependency.TableauRow.{TableauRow}
 use Rattle.rule_model.specs.declared.dep.Dep.{Dep}
 use Rattle.rule_model.specs.Declarations.{IsWrittenSet, IsWrittenCell}
 use Rattle.rule_model.specs.Judged.{judged_dep}
-use Rattle.rule_model.specs.Lookups.{attrs_at, domain_at}
+use Rattle.schema_core.specs.Lookups.{attrs_at, domain_at}
 use Rattle.rule_model.specs.Rules.{IsConstantOf, IsSetOf, IsCellOf, IsValidRow, IsValidDep}
 use Rattle.rule_parser.specs.RuleLines.{cell_at, dep_at}
 use Rattle.rule_parser.specs.RuleFiles.{rule_causes, read_alone, dep_or_fault, reads_dep}

@@ -4,8 +4,9 @@ use Rattle.std.specs.Prelude.{codes, map}
 use Rattle.std.specs.List.{AllByRecursion, zip}
 use Rattle.std.proofs.lemmas.List.{append-nil}
 use Rattle.schema_core.specs.Names.{IsName}
-use Rattle.schema_core.specs.Phrases.{name_at, same_mark, list_until}
-use Rattle.schema_core.specs.TokenLists.{behind_comma, list1_at, list_at}
+use Rattle.schema_core.specs.Phrases.{name_at, list_until}
+use Rattle.schema_core.specs.Marks.{after_mark, same_mark}
+use Rattle.schema_core.specs.TokenLists.{list1_at, list_at}
 use Rattle.schema_core.specs.declared.tokens.Mark.{Mark}
 use Rattle.schema_core.specs.declared.tokens.Mark.TheVariants.{Colon, OpenBracket, CloseBracket, Semicolon, Equals, Arrow}
 use Rattle.schema_core.specs.declared.tokens.Token.{Token}
@@ -32,7 +33,7 @@ names xs = tokens_in (comma_separated attr_parts xs)
 pub closed_tokens : {A : Type 0} (p : A → List Part) (xs : List A) (m : Mark) (more : List Part) → tokens_in ((comma_separated p xs ++ mark m ∷ []) ++ more) ≡ tokens_in (comma_separated p xs) ++ Sign m ∷ tokens_in more
 closed_tokens p xs m more = ap tokens_in (append_assoc (comma_separated p xs) (mark m ∷ []) more) ∙ tokens_in-append (comma_separated p xs) (mark m ∷ more)
 
-pub names_until : (m : Mark) (xs : List (List ℕ)) (rest : List Token) → behind_comma (Sign m ∷ rest) ≡ None → same_mark m m ≡ true → list_until name_at m (names xs ++ Sign m ∷ rest) ≡ Some (xs, rest)
+pub names_until : (m : Mark) (xs : List (List ℕ)) (rest : List Token) → after_mark Comma (Sign m ∷ rest) ≡ None → same_mark m m ≡ true → list_until name_at m (names xs ++ Sign m ∷ rest) ≡ Some (xs, rest)
 names_until m xs rest ended same = list_until-written name_at attr_parts m xs rest (names_again xs) (names_some xs) ended refl same
 
 -- ---- CFDs

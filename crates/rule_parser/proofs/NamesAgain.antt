@@ -20,7 +20,7 @@ use Rattle.rule_model.specs.declared.decl.CindDecl.{CindDecl}
 use Rattle.rule_model.specs.declared.decl.EditDecl.{EditDecl}
 use Rattle.rule_model.specs.declared.decl.Decl.TheVariants.{Cfd, Cind, Edit}
 use Rattle.rule_model.specs.declared.edit_rule.EditCell.{EditCell}
-use Rattle.rule_model.specs.Lookups.{attrs_at, attrs_of, attr_number}
+use Rattle.schema_core.specs.Lookups.{attrs_at, attrs_of, attr_number}
 use Rattle.rule_model.specs.Rules.{pattern_attrs}
 use Rattle.rule_model.specs.Faults.{unknown_table_name, unknown_name, unknown_in, unknown_in_pairs}
 use Rattle.rule_model.proofs.Known.{IsKnown, known_if_none, all_known_if_none}

@@ -17,7 +17,7 @@ use Rattle.schema_core.specs.declared.schema.Domain.TheVariants.{AnyText}
 use Rattle.schema_core.specs.declared.schema.Attr.{Attr}
 use Rattle.schema_core.specs.declared.schema.Table.{Table}
 use Rattle.schema_core.specs.declared.schema.Schema.{Schema}
-use Rattle.rule_model.specs.Lookups.{attrs_at, place_of, attr_number, table_number}
+use Rattle.schema_core.specs.Lookups.{attrs_at, place_of, attr_number, table_number}
 use Rattle.rule_parser.specs.RuleText.{table_name, attr_name}
 
 -- in distinct names, the first place of the name at a place is that place

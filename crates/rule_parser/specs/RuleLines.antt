@@ -16,7 +16,8 @@
 --     TABLE: [LIST(ATTR)] -> [ATTR] row LIST(CELL) || CELL
 use Rattle.std.specs.Prelude.{ℕ, nat_le, Bool, true, false, List, [], ◌∷◌, length, map, Option, Some, None, if◌then◌else◌, option_map, codes}
 use Rattle.std.specs.Str.{bytes_eq}
-use Rattle.schema_core.specs.Phrases.{◌>>=◌, name_at, constant_at, after_word, after_mark, same_mark, only_if, list_until}
+use Rattle.schema_core.specs.Phrases.{◌>>=◌, name_at, constant_at, after_word, only_if, list_until}
+use Rattle.schema_core.specs.Marks.{after_mark, same_mark}
 use Rattle.schema_core.specs.TokenLists.{Reader, list1_at, list_at}
 use Rattle.schema_core.specs.declared.bounds.TheConstants.{SET_MEMBERS}
 use Rattle.schema_core.specs.declared.tokens.Mark.TheVariants.{Colon, OpenBracket, CloseBracket, Semicolon, Equals, Differs, Arrow, Bars, Underscore, OpenBrace, CloseBrace}

@@ -13,7 +13,7 @@ use Rattle.cfd_semantics.specs.declared.pattern.Pattern.{Pattern}
 use Rattle.cfd_semantics.specs.declared.pattern.Pattern.TheVariants.{Any, Is, In, NotIn}
 use Rattle.cfd_semantics.specs.declared.dependency.TableauRow.{TableauRow}
 use Rattle.cfd_semantics.specs.declared.inclusion.InclusionRow.{InclusionRow}
-use Rattle.rule_model.specs.Lookups.{attrs_at}
+use Rattle.schema_core.specs.Lookups.{attrs_at}
 use Rattle.rule_model.specs.declared.decl.CfdRow.{CfdRow}
 use Rattle.rule_model.specs.declared.decl.CfdDecl.{CfdDecl}
 use Rattle.rule_model.specs.declared.decl.CindDecl.{CindDecl}

@@ -3,9 +3,10 @@ use Rattle.std.proofs.Common.{◌≡◌, ℕ, zero, suc, ◌<◌, ◌≤◌, Boo
 use Rattle.std.proofs.lemmas.Option.{none-some, some_pair_parts}
 use Rattle.std.specs.Prelude.{codes}
 use Rattle.std.specs.Str.{bytes_eq}
-use Rattle.schema_core.specs.Phrases.{◌>>=◌, name_at, constant_at, after_mark, same_mark, only_if}
+use Rattle.schema_core.specs.Phrases.{◌>>=◌, name_at, constant_at, only_if}
+use Rattle.schema_core.specs.Marks.{after_mark, same_mark}
 use Rattle.schema_core.specs.Takes.{name_at-takes, constant_at-takes}
-use Rattle.schema_core.specs.TokenLists.{Reader, behind_comma, in_front, or_others, and_others, list1_within, list1_at}
+use Rattle.schema_core.specs.TokenLists.{Reader, in_front, or_others, and_others, list1_within, list1_at}
 use Rattle.schema_core.specs.declared.tokens.Mark.{Mark}
 use Rattle.schema_core.specs.declared.tokens.Mark.TheVariants.{Equals, Differs, Underscore, OpenBrace, CloseBrace, Comma}
 use Rattle.schema_core.specs.declared.tokens.Token.{Token}
@@ -35,11 +36,6 @@ after_mark-takes mark (Number n ∷ tokens) rest e = absurd (none-some _ e)
 after_mark-takes mark (Quoted text ∷ tokens) rest e = absurd (none-some _ e)
 after_mark-takes mark (Sign found ∷ tokens) rest e = omega (arith, ap length (if_marked (same_mark found mark) tokens rest e))
 
-behind_comma-takes : (tokens rest : List Token) → behind_comma tokens ≡ Some rest → length rest < length tokens
-behind_comma-takes [] rest e = absurd (none-some _ e)
-behind_comma-takes (Sign Comma ∷ tokens) rest e = omega (arith, ap length (some_same tokens rest e))
-behind_comma-takes (_ ∷ tokens) rest e = absurd (none-some _ e)
-
 -- ---- lists
 
 -- p takes a token off the front
@@ -50,16 +46,16 @@ in_front-rest : {A : Type 0} (x : A) (found : Option (List A × List Token)) (xs
 in_front-rest x None xs rest e = absurd (none-some _ e)
 in_front-rest x (Some found) xs rest e = (found.0, ap (λ (r : List Token). Some (found.0, r)) (some_pair_parts _ _ _ _ e).1)
 
-others_take : {A : Type 0} (p : Reader A) (room : ℕ) → TakesOne (list1_within p room) → (after rest : List Token) (x : A) (xs : List A) (behind : Option (List Token)) → behind_comma after ≡ behind → or_others (list1_within p room) x after behind ≡ Some (xs, rest) → length rest ≤ length after
+others_take : {A : Type 0} (p : Reader A) (room : ℕ) → TakesOne (list1_within p room) → (after rest : List Token) (x : A) (xs : List A) (behind : Option (List Token)) → after_mark Comma after ≡ behind → or_others (list1_within p room) x after behind ≡ Some (xs, rest) → length rest ≤ length after
 others_take p room others after rest x xs None is e = omega (arith, ap length (some_pair_parts _ _ _ _ e).1)
 others_take p room others after rest x xs (Some behind) is e =
     let more = in_front-rest x (list1_within p room behind) xs rest e in
-    omega (arith, behind_comma-takes after behind is, others behind rest more.0 more.1)
+    omega (arith, after_mark-takes Comma after behind is, others behind rest more.0 more.1)
 
 first_takes : {A : Type 0} (p : Reader A) → TakesOne p → (room : ℕ) → TakesOne (list1_within p room) → (tokens rest : List Token) (xs : List A) (found : Option (A × List Token)) → p tokens ≡ found → and_others (list1_within p room) found ≡ Some (xs, rest) → length rest < length tokens
 first_takes p takes room others tokens rest xs None is e = absurd (none-some _ e)
 first_takes p takes room others tokens rest xs (Some (x, after)) is e =
-    omega (arith, takes tokens after x is, others_take p room others after rest x xs (behind_comma after) refl e)
+    omega (arith, takes tokens after x is, others_take p room others after rest x xs (after_mark Comma after) refl e)
 
 list1_within-takes : {A : Type 0} (p : Reader A) → TakesOne p → (room : ℕ) → TakesOne (list1_within p room)
 list1_within-takes p takes zero tokens rest xs e = absurd (none-some _ e)

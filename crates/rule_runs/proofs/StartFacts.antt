@@ -16,7 +16,7 @@ use Rattle.schema_core.specs.declared.schema.Table.{Table}
 use Rattle.schema_core.specs.declared.schema.Schema.{Schema}
 use Rattle.rule_model.specs.declared.edit_rule.EditCell.{EditCell}
 use Rattle.rule_model.specs.declared.edit_rule.EditRule.{EditRule}
-use Rattle.rule_model.specs.Lookups.{attrs_at}
+use Rattle.schema_core.specs.Lookups.{attrs_at}
 use Rattle.rule_model.specs.Rules.{IsValidEditRule}
 use Rattle.rule_model.specs.Books.{IsBook, book_edits}
 use Rattle.master_index.specs.Masters.{HasIds, IsRowWith}

@@ -10,7 +10,7 @@ use Rattle.schema_core.specs.Schemas.{HasFewAttrs}
 use Rattle.rule_model.specs.Rules.{IsValidEditRule}
 use Rattle.rule_model.specs.Books.{Book, book_edits}
 use Rattle.master_index.specs.Masters.{Masters}
-use Rattle.rule_model.specs.Lookups.{attrs_at}
+use Rattle.schema_core.specs.Lookups.{attrs_at}
 use Rattle.rule_runs.specs.declared.marks.Marks.{Marks}
 use Rattle.rule_runs.specs.declared.moves.Move.{Move}
 use Rattle.rule_runs.specs.declared.moves.Start.{Start}

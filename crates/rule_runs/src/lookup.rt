@@ -1,4 +1,4 @@
-// The master rows with which a rule corrects a tuple.
+//! The master rows with which a rule corrects a tuple.
 ghost use Rattle.std.specs.Prelude.{◌≡◌, ◌↔◌, ◌<◌, ◌≤◌, ℕ, Some, length, map, slice_get, take, All, Contains, IsSomeAnd};
 ghost use Rattle.std.specs.List.Sorted.{IsStrictlyIncreasing};
 ghost use Rattle.rule_runs.specs.Moves.{Applies, IsReady, values_in};

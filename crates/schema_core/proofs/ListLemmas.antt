@@ -4,8 +4,8 @@ use Rattle.std.proofs.lemmas.Option.{none-some, same_Some}
 use Rattle.schema_core.specs.declared.tokens.Token.{Token}
 use Rattle.schema_core.specs.declared.tokens.Token.TheVariants.{Name, Number, Quoted, Sign}
 use Rattle.schema_core.specs.declared.tokens.Mark.TheVariants.{Colon, Comma, OpenBracket, CloseBracket, Semicolon, Equals, Differs, Arrow, Bars, Underscore, Dot, OpenBrace, CloseBrace}
-use Rattle.schema_core.specs.Phrases.{after_mark}
-use Rattle.schema_core.specs.TokenLists.{Reader, behind_comma, in_front, or_others, list1_within, list1_at}
+use Rattle.schema_core.specs.Marks.{after_mark}
+use Rattle.schema_core.specs.TokenLists.{Reader, in_front, or_others, list1_within, list1_at}
 
 -- the items that were read before, in front of the others
 abbrev pub all_in_front : {A : Type 0} → List A → Option (List A × List Token) → Option (List A × List Token)
@@ -49,58 +49,52 @@ less_room : (room : ℕ) (rest after : List Token) → length rest ≤ room → 
 less_room zero rest after enough shorter = absurd (omega arith)
 less_room (suc room) rest after enough shorter = (room, refl)
 
-list1_within-some : {A : Type 0} (p : Reader A) (room : ℕ) (rest after : List Token) (x : A) → p rest ≡ Some (x, after) → list1_within p (suc room) rest ≡ or_others (list1_within p room) x after (behind_comma after)
+list1_within-some : {A : Type 0} (p : Reader A) (room : ℕ) (rest after : List Token) (x : A) → p rest ≡ Some (x, after) → list1_within p (suc room) rest ≡ or_others (list1_within p room) x after (after_mark Comma after)
 list1_within-some p room rest after x found = rw found refl
 
 -- where no `,` stands behind p, it is the last
-pub ListLeft-ends : {A : Type 0} (p : Reader A) (whole : Option (List A × List Token)) (read : List A) (rest after : List Token) (x : A) → ListLeft p whole read rest → length after < length rest → p rest ≡ Some (x, after) → behind_comma after ≡ None
+pub ListLeft-ends : {A : Type 0} (p : Reader A) (whole : Option (List A × List Token)) (read : List A) (rest after : List Token) (x : A) → ListLeft p whole read rest → length after < length rest → p rest ≡ Some (x, after) → after_mark Comma after ≡ None
     → Some (read ++ x ∷ [], after) ≡ whole
 ListLeft-ends p whole read rest after x left shorter found last =
     let less = less_room left.room rest after left.enough shorter in
     let step : list1_within p left.room rest ≡ Some (x ∷ [], after) = ap (λ (k : ℕ). list1_within p k rest) less.1 ∙ list1_within-some p less.0 rest after x found ∙ ap (or_others (list1_within p less.0) x after) last in
     sym (ap (all_in_front read) step ∙ all_in_front-some read (x ∷ []) after) ∙ left.same
 
-pub ListLeft-last : {A : Type 0} (p : Reader A) → TakesToken p → (whole : Option (List A × List Token)) (read : List A) (rest after : List Token) (x : A) → ListLeft p whole read rest → p rest ≡ Some (x, after) → behind_comma after ≡ None
+pub ListLeft-last : {A : Type 0} (p : Reader A) → TakesToken p → (whole : Option (List A × List Token)) (read : List A) (rest after : List Token) (x : A) → ListLeft p whole read rest → p rest ≡ Some (x, after) → after_mark Comma after ≡ None
     → Some (read ++ x ∷ [], after) ≡ whole
 ListLeft-last p takes whole read rest after x left found last = ListLeft-ends p whole read rest after x left (takes rest after x found) found last
 
-pub length-behind_comma : (tokens rest : List Token) → behind_comma tokens ≡ Some rest → length rest < length tokens
-length-behind_comma [] rest e = absurd (none-some _ e)
-length-behind_comma (Sign Comma ∷ tokens) rest e = rw (← same_Some tokens rest e) (omega arith)
-length-behind_comma (t ∷ tokens) rest e = absurd (none-some _ e)
+pub length-after_comma : (tokens rest : List Token) → after_mark Comma tokens ≡ Some rest → length rest < length tokens
+length-after_comma [] rest e = absurd (none-some _ e)
+length-after_comma (Sign Comma ∷ tokens) rest e = rw (← same_Some tokens rest e) (omega arith)
+length-after_comma (Sign Colon ∷ tokens) rest e = absurd (none-some _ e)
+length-after_comma (Sign OpenBracket ∷ tokens) rest e = absurd (none-some _ e)
+length-after_comma (Sign CloseBracket ∷ tokens) rest e = absurd (none-some _ e)
+length-after_comma (Sign Semicolon ∷ tokens) rest e = absurd (none-some _ e)
+length-after_comma (Sign Equals ∷ tokens) rest e = absurd (none-some _ e)
+length-after_comma (Sign Differs ∷ tokens) rest e = absurd (none-some _ e)
+length-after_comma (Sign Arrow ∷ tokens) rest e = absurd (none-some _ e)
+length-after_comma (Sign Bars ∷ tokens) rest e = absurd (none-some _ e)
+length-after_comma (Sign Underscore ∷ tokens) rest e = absurd (none-some _ e)
+length-after_comma (Sign Dot ∷ tokens) rest e = absurd (none-some _ e)
+length-after_comma (Sign OpenBrace ∷ tokens) rest e = absurd (none-some _ e)
+length-after_comma (Sign CloseBrace ∷ tokens) rest e = absurd (none-some _ e)
+length-after_comma (Name name ∷ tokens) rest e = absurd (none-some _ e)
+length-after_comma (Number n ∷ tokens) rest e = absurd (none-some _ e)
+length-after_comma (Quoted text ∷ tokens) rest e = absurd (none-some _ e)
 
-pub ListLeft-goes_on : {A : Type 0} (p : Reader A) (whole : Option (List A × List Token)) (read : List A) (rest after behind : List Token) (x : A) → ListLeft p whole read rest → length after < length rest → p rest ≡ Some (x, after) → behind_comma after ≡ Some behind
+pub ListLeft-goes_on : {A : Type 0} (p : Reader A) (whole : Option (List A × List Token)) (read : List A) (rest after behind : List Token) (x : A) → ListLeft p whole read rest → length after < length rest → p rest ≡ Some (x, after) → after_mark Comma after ≡ Some behind
     → ListLeft p whole (read ++ x ∷ []) behind
 ListLeft-goes_on p whole read rest after behind x left shorter found more =
     let less = less_room left.room rest after left.enough shorter in
     let step : list1_within p left.room rest ≡ in_front x (list1_within p less.0 behind) = ap (λ (k : ℕ). list1_within p k rest) less.1 ∙ list1_within-some p less.0 rest after x found ∙ ap (or_others (list1_within p less.0) x after) more in
-    let fits : length behind ≤ less.0 = omega (arith, shorter, length-behind_comma after behind more, left.enough, less.1) in
+    let fits : length behind ≤ less.0 = omega (arith, shorter, length-after_comma after behind more, left.enough, less.1) in
     record {
       room = less.0;
       enough = fits;
       same = all_in_front-push read x (list1_within p less.0 behind) ∙ ap (all_in_front read) (sym step) ∙ left.same;
     }
 
-pub ListLeft-more : {A : Type 0} (p : Reader A) → TakesToken p → (whole : Option (List A × List Token)) (read : List A) (rest after behind : List Token) (x : A) → ListLeft p whole read rest → p rest ≡ Some (x, after) → behind_comma after ≡ Some behind
+pub ListLeft-more : {A : Type 0} (p : Reader A) → TakesToken p → (whole : Option (List A × List Token)) (read : List A) (rest after behind : List Token) (x : A) → ListLeft p whole read rest → p rest ≡ Some (x, after) → after_mark Comma after ≡ Some behind
     → ListLeft p whole (read ++ x ∷ []) behind
 ListLeft-more p takes whole read rest after behind x left found more = ListLeft-goes_on p whole read rest after behind x left (takes rest after x found) found more
-
--- what follows a comma at the front
-pub comma-is : (tokens : List Token) → behind_comma tokens ≡ after_mark Comma tokens
-comma-is [] = refl
-comma-is (Sign Colon ∷ rest) = refl
-comma-is (Sign Comma ∷ rest) = refl
-comma-is (Sign OpenBracket ∷ rest) = refl
-comma-is (Sign CloseBracket ∷ rest) = refl
-comma-is (Sign Semicolon ∷ rest) = refl
-comma-is (Sign Equals ∷ rest) = refl
-comma-is (Sign Differs ∷ rest) = refl
-comma-is (Sign Arrow ∷ rest) = refl
-comma-is (Sign Bars ∷ rest) = refl
-comma-is (Sign Underscore ∷ rest) = refl
-comma-is (Sign Dot ∷ rest) = refl
-comma-is (Sign OpenBrace ∷ rest) = refl
-comma-is (Sign CloseBrace ∷ rest) = refl
-comma-is (Name name ∷ rest) = refl
-comma-is (Number n ∷ rest) = refl
-comma-is (Quoted text ∷ rest) = refl

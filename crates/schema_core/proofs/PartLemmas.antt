@@ -6,8 +6,9 @@ use Rattle.std.proofs.lemmas.Bool.{cond-true, cond-false, le-leb}
 use Rattle.std.proofs.lemmas.List.{append-nil}
 use Rattle.schema_core.specs.GoodTokens.{IsGoodToken}
 use Rattle.schema_core.specs.Names.{IsName, IsConstant}
-use Rattle.schema_core.specs.Phrases.{◌>>=◌, name_at, is_constant, constant_at, same_mark, closed_by, list_until}
-use Rattle.schema_core.specs.TokenLists.{Reader, behind_comma, in_front, or_others, and_others, list1_within, list1_at, list_at}
+use Rattle.schema_core.specs.Phrases.{◌>>=◌, name_at, is_constant, constant_at, closed_by, list_until}
+use Rattle.schema_core.specs.Marks.{after_mark, same_mark}
+use Rattle.schema_core.specs.TokenLists.{Reader, in_front, or_others, and_others, list1_within, list1_at, list_at}
 use Rattle.schema_core.specs.declared.tokens.Mark.{Mark}
 use Rattle.schema_core.specs.declared.tokens.Mark.TheVariants.{Comma}
 use Rattle.schema_core.specs.declared.tokens.Token.{Token}
@@ -109,7 +110,7 @@ further_tokens : {A : Type 0} (p : A → List Part) (x y : A) (xs : List A) (res
 further_tokens p x y xs rest =
     ap (λ ts. ts ++ rest) (tokens_in-append (p x) (flat_map (after_comma p) (y ∷ xs))) ∙ append_assoc (tokens_in (p x)) (Sign Comma ∷ tokens_in (comma_separated p (y ∷ xs))) rest
 
-read_list : {A : Type 0} (reader : Reader A) (p : A → List Part) (room : ℕ) (x : A) (xs : List A) (rest : List Token) → AreReadAgain reader p (x ∷ xs) → behind_comma rest ≡ None → length xs < room
+read_list : {A : Type 0} (reader : Reader A) (p : A → List Part) (room : ℕ) (x : A) (xs : List A) (rest : List Token) → AreReadAgain reader p (x ∷ xs) → after_mark Comma rest ≡ None → length xs < room
     → list1_within reader room (tokens_in (comma_separated p (x ∷ xs)) ++ rest) ≡ Some (x ∷ xs, rest)
 read_list reader p zero x xs rest again ended enough = absurd (omega arith)
 read_list reader p (suc room) x [] rest again ended enough =
@@ -126,7 +127,7 @@ some_tokens reader p [] some = omega arith
 some_tokens reader p (x ∷ xs) some =
     omega (arith, ap (λ (ts : List Token). length ts) (tokens_in-append (p x) (flat_map (after_comma p) xs)), length-append (tokens_in (p x)) (tokens_in (flat_map (after_comma p) xs)), some_tokens reader p xs some.1)
 
-pub list1_at-written : {A : Type 0} (reader : Reader A) (p : A → List Part) (xs : List A) (rest : List Token) → 1 ≤ length xs → AreReadAgain reader p xs → AllByRecursion (λ y. 0 < length (tokens_in (p y))) xs → behind_comma rest ≡ None
+pub list1_at-written : {A : Type 0} (reader : Reader A) (p : A → List Part) (xs : List A) (rest : List Token) → 1 ≤ length xs → AreReadAgain reader p xs → AllByRecursion (λ y. 0 < length (tokens_in (p y))) xs → after_mark Comma rest ≡ None
     → list1_at reader (tokens_in (comma_separated p xs) ++ rest) ≡ Some (xs, rest)
 list1_at-written reader p [] rest any again some ended = absurd (omega arith)
 list1_at-written reader p (x ∷ xs) rest any again some ended =
@@ -139,7 +140,7 @@ first_some reader p x xs rest again =
     ap (λ ts. is_some (reader ts)) (ap (λ ts. ts ++ rest) (tokens_in-append (p x) (flat_map (after_comma p) xs)) ∙ append_assoc (tokens_in (p x)) (tokens_in (flat_map (after_comma p) xs)) rest)
     ∙ ap is_some (again.0 (tokens_in (flat_map (after_comma p) xs) ++ rest))
 
-pub list_at-written : {A : Type 0} (reader : Reader A) (p : A → List Part) (xs : List A) (rest : List Token) → AreReadAgain reader p xs → AllByRecursion (λ y. 0 < length (tokens_in (p y))) xs → behind_comma rest ≡ None → reader rest ≡ None
+pub list_at-written : {A : Type 0} (reader : Reader A) (p : A → List Part) (xs : List A) (rest : List Token) → AreReadAgain reader p xs → AllByRecursion (λ y. 0 < length (tokens_in (p y))) xs → after_mark Comma rest ≡ None → reader rest ≡ None
     → list_at reader (tokens_in (comma_separated p xs) ++ rest) ≡ Some (xs, rest)
 list_at-written reader p [] rest again some ended none = cond-false (is_some (reader rest)) _ _ (ap is_some none)
 list_at-written reader p (x ∷ xs) rest again some ended none =
@@ -155,7 +156,7 @@ tokens_then xs ys rest = ap (λ ts. ts ++ rest) (tokens_in-append xs ys) ∙ app
 
 -- a list, and the mark behind which it ends
 pub list_until-written : {A : Type 0} (reader : Reader A) (p : A → List Part) (m : Mark) (xs : List A) (rest : List Token) → AreReadAgain reader p xs → AllByRecursion (λ y. 0 < length (tokens_in (p y))) xs
-    → behind_comma (Sign m ∷ rest) ≡ None → reader (Sign m ∷ rest) ≡ None → same_mark m m ≡ true → list_until reader m (tokens_in (comma_separated p xs) ++ Sign m ∷ rest) ≡ Some (xs, rest)
+    → after_mark Comma (Sign m ∷ rest) ≡ None → reader (Sign m ∷ rest) ≡ None → same_mark m m ≡ true → list_until reader m (tokens_in (comma_separated p xs) ++ Sign m ∷ rest) ≡ Some (xs, rest)
 list_until-written reader p m xs rest again some ended none same =
     ap (λ found. found >>= closed_by m) (list_at-written reader p xs (Sign m ∷ rest) again some ended none) ∙ ap (λ (found : Option (List Token)). option_map (λ behind. (xs, behind)) found) (cond-true (same_mark m m) (Some rest) None same)
 

@@ -4,12 +4,14 @@ pub mod Rows
 pub mod Repeats
 pub mod Firsts
 pub mod Schemas
+pub mod Lookups
 pub mod Faults
 pub mod Lines
 pub mod Tokens
 pub mod FileLines
 pub mod Groups
 pub mod GoodTokens
+pub mod Marks
 pub mod TokenLists
 pub mod Phrases
 pub mod Takes

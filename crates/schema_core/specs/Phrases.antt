@@ -3,7 +3,7 @@
 use Rattle.std.specs.Prelude.{◌≡◌, ℕ, nat_le, ◌&&◌, Bool, List, ◌∷◌, length, Option, Some, None, Result, MatchResult, option_and_then, option_map, if◌then◌else◌}
 use Rattle.std.specs.Str.{bytes_eq}
 use Rattle.schema_core.specs.Faults.{UnlessMemory}
-use Rattle.schema_core.specs.Spelling.{mark_text}
+use Rattle.schema_core.specs.Marks.{after_mark}
 use Rattle.schema_core.specs.TokenLists.{Reader, list_at}
 use Rattle.schema_core.specs.declared.bounds.TheConstants.{CONSTANT_BYTES, FILE_NAME_BYTES}
 use Rattle.schema_core.specs.declared.tokens.Mark.{Mark}
@@ -35,15 +35,6 @@ text_at _ = None
 abbrev pub after_word : List ℕ → List Token → Option (List Token)
 after_word word (Name name ∷ rest) = if bytes_eq name word then Some rest else None
 after_word word _ = None
-
--- two marks are one where they are written alike
-abbrev pub same_mark : Mark → Mark → Bool
-same_mark left right = bytes_eq (mark_text left) (mark_text right)
-
--- what follows the mark at the front
-abbrev pub after_mark : Mark → List Token → Option (List Token)
-after_mark mark (Sign found ∷ rest) = if same_mark found mark then Some rest else None
-after_mark mark _ = None
 
 -- ---- texts of bounded length
 

@@ -1,18 +1,12 @@
 -- Lists in the grammar of a line: LIST(p) is no p, or several with `,` between them; LIST1(p) has at least one.
 use Rattle.std.specs.Prelude.{ℕ, zero, suc, List, [], ◌∷◌, length, Option, Some, None, is_some, if◌then◌else◌, ◌==◌}
+use Rattle.schema_core.specs.Marks.{after_mark}
 use Rattle.schema_core.specs.declared.tokens.Mark.TheVariants.{Comma}
 use Rattle.schema_core.specs.declared.tokens.Token.{Token}
-use Rattle.schema_core.specs.declared.tokens.Token.TheVariants.{Sign}
 
 -- What p reads at the front of the tokens, and the tokens after it. None: no p stands there.
 abbrev pub Reader : Type 0 → Type 0
 Reader A = List Token → Option (A × List Token)
-
--- the tokens behind a `,` at the front
-abbrev pub behind_comma : List Token → Option (List Token)
-behind_comma [] = None
-behind_comma (Sign Comma ∷ rest) = Some rest
-behind_comma (_ ∷ rest) = None
 
 abbrev pub in_front : {A : Type 0} → A → Option (List A × List Token) → Option (List A × List Token)
 in_front x None = None
@@ -26,7 +20,7 @@ or_others others x rest (Some behind) = in_front x (others behind)
 -- the p that was read, and those behind its `,`
 abbrev pub and_others : {A : Type 0} → (List Token → Option (List A × List Token)) → Option (A × List Token) → Option (List A × List Token)
 and_others others None = None
-and_others others (Some found) = or_others others found.0 found.1 (behind_comma found.1)
+and_others others (Some found) = or_others others found.0 found.1 (after_mark Comma found.1)
 
 -- LIST1(p) at the front, and the tokens after it; each p takes a token, which is what `room` counts
 abbrev pub list1_within : {A : Type 0} → Reader A → ℕ → List Token → Option (List A × List Token)

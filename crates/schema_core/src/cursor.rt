@@ -6,7 +6,8 @@ ghost use Rattle.std.specs.List.{AllByRecursion};
 ghost use Rattle.std.specs.Str.{IsUtf8};
 ghost use Rattle.schema_core.specs.Names.{IsName, IsConstant, IsFileName};
 ghost use Rattle.schema_core.specs.GoodTokens.{IsGoodToken};
-ghost use Rattle.schema_core.specs.Phrases.{ReadsToken, Passes, name_at, number_at, text_at, is_constant, is_file_name, constant_at, file_name_at, after_word, same_mark, after_mark};
+ghost use Rattle.schema_core.specs.Phrases.{ReadsToken, Passes, name_at, number_at, text_at, is_constant, is_file_name, constant_at, file_name_at, after_word};
+ghost use Rattle.schema_core.specs.Marks.{same_mark, after_mark};
 
 use crate::bounds::{CONSTANT_BYTES, FILE_NAME_BYTES};
 use crate::list::List;

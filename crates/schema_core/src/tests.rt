@@ -1,3 +1,5 @@
+//! Lines, tokens and schemas by worked files.
+
 use super::*;
 use std::process::Abort;
 use std::test::Fail;

@@ -9,31 +9,18 @@ ghost use Rattle.session.specs.Replies.{changed_text, done_text, fault_text, ref
 use bench_core::{Applied, Bench, EditFault};
 use edit_log::Edit;
 use rule_model::RuleBook;
-use schema_core::Text;
+use schema_core::{Text, push_number};
 use std::alloc::{AllocError, Global};
 use violation_report::{Line, list, push_line};
 
-fn push_number(alloc: Global, out: &mut Vec<u8>, number: u64) -> Result<(), AllocError>
-    ensures { OnOk result (out.new.items ≡ out.old.items ++ decimal number) }
-{
-    let digits = number.to_string(alloc)?;
-    out.extend_from_slice(digits.as_bytes())
-}
-
 /// A word, and the row that it is said of.
-fn push_row(
-    alloc: Global,
-    out: &mut Vec<u8>,
-    word: &[u8],
-    table: &Text,
-    row: u64,
-) -> Result<(), AllocError>
+fn push_row(out: &mut Vec<u8>, word: &[u8], table: &Text, row: u64) -> Result<(), AllocError>
     ensures { OnOk result (out.new.items ≡ out.old.items ++ (word.now ++ table.now ++ codes " " ++ decimal row)) }
 {
     out.extend_from_slice(word)?;
     out.extend_from_slice(table.as_str().as_bytes())?;
     out.extend_from_slice(b" ")?;
-    push_number(alloc, out, row)
+    push_number(out, row)
 }
 
 fn table_of(edit: &Edit) -> &Text
@@ -47,7 +34,7 @@ fn table_of(edit: &Edit) -> &Text
     }
 }
 
-fn push_changed(alloc: Global, out: &mut Vec<u8>, edit: &Edit) -> Result<(), AllocError>
+fn push_changed(out: &mut Vec<u8>, edit: &Edit) -> Result<(), AllocError>
     ensures { OnOk result (out.new.items ≡ out.old.items ++ changed_text edit.now) }
 {
     match edit {
@@ -57,13 +44,13 @@ fn push_changed(alloc: Global, out: &mut Vec<u8>, edit: &Edit) -> Result<(), All
             attr,
             ..
         } => {
-            push_row(alloc, out, b"set ", table, *row)?;
+            push_row(out, b"set ", table, *row)?;
             out.extend_from_slice(b" ")?;
             out.extend_from_slice(attr.as_str().as_bytes())?;
             out.extend_from_slice(b"\n")
         }
         Edit::Delete { table, row } => {
-            push_row(alloc, out, b"deleted ", table, *row)?;
+            push_row(out, b"deleted ", table, *row)?;
             out.extend_from_slice(b"\n")
         }
         Edit::Insert { .. } | Edit::Fix { .. } => Ok(()),
@@ -71,20 +58,15 @@ fn push_changed(alloc: Global, out: &mut Vec<u8>, edit: &Edit) -> Result<(), All
 }
 
 /// Tells an edit that was done.
-pub fn push_done(
-    alloc: Global,
-    out: &mut Vec<u8>,
-    edit: &Edit,
-    applied: Applied,
-) -> Result<(), AllocError>
+pub fn push_done(out: &mut Vec<u8>, edit: &Edit, applied: Applied) -> Result<(), AllocError>
     ensures { OnOk result (out.new.items ≡ out.old.items ++ done_text edit.now applied) }
 {
     match applied {
         Applied::Inserted(row) => {
-            push_row(alloc, out, b"inserted ", table_of(edit), row)?;
+            push_row(out, b"inserted ", table_of(edit), row)?;
             out.extend_from_slice(b"\n")
         }
-        Applied::Changed => push_changed(alloc, out, edit),
+        Applied::Changed => push_changed(out, edit),
     }
 }
 
@@ -116,11 +98,11 @@ pub fn push_refused(out: &mut Vec<u8>, fault: &EditFault) -> Result<(), AllocErr
     out.extend_from_slice(b"\n")
 }
 
-fn push_listed(alloc: Global, out: &mut Vec<u8>, count: usize) -> Result<(), AllocError>
+fn push_listed(out: &mut Vec<u8>, count: usize) -> Result<(), AllocError>
     ensures { OnOk result (out.new.items ≡ out.old.items ++ listed_text count) }
 {
     out.extend_from_slice(b"listed ")?;
-    push_number(alloc, out, count as u64)?;
+    push_number(out, count as u64)?;
     out.extend_from_slice(b"\n")
 }
 
@@ -140,5 +122,5 @@ pub fn push_list(alloc: Global, out: &mut Vec<u8>, bench: &Bench) -> Result<(), 
 {
     let lines = list(alloc, bench)?;
     push_lines(bench.rules(), lines.as_slice(), out)?;
-    push_listed(alloc, out, lines.as_slice().len())
+    push_listed(out, lines.as_slice().len())
 }

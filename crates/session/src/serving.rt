@@ -91,7 +91,7 @@ fn answer_edit(
     ensures made_with { (bench.new.rules ≡ bench.old.rules) × (bench.new.limits ≡ bench.old.limits) }
 {
     match bench.apply(edit) {
-        Ok(applied) => push_done(alloc, reply, edit, applied),
+        Ok(applied) => push_done(reply, edit, applied),
         Err(EditFault::Memory) => Err(AllocError),
         Err(fault) => push_refused(reply, &fault),
     }

@@ -1,4 +1,4 @@
-// Scripts as their commands, or as the first fault.
+//! Scripts as their commands, or as the first fault.
 use super::*;
 use edit_log::Edit;
 use schema_core::Limits;

@@ -1,4 +1,4 @@
-// Counts that never fall.
+//! Counts that never fall.
 ghost use Rattle.std.specs.Prelude.{◌≡◌};
 ghost use Rattle.shelf_io.specs.Rising.{raised};
 

@@ -1,4 +1,4 @@
-// The files of a shelf in memory.
+//! The files of a shelf in memory.
 ghost use Rattle.std.specs.Prelude.{◌≡◌, OnOk, OnErr, option_copied};
 ghost use Rattle.std.specs.FinMap as map;
 ghost use Rattle.shelf_io.specs.Files.{file_at, with_file};

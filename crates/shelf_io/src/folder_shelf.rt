@@ -1,4 +1,4 @@
-// The real files under the working folder.
+//! The real files under the working folder.
 ghost use Rattle.std.specs.Prelude.{◌≡◌, ◌+◌, ◌≤◌, ℕ, length, Option, None, Some, IsSome, IfOk, IfSome, IsErrOf};
 ghost use Rattle.shelf_io.specs.Counts.{no_counts, counts_after};
 ghost use Rattle.shelf_io.specs.Files.{file_at, front_at};

@@ -1,4 +1,4 @@
-// Bytes into memory.
+//! Bytes into memory.
 ghost use Rattle.std.specs.Prelude.{◌≡◌, ◌↔◌, ◌-◌, ◌<◌, ◌≤◌, ℕ, List, [], ◌∷◌, length, take, min, Option, Some, IsOk, IsErr, IfOk, OnErr};
 ghost use Rattle.shelf_io.specs.MemorySink.{IsRefusing, count_that_fits, after_put, after_failure};
 ghost use Rattle.shelf_io.specs.Rising.{Rose};

@@ -1,4 +1,4 @@
-// Where files come from.
+//! Where files come from.
 ghost use Rattle.std.specs.Prelude.{◌≡◌, ◌+◌, ◌≤◌, ℕ, List, length, Option, None, Some, IsSome, IfOk, IfSome, IsErrOf};
 ghost use Rattle.shelf_io.specs.declared.shelf.FetchFault.TheVariants.{Memory};
 ghost use Rattle.shelf_io.specs.Rising.{Rose};

@@ -1,4 +1,4 @@
-// Where bytes go.
+//! Where bytes go.
 ghost use Rattle.std.specs.Prelude.{◌≡◌, ◌≢◌, ◌≤◌, ℕ, List, [], ◌++◌, take, Some, IsOk, IfOk, OnOk, OnErr};
 ghost use Rattle.shelf_io.specs.Rising.{Rose};
 ghost use Rattle.shelf_io.specs.Sink.{Appends, FrontOf, SinkTold, TakesPart, appended};

@@ -1,4 +1,4 @@
-// Standard output.
+//! Standard output.
 ghost use Rattle.std.specs.Prelude.{◌≡◌, ◌<◌, ◌≤◌, ℕ, List, [], length, take, Option, None, is_ok, if◌then◌else◌, IsOk, IfOk, OnErr};
 ghost use Rattle.shelf_io.specs.Rising.{Rose, raised};
 ghost use Rattle.shelf_io.specs.Sink.{SinkTold, TakesPart, appended};

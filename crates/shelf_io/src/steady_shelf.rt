@@ -1,4 +1,4 @@
-// Files in memory that can always be read.
+//! Files in memory that can always be read.
 ghost use Rattle.std.specs.Prelude.{◌≡◌, ◌+◌, ◌≤◌, ℕ, length, Option, None, Some, IsSome, IfOk, IfSome, OnOk, OnErr, IsErrOf};
 ghost use Rattle.std.specs.FinMap as map;
 ghost use Rattle.shelf_io.specs.Counts.{no_counts, counts_after};

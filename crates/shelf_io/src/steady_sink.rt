@@ -1,4 +1,4 @@
-// Bytes that are dropped.
+//! Bytes that are dropped.
 ghost use Rattle.std.specs.Prelude.{◌≡◌, ◌+◌, ◌-◌, ◌^◌, ◌≤◌, ℕ, List, [], length, take, min, Option, None, Ok, IsOk, IfOk, OnErr};
 ghost use Rattle.shelf_io.specs.Rising.{Rose};
 ghost use Rattle.shelf_io.specs.Sink.{SinkTold, TakesPart, appended};

@@ -1,4 +1,4 @@
-// Each device through its bound, in memory and on real files.
+//! Each device through its bound, in memory and on real files.
 use super::*;
 use std::test::Fail;
 use std::{env, fs};

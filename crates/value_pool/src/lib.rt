@@ -1,5 +1,5 @@
-// Interned texts. A pool is a list of distinct texts, and the id of a text is its place in it, so two
-// values are equal exactly where their ids are. An id never changes its text.
+//! Interned texts. A pool is a list of distinct texts, and the id of a text is its place in it, so two
+//! values are equal exactly where their ids are. An id never changes its text.
 #![tactic(auto)]
 
 ghost use Rattle.std.specs.Prelude.{◌≡◌, ◌<◌, [], length, IfSome, IfNone, IfOk, OnOk, OnErr};

@@ -1,3 +1,5 @@
+//! A walk beside a plain list of distinct texts.
+
 use super::*;
 use std::test::Fail;
 

@@ -8,7 +8,7 @@ use Rattle.schema_core.specs.declared.schema.Schema.{Schema}
 use Rattle.rule_model.specs.declared.dep.Dep.{Dep}
 use Rattle.rule_model.specs.declared.cind.Cind.{Cind}
 use Rattle.rule_model.specs.Books.{Book, book_deps, book_cinds}
-use Rattle.rule_model.specs.Lookups.{attrs_at}
+use Rattle.schema_core.specs.Lookups.{attrs_at}
 use Rattle.violation_report.specs.declared.line.Line.{Line}
 use Rattle.violation_report.specs.declared.line.Line.TheVariants.{Single, Pair, Orphan}
 

@@ -1,4 +1,4 @@
-// A small watch: which rows of a table have which value at an attribute.
+//! A small watch: which rows of a table have which value at an attribute.
 ghost use Rattle.std.specs.Prelude.{◌≡◌, ◌&&◌, ◌==◌, ◌<◌, ℕ, length, [], ◌∷◌, slice_index, not, if◌then◌else◌};
 ghost use Rattle.std.specs.List.{list_any};
 ghost use Rattle.row_store.specs.Tuple.{ids_of};

@@ -1,4 +1,4 @@
-// Edits of one table, after each of which the watches hold exactly what its rows give.
+//! Edits of one table, after each of which the watches hold exactly what its rows give.
 ghost use Rattle.std.specs.Prelude.{◌≡◌, ◌==◌, ◌+◌, ◌<◌, ◌^◌, All, IsSome, Some, None, IfOk, OnErr, if◌then◌else◌};
 ghost use Rattle.std.specs.Option.{ForSome};
 ghost use Rattle.std.specs.FinMap as map;

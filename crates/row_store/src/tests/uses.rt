@@ -1,4 +1,4 @@
-// Uses of a store by itself, as a caller writes them.
+//! Uses of a store by itself, as a caller writes them.
 ghost use Rattle.std.specs.Prelude.{◌≡◌, ◌+◌, ◌<◌, ◌^◌, None, IsSome, IfOk, OnErr};
 ghost use Rattle.std.specs.FinMap as map;
 ghost use Rattle.row_store.specs.Tuple.{ids_of};

@@ -1,4 +1,4 @@
-// A long walk of a store beside a plain list of its rows.
+//! A long walk of a store beside a plain list of its rows.
 ghost use Rattle.std.specs.Prelude.{◌≡◌, ◌-◌, ◌+◌, ◌<◌, ◌≤◌, ◌^◌, IsSome, OnOk, Some, None};
 ghost use Rattle.std.specs.FinMap as map;
 ghost use Rattle.row_store.specs.Tuple.{ids_of};

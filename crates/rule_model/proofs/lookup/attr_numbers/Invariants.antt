@@ -1,5 +1,5 @@
 use Rattle.std.proofs.Common.{◌≡◌, take, drop, map, ◌++◌}
-use Rattle.rule_model.specs.Lookups.{attr_numbers}
+use Rattle.schema_core.specs.Lookups.{attr_numbers}
 use Rattle.rule_model.proofs.lookup.attr_numbers.Given as goal
 
 -- the names so far have these numbers

@@ -3,7 +3,7 @@ use Rattle.std.proofs.lemmas.List.Elements.{All-push}
 use Rattle.std.proofs.lemmas.Result.{err_from_is_err_and}
 use Rattle.schema_core.specs.TokenLists.{list1_at}
 use Rattle.schema_core.proofs.FaultLemmas.{told_on}
-use Rattle.schema_core.proofs.ListLemmas.{ListLeft-none, ListLeft-last, ListLeft-more, comma-is}
+use Rattle.schema_core.proofs.ListLemmas.{ListLeft-none, ListLeft-last, ListLeft-more}
 use Rattle.schema_core.proofs.cursor.Tokens.list1.Goals as goal
 
 pub returns-in_err-value-clause-list : goal.returns-in_err-value-clause-list
@@ -14,12 +14,12 @@ returns-in_err-value-clause-list g c =
 pub returns-in_default-clause-list : goal.returns-in_default-clause-list
 returns-in_default-clause-list g c =
     rw (c.in_ok-push.ensures.ok, c.in_default.ensures.mark.1)
-    (sym (ListLeft-last g.P.Phrase.reads g.met.P.ListItem.takes _ c.loop-values.values c.loop-values.self c.take.new.tokens c.in_ok-value.value c.loop-values.invariant.0 c.in_ok-value.ensures.exact (comma-is _ ∙ c.in_default.ensures.mark.0)))
+    (sym (ListLeft-last g.P.Phrase.reads g.met.P.ListItem.takes _ c.loop-values.values c.loop-values.self c.take.new.tokens c.in_ok-value.value c.loop-values.invariant.0 c.in_ok-value.ensures.exact (c.in_default.ensures.mark.0)))
 
 pub loop-values-preserved : goal.loop-values-preserved
 loop-values-preserved g c =
     let total = list1_at g.P.Phrase.reads c.args.self.now in (
       rw c.in_ok-push.ensures.ok
-          (ListLeft-more g.P.Phrase.reads g.met.P.ListItem.takes total c.loop-values.values c.loop-values.self c.take.new.tokens c.mark.new.self c.in_ok-value.value c.loop-values.invariant.0 c.in_ok-value.ensures.exact (comma-is _ ∙ c.in-Ok.ensures.mark)),
+          (ListLeft-more g.P.Phrase.reads g.met.P.ListItem.takes total c.loop-values.values c.loop-values.self c.take.new.tokens c.mark.new.self c.in_ok-value.value c.loop-values.invariant.0 c.in_ok-value.ensures.exact (c.in-Ok.ensures.mark)),
       rw c.in_ok-push.ensures.ok (All-push g.P.Phrase.is_fit c.loop-values.values c.in_ok-value.value c.loop-values.invariant.1 c.in_ok-value.ensures.fit),
     )
