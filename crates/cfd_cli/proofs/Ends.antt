@@ -1,5 +1,5 @@
 -- How answering commands ends.
-use Rattle.std.proofs.Common.{◌≡◌, ◌≢◌, ℕ, ◌≤◌, List, [], ◌∷◌, Option, inl, inr, refl, sym, subst}
+use Rattle.std.proofs.Common.{◌≡◌, ◌≢◌, ℕ, List, [], ◌∷◌, Option, inl, inr, refl, sym, subst}
 use Rattle.shelf_io.specs.Rising.{Rose}
 use Rattle.shelf_io.specs.Sink.{Appends, FrontOf, SinkTold}
 use Rattle.shelf_io.specs.Transcript.{Replies, IsTranscript, Answers, AnswersFront}

@@ -1,5 +1,5 @@
 -- Faults that are handed on.
-use Rattle.std.proofs.Common.{ℕ, ◌≤◌, Result, Err, arith}
+use Rattle.std.proofs.Common.{ℕ, ◌≤◌, Err, arith}
 use Rattle.shelf_io.specs.Rising.{Rose}
 use Rattle.cfd_cli.specs.declared.fetching.Stop.{Stop}
 use Rattle.cfd_cli.specs.declared.fetching.Stop.TheVariants.{Refused, ReadFault, Memory}

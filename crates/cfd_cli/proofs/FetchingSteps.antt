@@ -1,9 +1,8 @@
 -- Fetching step after step: what calls that were made one after the other promise together.
-use Rattle.std.proofs.Common.{◌≡◌, ℕ, ◌+◌, ◌≤◌, Result, Option, Some, None, Ok, Err, IfOk, IfSome, refl, sym, ap, subst, ◌∙◌, arith}
+use Rattle.std.proofs.Common.{◌≡◌, ℕ, ◌+◌, ◌≤◌, Result, Some, Ok, Err, IfOk, IfSome, refl, sym, ap, subst, ◌∙◌, arith}
 use Rattle.schema_core.specs.Faults.{GivesUnlessMemory}
 use Rattle.shelf_io.specs.Files.{Files}
 use Rattle.shelf_io.specs.Shelf.{ShelfTold}
-use Rattle.cfd_cli.specs.declared.refusal.Refusal.{Refusal}
 use Rattle.cfd_cli.specs.declared.fetching.Stop.{Stop}
 use Rattle.cfd_cli.specs.declared.fetching.Stop.TheVariants.{Refused, ReadFault, Memory}
 use Rattle.cfd_cli.proofs.Faults.{Rose-from, same_fault}

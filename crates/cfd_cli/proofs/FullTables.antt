@@ -15,8 +15,7 @@ use Rattle.bench_core.specs.Loading.{AreTables, Tuples, first_over, loaded, load
 use Rattle.bench_core.specs.Sizes.{is_over}
 use Rattle.bench_core.specs.State.{State}
 use Rattle.cfd_cli.specs.declared.refusal.Cause.TheVariants.{RowsFull}
-use Rattle.cfd_cli.specs.Fetching.{OrRefusal}
-use Rattle.cfd_cli.specs.Project.{bench_of, file_of}
+use Rattle.cfd_cli.specs.Project.{bench_of}
 
 over_place : (full : Option ℕ) (state : State) (table : ℕ) → unless_found full state ≡ Err table → full ≡ Some table
 over_place None state table is = absurd (cc)

@@ -1,5 +1,5 @@
 -- The tables' files, fetched one after the other.
-use Rattle.std.proofs.Common.{◌≡◌, ℕ, ◌+◌, ◌<◌, ◌≤◌, List, [], ◌∷◌, ◌++◌, length, take, drop, get_or, Option, Some, Result, Ok, Err, IfSome, refl, append_assoc, ap, sym, subst, ◌∙◌, arith}
+use Rattle.std.proofs.Common.{◌≡◌, ℕ, ◌+◌, ◌<◌, ◌≤◌, List, [], ◌∷◌, ◌++◌, length, take, drop, get_or, Some, Ok, Err, IfSome, refl, append_assoc, ap, sym, subst, ◌∙◌, arith}
 use Rattle.std.specs.List.{All, AllZip}
 use Rattle.std.proofs.lemmas.List.{at_drop_more, at_drop_all, append-nil, take_more}
 use Rattle.schema_core.specs.Rows.{IsRowOf}
@@ -7,7 +7,6 @@ use Rattle.schema_core.specs.declared.limits.Limits.{Limits}
 use Rattle.schema_core.specs.declared.schema.Table.{Table}
 use Rattle.shelf_io.specs.Files.{Files}
 use Rattle.shelf_io.specs.Shelf.{ShelfTold}
-use Rattle.cfd_cli.specs.declared.refusal.Refusal.{Refusal}
 use Rattle.cfd_cli.specs.declared.fetching.Stop.{Stop}
 use Rattle.cfd_cli.specs.declared.fetching.Stop.TheVariants.{Refused, ReadFault, Memory}
 use Rattle.cfd_cli.specs.Fetching.{Fetching, OrRefusal, Outcome, ◌>>=◌, followed, given, refusal_in}

@@ -1,5 +1,5 @@
 -- A project: its schema, its rules, its tables and its script, in the order in which they are fetched and read.
-use Rattle.std.specs.Prelude.{◌≡◌, ℕ, List, [], ◌∷◌, Option, None, Some, Result, Ok, Err, slice_get}
+use Rattle.std.specs.Prelude.{ℕ, List, [], ◌∷◌, Option, None, Some, Result, Ok, Err, slice_get}
 use Rattle.std.specs.Option.{option_map_or}
 use Rattle.schema_core.specs.Faults.{Reading}
 use Rattle.schema_core.specs.SchemaFiles as schema_file

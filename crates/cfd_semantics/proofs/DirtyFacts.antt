@@ -1,15 +1,14 @@
 -- A group is dirty exactly where its A values say so: for a tableau row that it matches on X, one of them doesn't match, or
 -- two that do differ.
-use Rattle.std.proofs.Common.{◌≡◌, ◌↔◌, Bool, true, false, not, ◌&&◌, refl, sym, ap, ◌∙◌, subst}
+use Rattle.std.proofs.Common.{◌≡◌, ◌↔◌, Bool, true, refl, sym, ◌∙◌}
 use Rattle.std.specs.Prelude.{IsTrue}
 use Rattle.std.specs.Cmp.{IsEquivalence}
 use Rattle.std.proofs.lemmas.Cmp.{lists_equiv}
 use Rattle.cfd_semantics.specs.declared.dependency.TableauRow.{TableauRow}
 use Rattle.cfd_semantics.specs.declared.dependency.Dependency.{Dependency}
-use Rattle.cfd_semantics.specs.Pattern.{matches, all_match}
+use Rattle.cfd_semantics.specs.Pattern.{all_match}
 use Rattle.cfd_semantics.specs.Tuple.{same_values}
-use Rattle.cfd_semantics.specs.Violation.{Entry, is_single, is_pair}
-use Rattle.cfd_semantics.specs.EntrySets.{IsPartner}
+use Rattle.cfd_semantics.specs.Violation.{Entry}
 use Rattle.cfd_semantics.specs.Dirty.{IsInGroup, Violates, IsDirtyGroup, Disagrees, IsDirtyByValues}
 use Rattle.cfd_semantics.specs.Dirty.Violates.{single, pair}
 use Rattle.cfd_semantics.specs.Dirty.Disagrees.{outside, two}

@@ -1,11 +1,11 @@
 -- What a row gives for a dependency, and which rows the entries of a table come from.
-use Rattle.std.proofs.Common.{◌≡◌, ℕ, List, map, Option, None, Some, refl, ap, ◌∙◌, subst}
+use Rattle.std.proofs.Common.{◌≡◌, ℕ, List, Option, None, Some, refl, ap, subst}
 use Rattle.std.specs.List.{Contains}
 use Rattle.std.specs.Option.{option_map}
 use Rattle.cfd_semantics.specs.declared.dependency.Dependency.{Dependency}
 use Rattle.cfd_semantics.specs.Tuple.{tuples_of}
-use Rattle.cfd_semantics.specs.Violation.{Sides, sides_of, Entry, entry_of, entries}
-use Rattle.cfd_semantics.proofs.Members.{contains-map, contains_from_map, contains-filter_map, contains_from_filter_map}
+use Rattle.cfd_semantics.specs.Violation.{Sides, sides_of, Entry, entry_of}
+use Rattle.cfd_semantics.proofs.Members.{contains-map, contains_from_map}
 
 -- the two sides in an entry
 abbrev pub sides_in : {V : Type 0} → Entry V → Sides V

@@ -1,11 +1,11 @@
 -- The list of an inclusion's orphans is empty exactly where the left rows are included.
-use Rattle.std.proofs.Common.{◌≡◌, ℕ, ◌⊎◌, ◌↔◌, Bool, true, false, not, ◌&&◌, ◌||◌, List, [], ◌∷◌, map, filter, Some, refl, sym, ap, subst, ◌∙◌, inl, inr}
+use Rattle.std.proofs.Common.{◌≡◌, ℕ, ◌⊎◌, ◌↔◌, Bool, true, false, not, ◌&&◌, ◌||◌, List, [], ◌∷◌, map, filter, Some, refl, ap, ◌∙◌, inl, inr}
 use Rattle.std.specs.List.{Contains, list_any}
 use Rattle.cfd_semantics.specs.declared.inclusion.InclusionRow.{InclusionRow}
 use Rattle.cfd_semantics.specs.declared.inclusion.Inclusion.{Inclusion}
 use Rattle.cfd_semantics.specs.Tuple.{values_at, same_values, tuples_of}
-use Rattle.cfd_semantics.specs.Orphan.{SideEntry, side_entry_of, left_entry_of, right_entry_of, left_entries, right_entries, answers, is_orphan, orphaned, orphans}
-use Rattle.cfd_semantics.specs.Satisfaction.{HasThere, IsIncluded}
+use Rattle.cfd_semantics.specs.Orphan.{SideEntry, left_entry_of, right_entry_of, left_entries, right_entries, answers, is_orphan, orphaned, orphans}
+use Rattle.cfd_semantics.specs.Satisfaction.{IsIncluded}
 use Rattle.cfd_semantics.proofs.EntryFacts.{row_with_tuple, tuple_of_row}
 use Rattle.cfd_semantics.proofs.SideLists.{side_parts, side_from_parts}
 use Rattle.cfd_semantics.proofs.Numbers.{numbered-empty}

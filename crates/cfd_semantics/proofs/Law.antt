@@ -1,5 +1,5 @@
 -- The list of a dependency's violations is empty exactly where its rows satisfy it, where `eq` is an equivalence.
-use Rattle.std.proofs.Common.{◌≡◌, ℕ, ◌+◌, ◌↔◌, Bool, true, false, cond, not, ◌&&◌, List, [], ◌∷◌, map, Option, None, Some, refl, sym, ap, ◌∙◌, inl, inr}
+use Rattle.std.proofs.Common.{◌≡◌, ℕ, ◌↔◌, Bool, true, false, cond, not, ◌&&◌, List, [], ◌∷◌, Option, None, Some, refl, sym, ap, ◌∙◌}
 use Rattle.std.specs.Option.{option_map}
 use Rattle.std.specs.List.{Contains, list_any}
 use Rattle.std.specs.Cmp.{IsEquivalence}
@@ -11,7 +11,7 @@ use Rattle.cfd_semantics.specs.declared.dependency.Dependency.{Dependency}
 use Rattle.cfd_semantics.specs.declared.violation.Violation.{Violation}
 use Rattle.cfd_semantics.specs.Pattern.{matches, all_match}
 use Rattle.cfd_semantics.specs.Tuple.{same_values, tuples_of}
-use Rattle.cfd_semantics.specs.Violation.{Sides, sides_of, Entry, entry_of, entries, is_single, is_pair, least, partners, least_partner, violation_of, violating, violations}
+use Rattle.cfd_semantics.specs.Violation.{sides_of, Entry, entry_of, entries, is_single, is_pair, least, partners, least_partner, violation_of, violating, violations}
 use Rattle.cfd_semantics.specs.Satisfaction.{Satisfies}
 use Rattle.cfd_semantics.proofs.EntryFacts.{sides_in, entry_with, entry_from_sides, entry_parts, row_with_tuple, tuple_of_row}
 use Rattle.cfd_semantics.proofs.Numbers.{numbered-empty}

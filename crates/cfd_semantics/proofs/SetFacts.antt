@@ -1,8 +1,7 @@
 -- The violations and orphans of a set of entries are those of its list.
-use Rattle.std.proofs.Common.{◌≡◌, ℕ, zero, suc, ◌+◌, ◌<◌, ◌≤◌, ◌↔◌, ◌⊎◌, Bool, true, false, cond, min, not, ◌&&◌, List, [], ◌∷◌, map, filter, Option, None, Some, refl, sym, ap, ◌∙◌, subst, inl, inr, arith}
-use Rattle.std.specs.Prelude.{IsTrue}
+use Rattle.std.proofs.Common.{◌≡◌, ℕ, ◌<◌, ◌≤◌, ◌↔◌, ◌⊎◌, Bool, true, false, cond, min, not, ◌&&◌, List, [], ◌∷◌, map, filter, Option, None, Some, refl, sym, ap, ◌∙◌, subst, inl, inr, arith}
 use Rattle.std.specs.Option.{option_map, option_map_or}
-use Rattle.std.specs.List.{All, Contains, filter_map, cons_option, list_any}
+use Rattle.std.specs.List.{Contains, filter_map, cons_option, list_any}
 use Rattle.std.proofs.lemmas.List.Elements.{All-contains, All-weaker, All-contains_itself}
 use Rattle.std.proofs.lemmas.List.Kept.{AllPairs-filter}
 use Rattle.cfd_semantics.specs.declared.dependency.TableauRow.{TableauRow}
@@ -12,7 +11,7 @@ use Rattle.cfd_semantics.specs.Pattern.{matches, all_match}
 use Rattle.cfd_semantics.specs.Tuple.{same_values}
 use Rattle.cfd_semantics.specs.Violation.{Entry, is_single, is_pair, least, partners, least_partner, violation_of, violating}
 use Rattle.cfd_semantics.specs.Orphan.{SideEntry, answers, is_orphan, orphaned}
-use Rattle.cfd_semantics.specs.EntrySets.{IsRising, IsListOf, IsEntryList, IsSideList, IsPartner, IsLeastPartner, IsListedWith, IsViolation, IsUnanswered, IsOrphan}
+use Rattle.cfd_semantics.specs.EntrySets.{IsRising, IsEntryList, IsSideList, IsPartner, IsLeastPartner, IsListedWith, IsViolation, IsUnanswered, IsOrphan}
 use Rattle.cfd_semantics.proofs.Members.{contains-here, contains-there, contains_nothing, contains_cases, contains-map, contains_from_map, contains-filter_map, contains_from_filter_map}
 use Rattle.cfd_semantics.proofs.Parts.{pair_parts}
 use Rattle.cfd_semantics.proofs.InclusionLaw.{found_by_any, any_from_found, both_true}

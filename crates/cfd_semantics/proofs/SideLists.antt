@@ -1,5 +1,5 @@
 -- What a row gives for one side of an inclusion.
-use Rattle.std.proofs.Common.{◌≡◌, ℕ, List, Option, None, Some, refl, ap}
+use Rattle.std.proofs.Common.{◌≡◌, ℕ, List, Option, None, Some, refl}
 use Rattle.cfd_semantics.specs.declared.inclusion.Inclusion.{Inclusion}
 use Rattle.cfd_semantics.specs.Tuple.{with_both, values_at}
 use Rattle.cfd_semantics.specs.Orphan.{SideEntry, side_entry_of, left_entry_of}

@@ -1,5 +1,5 @@
 -- Groups with a violation, and keys with an orphan.
-use Rattle.std.specs.Prelude.{◌≡◌, ℕ, ◌⊎◌, ◌↔◌, Bool, false, IsTrue, List, Contains}
+use Rattle.std.specs.Prelude.{◌≡◌, Bool, false, IsTrue, List, Contains}
 use Rattle.cfd_semantics.specs.declared.dependency.TableauRow.{TableauRow}
 use Rattle.cfd_semantics.specs.declared.dependency.Dependency.{Dependency}
 use Rattle.cfd_semantics.specs.declared.inclusion.InclusionRow.{InclusionRow}

@@ -1,5 +1,5 @@
 -- What a change of one key makes of the rows under each key.
-use Rattle.std.proofs.Common.{◌≡◌, ℕ, zero, suc, ◌+◌, ◌-◌, ◌<◌, ◌≤◌, Bool, true, false, cond, List, [], ◌∷◌, ◌++◌, length, get_or, set, take, Option, Some, None, Result, Ok, Err, refl, sym, ap, subst, ◌∙◌, true≢false, arith, OnOk, OnErr, IfSome, IfNone, slice_get, nat_lt}
+use Rattle.std.proofs.Common.{◌≡◌, ℕ, zero, suc, ◌+◌, ◌-◌, ◌<◌, ◌≤◌, Bool, true, false, cond, List, [], ◌∷◌, ◌++◌, length, get_or, set, Option, Some, None, Result, Ok, Err, refl, sym, ap, subst, ◌∙◌, true≢false, arith, OnOk, OnErr, IfSome, IfNone, slice_get, nat_lt}
 use borrow.Author.Tests.{ltb-true}
 use Rattle.std.specs.Prelude.{◌==◌, ◌||◌, ◌&&◌, not, All, IsSome, IsSomeAnd, swap_remove}
 use Rattle.std.specs.declared.vec.Vec.{Vec}
@@ -17,7 +17,7 @@ use Rattle.std.proofs.lemmas.Option.{none-some, same_Some, cond_some}
 use Rattle.std.proofs.lemmas.Slice.Eq.{bytes_eq-Decides}
 use Rattle.indexmap.specs.IndexMap.{IndexMap, set_value_at, IsUnique, Updates}
 use Rattle.indexmap.proofs.CallerLemmas.{updates-with_value_at}
-use Rattle.master_index.specs.ColumnRows.{KeyedRows, rows_under, is_among, is_under, AreRising, HaveRows, AreOrderly, IsPutUnder, IsTakenFrom, HoldAlike, HasKeyAt}
+use Rattle.master_index.specs.ColumnRows.{KeyedRows, rows_under, is_among, is_under, AreOrderly, IsPutUnder, IsTakenFrom, HoldAlike, HasKeyAt}
 
 -- the keys' own `==`
 abbrev pub same_key : Vec ℕ Global → Vec ℕ Global → Bool

@@ -1,7 +1,7 @@
 -- Files of named lists of numbers, one a line:
 --
 --     NAME: LIST1(NUMBER)
-use Rattle.std.specs.Prelude.{ℕ, List, [], ◌∷◌, ◌++◌, Option, Some, Ok}
+use Rattle.std.specs.Prelude.{ℕ, List, [], ◌∷◌, ◌++◌, Some, Ok}
 use Rattle.schema_core.specs.Faults as Fault
 use Rattle.schema_core.specs.FileLines as FileLine
 use Rattle.schema_core.specs.Groups.{read_lines}

@@ -1,5 +1,5 @@
 -- A declaration in which no fault is found joins a book.
-use Rattle.std.proofs.Common.{◌≡◌, ℕ, ◌+◌, ◌<◌, ◌≤◌, List, [], ◌∷◌, ◌++◌, length, get_or, take, Option, Some, None, Ok, All, sum_by, refl, sym, ap, ◌∙◌, subst, arith, inl, inr}
+use Rattle.std.proofs.Common.{◌≡◌, ℕ, ◌+◌, List, [], ◌∷◌, ◌++◌, length, get_or, take, None, All, sum_by, refl, sym, ap, ◌∙◌, subst, arith, inl, inr}
 use Rattle.std.specs.List.{flat_map}
 use Rattle.std.proofs.lemmas.Bool.{cases_lt, leb-true}
 use Rattle.std.proofs.lemmas.List.{append-nil, length-append, get_or_append_left, get_or_at, take-append-le, take_at}
@@ -20,8 +20,7 @@ use Rattle.rule_model.specs.declared.counts.Counts.{Counts}
 use Rattle.rule_model.specs.Declarations.{dep_count, cind_count, edit_count, row_count, IsWritten}
 use Rattle.rule_model.specs.Counts.{counts_of, counts_with, AreWithin}
 use Rattle.rule_model.specs.Rules.{deps_of, cinds_of, edits_of, with_rules_of, IsValidDep, IsValidCind, IsValidEditRule}
-use Rattle.rule_model.specs.declared.fault.RuleFault.{RuleFault}
-use Rattle.rule_model.specs.Faults.{verdict, over_limit, too_many, fault_of}
+use Rattle.rule_model.specs.Faults.{over_limit, too_many, fault_of}
 use Rattle.rule_model.specs.Books.{Book, with_decl, book_deps, book_cinds, book_edits, AreFaultless, IsKept}
 use Rattle.rule_model.proofs.Passing.{none_of, holds_if_none}
 use Rattle.rule_model.proofs.ValidRules.{passes_if_none, deps_valid, cinds_valid, edits_valid}

@@ -1,6 +1,6 @@
 -- Cells in which the tests find nothing are valid.
-use Rattle.std.proofs.Common.{◌≡◌, ℕ, suc, Bool, true, false, not, nat_eq, ◌&&◌, ◌||◌, List, [], ◌∷◌, length, map, None, Contains, refl, arith}
-use Rattle.std.specs.List.{AllByRecursion, AllZip, list_any, list_all, zip}
+use Rattle.std.proofs.Common.{◌≡◌, ℕ, suc, Bool, true, false, not, ◌||◌, List, [], ◌∷◌, length, None, Contains, refl, arith}
+use Rattle.std.specs.List.{AllByRecursion, AllZip, list_any, zip}
 use Rattle.std.specs.Str.{bytes_eq}
 use Rattle.schema_core.specs.Names.{IsConstant}
 use Rattle.schema_core.specs.Schemas.{admits, Admits}
@@ -10,18 +10,15 @@ use Rattle.schema_core.specs.declared.schema.Domain.TheVariants.{AnyText, Finite
 use Rattle.schema_core.specs.declared.schema.Attr.{Attr}
 use Rattle.cfd_semantics.specs.declared.pattern.Pattern.{Pattern}
 use Rattle.cfd_semantics.specs.declared.pattern.Pattern.TheVariants.{Any, Is, In, NotIn}
-use Rattle.std.proofs.lemmas.Bool.{eqb-true}
 use Rattle.std.proofs.lemmas.List.Elements.{All-from_recursion, recursion_from_All}
 use Rattle.std.proofs.lemmas.Slice.Eq.{bytes_eq-Decides}
-use Rattle.rule_model.specs.declared.decl.CfdRow.{CfdRow}
-use Rattle.rule_model.specs.declared.decl.CfdDecl.{CfdDecl}
 use Rattle.rule_model.specs.declared.edit_rule.EditCell.{EditCell}
 use Rattle.rule_model.specs.declared.edit_rule.EditCell.TheVariants as edit_cells
 use Rattle.rule_model.specs.Declarations.{constants_of, edit_constants_of, IsWrittenSet, IsWrittenCell, IsWrittenEditCell}
-use Rattle.schema_core.specs.Lookups.{attr_number, attr_numbers, domain_at, domain_of}
+use Rattle.schema_core.specs.Lookups.{attr_numbers, domain_at, domain_of}
 use Rattle.rule_model.specs.Rules.{IsConstantOf, IsSetOf, IsCellOf, AreConstantsOf, IsEditCellOf, IsValidPattern, numbered_pattern, pattern_attrs}
 use Rattle.rule_model.specs.Faults.{outside_in, outside_in_cell, outside_constant, outside_in_pattern, repeated_in_cell, is_within}
-use Rattle.rule_model.proofs.Passing.{both_true, all_pass, none_found, map_none, not_false, each_weaker, distinct_if_none}
+use Rattle.rule_model.proofs.Passing.{all_pass, none_found, map_none, not_false, each_weaker, distinct_if_none}
 use Rattle.rule_model.proofs.Known.{IsKnown}
 
 member_at_head : (b : Bool) (v : List ℕ) (vs : List (List ℕ)) (text : List ℕ) → bytes_eq v text ≡ b → (b || list_any (λ v. bytes_eq v text) vs) ≡ true → (list_any (λ v. bytes_eq v text) vs ≡ true → Contains vs text) → Contains (v ∷ vs) text

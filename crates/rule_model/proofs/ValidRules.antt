@@ -1,7 +1,7 @@
 -- A declaration in which no fault is found stands for valid rules.
-use Rattle.std.proofs.Common.{◌≡◌, ℕ, zero, suc, ◌+◌, ◌<◌, ◌≤◌, Bool, true, false, not, nat_eq, ◌&&◌, List, [], ◌∷◌, ◌++◌, length, get_or, drop, map, Option, Some, None, All, refl, sym, ap, ◌∙◌, subst, arith}
-use Rattle.std.specs.Prelude.{slice_index, IsTrue}
-use Rattle.std.specs.List.{AllByRecursion, AllZip, zip, range_with_len, list_all}
+use Rattle.std.proofs.Common.{◌≡◌, ℕ, zero, suc, ◌+◌, ◌<◌, ◌≤◌, true, not, nat_eq, ◌&&◌, List, [], ◌∷◌, ◌++◌, length, get_or, drop, map, Option, None, All, refl, sym, ap, ◌∙◌, subst, arith}
+use Rattle.std.specs.Prelude.{slice_index}
+use Rattle.std.specs.List.{AllByRecursion, AllZip, zip, list_all}
 use Rattle.std.specs.Option.{option_or}
 use Rattle.std.proofs.lemmas.Bool.{eqb-true}
 use Rattle.std.proofs.lemmas.List.{length-map, map-append}
@@ -21,9 +21,9 @@ use Rattle.rule_model.specs.declared.decl.EditDecl.{EditDecl}
 use Rattle.rule_model.specs.declared.decl.Decl.{Decl}
 use Rattle.rule_model.specs.declared.decl.Decl.TheVariants.{Cfd, Cind, Edit}
 use Rattle.rule_model.specs.declared.edit_rule.EditCell.{EditCell}
-use Rattle.rule_model.specs.Declarations.{IsWrittenCell, IsWrittenEditCell, IsWrittenRow, IsWrittenInclusionRow, IsWrittenCfd, IsWrittenCind, IsWrittenEdit, IsWritten}
-use Rattle.schema_core.specs.Lookups.{table_number, attrs_at, attrs_of, attr_number, attr_numbers, domain_at}
-use Rattle.rule_model.specs.Rules.{row_at, dep_at, cind_of, edit_of, deps_of, cinds_of, edits_of, numbered_pattern, pattern_attrs, IsCellOf, IsValidRow, IsValidDep, IsValidInclusionRow, IsValidCind, IsValidPattern, IsValidEditRule}
+use Rattle.rule_model.specs.Declarations.{IsWrittenCell, IsWrittenEditCell, IsWrittenRow, IsWrittenInclusionRow, IsWrittenCind, IsWrittenEdit, IsWritten}
+use Rattle.schema_core.specs.Lookups.{attrs_of, attr_number, attr_numbers, domain_at}
+use Rattle.rule_model.specs.Rules.{row_at, dep_at, cind_of, edit_of, deps_of, cinds_of, edits_of, numbered_pattern, pattern_attrs, IsCellOf, IsValidRow, IsValidDep, IsValidInclusionRow, IsValidCind, IsValidEditRule}
 use Rattle.rule_model.specs.declared.fault.RuleFault.{RuleFault}
 use Rattle.rule_model.specs.Counts.{counts_of}
 use Rattle.schema_core.specs.Firsts.{first_of, first_in}

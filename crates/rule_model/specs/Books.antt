@@ -1,5 +1,5 @@
 -- Rule books: declarations without fault, and the rules that they stand for.
-use Rattle.std.specs.Prelude.{◌≡◌, ℕ, Bool, true, false, ◌||◌, ◌<◌, ◌≤◌, List, [], ◌∷◌, ◌++◌, length, take, All, slice_index_or, Option, None}
+use Rattle.std.specs.Prelude.{◌≡◌, ℕ, Bool, true, false, ◌||◌, ◌<◌, List, [], ◌∷◌, ◌++◌, length, take, All, slice_index_or, Option, None}
 use Rattle.std.specs.List.{flat_map, list_any}
 use Rattle.schema_core.specs.Limits.{AreLimits}
 use Rattle.schema_core.specs.Schemas.{IsValidSchema}

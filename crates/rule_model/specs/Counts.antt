@@ -1,5 +1,5 @@
 -- How many rules of each kind and how many tableau rows declarations stand for, and the limits on them.
-use Rattle.std.specs.Prelude.{ℕ, ◌+◌, ◌≤◌, List, sum_by}
+use Rattle.std.specs.Prelude.{◌+◌, ◌≤◌, List, sum_by}
 use Rattle.schema_core.specs.declared.limits.Limits.{Limits}
 use Rattle.rule_model.specs.declared.decl.Decl.{Decl}
 use Rattle.rule_model.specs.declared.counts.Counts.{Counts}

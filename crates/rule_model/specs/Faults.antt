@@ -1,6 +1,6 @@
 -- The faults of a declaration, over a schema, limits and the declarations before it. Each test finds its first fault, if
 -- it has one; the tests stand in the order in which their faults are told.
-use Rattle.std.specs.Prelude.{ℕ, Bool, true, false, ◌&&◌, ◌==◌, nat_le, not, if◌then◌else◌, List, [], ◌∷◌, ◌++◌, length, map, drop, find, Option, Some, None, Result, Ok, Err}
+use Rattle.std.specs.Prelude.{ℕ, Bool, true, false, ◌&&◌, ◌==◌, nat_le, not, if◌then◌else◌, List, [], ◌∷◌, ◌++◌, length, drop, find, Option, Some, None, Result, Ok, Err}
 use Rattle.std.specs.Option.{option_map, option_or, is_some}
 use Rattle.std.specs.List.{list_any, list_all, zip}
 use Rattle.std.specs.Str.{bytes_eq}
@@ -17,7 +17,6 @@ use Rattle.cfd_semantics.specs.declared.inclusion.InclusionRow.{InclusionRow}
 use Rattle.rule_model.specs.declared.decl.CfdRow.{CfdRow}
 use Rattle.rule_model.specs.declared.decl.CfdDecl.{CfdDecl}
 use Rattle.rule_model.specs.declared.decl.CindDecl.{CindDecl}
-use Rattle.rule_model.specs.declared.decl.EditDecl.{EditDecl}
 use Rattle.rule_model.specs.declared.decl.Decl.{Decl}
 use Rattle.rule_model.specs.declared.decl.Decl.TheVariants.{Cfd, Cind, Edit}
 use Rattle.rule_model.specs.declared.edit_rule.EditCell.{EditCell}

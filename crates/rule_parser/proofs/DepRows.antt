@@ -1,6 +1,6 @@
 -- A dependency by itself has the one row of its declaration.
-use Rattle.std.proofs.Common.{◌≡◌, length, map, Option, Some, None, sym, ap, ◌∙◌}
-use Rattle.std.specs.Prelude.{Ok, Err, Result}
+use Rattle.std.proofs.Common.{◌≡◌, length, Option, Some, None, sym, ap, ◌∙◌}
+use Rattle.std.specs.Prelude.{Ok}
 use Rattle.std.proofs.lemmas.List.{length-map}
 use Rattle.schema_core.specs.Firsts.{first_of}
 use Rattle.schema_core.specs.declared.schema.Schema.{Schema}

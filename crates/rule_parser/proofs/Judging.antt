@@ -26,7 +26,7 @@ use Rattle.rule_model.specs.declared.dep.Dep.{Dep}
 use Rattle.rule_model.specs.declared.fault.RuleFault.TheVariants.{UnknownTable, UnknownAttr, RepeatedAttr, WidthMismatch, ConstantOutsideDomain, RepeatedConstant}
 use Rattle.rule_model.specs.Declarations.{constants_of}
 use Rattle.schema_core.specs.Lookups.{attrs_at, attrs_of, attr_number, attr_numbers, domain_at, domain_of}
-use Rattle.rule_model.specs.Rules.{AreAttrsOf, IsConstantOf, IsSetOf, IsCellOf, IsValidRow, IsValidDep}
+use Rattle.rule_model.specs.Rules.{AreAttrsOf, IsConstantOf, IsCellOf, IsValidRow, IsValidDep}
 use Rattle.rule_model.specs.Rules as rules
 use Rattle.rule_model.specs.Faults.{unless, unknown_in, repeated_in, outside_in_cell, outside_in_row, repeated_in_cell, repeated_in_row, schema_tests}
 use Rattle.rule_model.specs.Judged.{unless_fault, judged_dep}

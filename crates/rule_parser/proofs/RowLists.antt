@@ -1,6 +1,6 @@
 -- Rows that are read line by line, behind those that were read.
 use Rattle.std.proofs.Common.{◌≡◌, List, [], ◌∷◌, ◌++◌, refl, ap, sym, ◌∙◌, append_assoc}
-use Rattle.std.specs.Prelude.{Ok, Err, Result}
+use Rattle.std.specs.Prelude.{Ok, Err}
 use Rattle.std.proofs.lemmas.List.{append-nil}
 use Rattle.schema_core.specs.Faults.{Reading, Faulty, ◌>>=◌}
 use Rattle.schema_core.specs.FileLines.{read_line}

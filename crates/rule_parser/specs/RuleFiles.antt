@@ -12,7 +12,6 @@ use Rattle.schema_core.specs.declared.line.Line.{Line}
 use Rattle.schema_core.specs.declared.group.Group.{Group}
 use Rattle.schema_core.specs.declared.limits.Limits.{Limits}
 use Rattle.schema_core.specs.declared.schema.Schema.{Schema}
-use Rattle.rule_model.specs.declared.decl.CfdDecl.{CfdDecl}
 use Rattle.rule_model.specs.declared.decl.Decl.{Decl}
 use Rattle.rule_model.specs.declared.decl.Decl.TheVariants.{Cfd, Cind, Edit}
 use Rattle.rule_model.specs.declared.dep.Dep.{Dep}

@@ -1,9 +1,9 @@
 -- Each part of a rule line that stands in lists takes a token off the front.
-use Rattle.std.proofs.Common.{◌≡◌, ℕ, zero, suc, ◌<◌, ◌≤◌, Bool, true, false, cond, List, [], ◌∷◌, length, Option, Some, None, refl, ap, sym, ◌∙◌, subst, arith}
+use Rattle.std.proofs.Common.{◌≡◌, ℕ, zero, suc, ◌<◌, ◌≤◌, Bool, true, false, cond, List, [], ◌∷◌, length, Option, Some, None, refl, ap, arith}
 use Rattle.std.proofs.lemmas.Option.{none-some, some_pair_parts}
 use Rattle.std.specs.Prelude.{codes}
 use Rattle.std.specs.Str.{bytes_eq}
-use Rattle.schema_core.specs.Phrases.{◌>>=◌, name_at, constant_at, only_if}
+use Rattle.schema_core.specs.Phrases.{◌>>=◌, name_at, constant_at}
 use Rattle.schema_core.specs.Marks.{after_mark, same_mark}
 use Rattle.schema_core.specs.Takes.{name_at-takes, constant_at-takes}
 use Rattle.schema_core.specs.TokenLists.{Reader, in_front, or_others, and_others, list1_within, list1_at}
@@ -15,7 +15,7 @@ use Rattle.cfd_semantics.specs.declared.pattern.Pattern.{Pattern}
 use Rattle.cfd_semantics.specs.declared.pattern.Pattern.TheVariants.{Any, Is, In, NotIn}
 use Rattle.rule_model.specs.declared.edit_rule.EditCell.{EditCell}
 use Rattle.rule_model.specs.declared.edit_rule.EditCell.TheVariants as edit_cells
-use Rattle.rule_parser.specs.RuleLines.{said, is_few, set_at, set_cell, any_or, cell_from, cell_at, equal_at, differs_at, test_from, test_at, pattern_at, pair_at}
+use Rattle.rule_parser.specs.RuleLines.{said, is_few, set_at, any_or, cell_from, cell_at, equal_at, differs_at, test_from, test_at, pattern_at, pair_at}
 
 -- what both of two steps read
 both_read : {A B : Type 0} (found : Option A) (f : A → Option B) (y : B) → (found >>= f) ≡ Some y → (x : A) × (found ≡ Some x) × (f x ≡ Some y)

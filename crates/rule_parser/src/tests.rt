@@ -277,6 +277,33 @@ fn limits_and_bytes(rt: HostRuntime) -> Result<(), Fail> {
     Ok(())
 }
 
+/// A rule file with a set of so many members.
+fn with_members(alloc: Global, count: u32) -> Result<String, AllocError> {
+    let mut text = String::new(alloc);
+    text.push_str("cfd f cust: [AC] -> [city]\nrow in {'first'")?;
+    for member in 1..count {
+        let member = format!(in alloc; ", '{member}'")?;
+        text.push_str(member.as_str())?;
+    }
+    text.push_str("} || _\n")?;
+    Ok(text)
+}
+
+#[test]
+fn members_of_a_set(rt: HostRuntime) -> Result<(), Fail> {
+    for (count, want) in [
+        (1, "1 0 0"),
+        (63, "1 0 0"),
+        (64, "1 0 0"),
+        (65, "2 BadLine"),
+    ] {
+        let rules = with_members(rt.alloc(), count)?;
+        let got = outcome(rt.alloc(), rules.as_bytes(), &Limits::standard())?;
+        assert_eq!(rt; got.as_str(), want, "at {count}");
+    }
+    Ok(())
+}
+
 /// A dependency by itself: its number of cells on the left, or its refusal.
 fn alone(alloc: Global, book: &RuleBook, text: &str) -> Result<String, AllocError> {
     match parse_dep(alloc, book, text) {

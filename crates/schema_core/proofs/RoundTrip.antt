@@ -4,7 +4,7 @@ use Rattle.std.specs.Prelude.{Ok, codes, map, IfSome, is_some}
 use Rattle.std.specs.Option.{option_map}
 use Rattle.std.specs.List.{flat_map, list_any, AllByRecursion}
 use Rattle.std.specs.Str.{bytes_eq}
-use Rattle.std.proofs.lemmas.Bool.{cond-true, le-leb, lt-leb, le-ltb, ne_eqb, or_from, false_from_ne_true}
+use Rattle.std.proofs.lemmas.Bool.{le-leb, lt-leb, le-ltb, ne_eqb, or_from, false_from_ne_true}
 use Rattle.std.proofs.lemmas.Grind.{flat_map-append}
 use Rattle.std.proofs.lemmas.List.{append-nil}
 use Rattle.std.proofs.lemmas.List.Elements.{recursion_from_All}
@@ -14,7 +14,7 @@ use Rattle.schema_core.specs.Repeats.{AreDistinct}
 use Rattle.schema_core.specs.Faults.{◌>>=◌}
 use Rattle.schema_core.specs.FileLines.{first_is, found_at}
 use Rattle.schema_core.specs.Groups.{in_turn, read_groups}
-use Rattle.schema_core.specs.Phrases.{is_constant, is_file_name, constant_at}
+use Rattle.schema_core.specs.Phrases.{is_file_name, constant_at}
 use Rattle.schema_core.specs.Schemas.{IsValidDomain, IsValidAttr, IsValidTable, IsValidSchema, HasFewValues, HasFewAttrs, names_of_tables, names_of_attrs}
 use Rattle.schema_core.specs.SchemaLines.{head_at, domain_at, attr_at}
 use Rattle.schema_core.specs.SchemaFiles.{schema_causes, has_table, has_attr, has_no_value, has_value_twice, has_too_many_values, table_fault, attr_fault, unless, empty_schema, with_attr, with_table, add_attr, add_head, add_group, reads}
@@ -32,7 +32,7 @@ use Rattle.schema_core.specs.declared.schema.Schema.{Schema}
 use Rattle.schema_core.specs.declared.schema_lines.SchemaHead.TheVariants as head
 use Rattle.schema_core.specs.declared.line.Content.TheVariants.{Tokens}
 use Rattle.schema_core.proofs.RepeatLemmas.{bytes_eq-tells, first_repeated-none}
-use Rattle.schema_core.proofs.PartLemmas.{constants_again, constants_some, constants_good, AreGood, AreGood-spaced, IsLoose, IsLoose-nil, IsLoose-spaced, AreReadAgain, list_at-written, tokens_in-spaced}
+use Rattle.schema_core.proofs.PartLemmas.{constants_again, constants_some, constants_good, AreGood, AreGood-spaced, IsLoose, IsLoose-nil, IsLoose-spaced, list_at-written, tokens_in-spaced}
 use Rattle.schema_core.proofs.WrittenFiles.{written_lines, Written, lines_of, group_at, IsGroup, Takes, read_groups-written}
 
 -- ---- distinct names are found to be distinct

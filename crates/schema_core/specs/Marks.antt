@@ -1,5 +1,5 @@
 -- Marks at the front of tokens.
-use Rattle.std.specs.Prelude.{ℕ, Bool, List, ◌∷◌, Option, Some, None, if◌then◌else◌}
+use Rattle.std.specs.Prelude.{Bool, List, ◌∷◌, Option, Some, None, if◌then◌else◌}
 use Rattle.std.specs.Str.{bytes_eq}
 use Rattle.schema_core.specs.Spelling.{mark_text}
 use Rattle.schema_core.specs.declared.tokens.Mark.{Mark}

@@ -8,7 +8,7 @@ use Rattle.schema_core.specs.TokenLists.{Reader, list_at}
 use Rattle.schema_core.specs.declared.bounds.TheConstants.{CONSTANT_BYTES, FILE_NAME_BYTES}
 use Rattle.schema_core.specs.declared.tokens.Mark.{Mark}
 use Rattle.schema_core.specs.declared.tokens.Token.{Token}
-use Rattle.schema_core.specs.declared.tokens.Token.TheVariants.{Name, Number, Quoted, Sign}
+use Rattle.schema_core.specs.declared.tokens.Token.TheVariants.{Name, Number, Quoted}
 use Rattle.schema_core.specs.declared.unread.Unread.{Unread}
 use Rattle.schema_core.specs.declared.unread.Unread.TheVariants.{Absent, Memory}
 

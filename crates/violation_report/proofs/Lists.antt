@@ -1,5 +1,5 @@
 -- Facts on the list of a state: when it is empty, and that its lines are in range of the rules.
-use Rattle.std.proofs.Common.{◌≡◌, ℕ, ◌+◌, ◌<◌, ◌↔◌, Bool, List, [], ◌∷◌, ◌++◌, map, length, drop, get_or, Option, None, Some, refl, ap, subst, ◌∙◌, inl, inr, arith}
+use Rattle.std.proofs.Common.{◌≡◌, ℕ, ◌+◌, ◌<◌, ◌↔◌, List, [], ◌∷◌, map, length, drop, get_or, Option, None, Some, refl, ap, subst, ◌∙◌, inl, inr}
 use Rattle.std.specs.List.{All, Contains, enumerate_from, flat_map, slice_get}
 use Rattle.std.specs.Option.{IsSomeAnd}
 use Rattle.std.proofs.lemmas.Bool.{cases_lt}
@@ -24,7 +24,7 @@ use Rattle.rule_model.specs.Satisfied.{SatisfyDep, SatisfyCind}
 use Rattle.bench_core.specs.State.{State, rows_at}
 use Rattle.violation_report.specs.declared.line.Line.{Line}
 use Rattle.violation_report.specs.Listing.{dep_violations, dep_line, dep_lines, cind_orphans, cind_line, cind_lines, listing, IsSatisfied}
-use Rattle.violation_report.specs.Text.{IsLineOf, HasDepRow, HasCindRow}
+use Rattle.violation_report.specs.Text.{IsLineOf, HasDepRow}
 
 -- ---- an empty list
 

@@ -1,5 +1,5 @@
 -- The list of violations of a state.
-use Rattle.std.specs.Prelude.{◌≡◌, ℕ, List, ◌++◌, map, All}
+use Rattle.std.specs.Prelude.{ℕ, List, ◌++◌, map, All}
 use Rattle.std.specs.Option.{option_map_or}
 use Rattle.std.specs.Str.{bytes_eq}
 use Rattle.cfd_semantics.specs.declared.violation.Violation.{Violation}

@@ -1,5 +1,4 @@
-use Rattle.std.proofs.Common.{◌≡◌, ◌<◌, ◌-◌, true, false, leb, length, get_or, arith, rules}
-use Rattle.std.specs.List.Sorted.{IsPartitionPoint}
+use Rattle.std.proofs.Common.{◌<◌, ◌-◌, false, leb, get_or, arith, rules}
 use Rattle.std.proofs.lemmas.List.Sorted.{IsPartitionPoint-from_clause, IsPartitionedBy-leb}
 use Rattle.case_tree.specs.declared.clauses.VarCell.{VarCell}
 use Rattle.case_tree.specs.CaseTree.{IsIn}

@@ -1,4 +1,4 @@
-use Rattle.std.proofs.Common.{◌≡◌, List, Ok, Err, refl, sym, ap, ◌∙◌, subst}
+use Rattle.std.proofs.Common.{◌≡◌, List, Ok, Err, refl, ap, ◌∙◌}
 use Rattle.std.proofs.lemmas.Result.{err_from_is_err_and}
 use Rattle.schema_core.specs.declared.limits.Limits.{Limits}
 use Rattle.schema_core.specs.declared.schema.Schema.{Schema}
@@ -6,7 +6,7 @@ use Rattle.rule_model.specs.Books.{Book}
 use Rattle.bench_core.specs.Bench.{BenchModel}
 use Rattle.session.specs.declared.command.Command.{Command}
 use Rattle.cfd_cli.specs.declared.project.Project.{Project}
-use Rattle.cfd_cli.specs.Fetching.{Fetches, Fetching, ◌>>=◌, given}
+use Rattle.cfd_cli.specs.Fetching.{Fetching, ◌>>=◌, given}
 use Rattle.cfd_cli.specs.Project.{fetch_bench, fetch_commands, fetch_project, fetch_rules, fetch_schema}
 use Rattle.cfd_cli.proofs.FetchingSteps.{fetches-given, fetches-next, fetches-same, fetches-stopped}
 use Rattle.cfd_cli.proofs.project.fetch_project.Goals as goal

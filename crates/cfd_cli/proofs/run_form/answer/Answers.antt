@@ -1,4 +1,4 @@
-use Rattle.std.proofs.Common.{Err, ap, sym, subst}
+use Rattle.std.proofs.Common.{Err, ap, subst}
 use Rattle.rule_model.specs.Books.{Book}
 use Rattle.violation_report.specs.Listing.{listing}
 use Rattle.session.specs.Replies.{IsReply}

@@ -1,4 +1,4 @@
-use Rattle.std.proofs.Common.{◌≡◌, ◌∙◌, Some, ap, ap₂, codes, map, option_map, refl, rules, sym, true}
+use Rattle.std.proofs.Common.{◌≡◌, ◌∙◌, ap, ap₂, codes, map, option_map, rules, sym, true}
 use Rattle.std.proofs.lemmas.Result.{err_from_is_err_and}
 use Rattle.clap.specs.Words.{Rule, app_of, found_of, is_simple, matches_of, new_rule, rule_of, takes, with_rule}
 use Rattle.cfd_cli.proofs.PlainWords.{one_word, one_word_is_simple, pair_read, pair_taken, text_there}

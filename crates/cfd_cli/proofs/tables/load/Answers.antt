@@ -1,4 +1,4 @@
-use Rattle.std.proofs.Common.{◌≡◌, ap, map, sym, subst, ◌∙◌, arith}
+use Rattle.std.proofs.Common.{ap, map, sym, subst, ◌∙◌, arith}
 use Rattle.schema_core.specs.declared.schema.Schema.{Schema}
 use Rattle.schema_core.specs.declared.schema.Table.{Table}
 use Rattle.cfd_cli.specs.Fetching.{Reads}

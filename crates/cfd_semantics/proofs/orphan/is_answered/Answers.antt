@@ -1,4 +1,4 @@
-use Rattle.std.proofs.Common.{◌≡◌, refl, arith}
+use Rattle.std.proofs.Common.{arith}
 use Rattle.cfd_semantics.specs.Orphan.{right_entry_of, answers}
 use Rattle.cfd_semantics.proofs.Listing.{any-left}
 use Rattle.cfd_semantics.proofs.orphan.is_answered.Goals as goal

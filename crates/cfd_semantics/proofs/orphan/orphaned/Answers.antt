@@ -1,4 +1,4 @@
-use Rattle.std.proofs.Common.{◌≡◌, refl, arith}
+use Rattle.std.proofs.Common.{arith}
 use Rattle.std.proofs.lemmas.List.{append-nil}
 use Rattle.cfd_semantics.specs.Orphan.{SideEntry, left_entry_of, right_entries, is_orphan}
 use Rattle.cfd_semantics.proofs.Listing.{passing-more}

@@ -1,4 +1,4 @@
-use Rattle.std.proofs.Common.{◌≡◌, ◌<◌, get_or, length, refl, sym, ap, ◌∙◌, arith}
+use Rattle.std.proofs.Common.{get_or, refl, arith}
 use Rattle.cfd_semantics.proofs.Values.{has-more}
 use Rattle.cfd_semantics.proofs.tuple.has_all.Goals as goal
 

@@ -1,4 +1,4 @@
-use Rattle.std.proofs.Common.{◌≡◌, ◌<◌, get_or, length, refl, sym, arith}
+use Rattle.std.proofs.Common.{get_or, refl, sym, arith}
 use Rattle.cfd_semantics.proofs.Values.{agree-more, agree-long}
 use Rattle.cfd_semantics.proofs.tuple.same_at.Goals as goal
 

@@ -1,4 +1,4 @@
-use Rattle.std.proofs.Common.{◌≡◌, refl, arith}
+use Rattle.std.proofs.Common.{arith}
 use Rattle.cfd_semantics.specs.Violation.{entry_of}
 use Rattle.cfd_semantics.proofs.Listing.{least_partner-more}
 use Rattle.cfd_semantics.proofs.violation.least_partner.Goals as goal

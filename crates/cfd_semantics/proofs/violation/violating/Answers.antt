@@ -1,4 +1,4 @@
-use Rattle.std.proofs.Common.{◌≡◌, refl, arith}
+use Rattle.std.proofs.Common.{arith}
 use Rattle.std.proofs.lemmas.List.{append-nil}
 use Rattle.cfd_semantics.specs.Violation.{entry_of, entries, violation_of}
 use Rattle.cfd_semantics.proofs.Listing.{listed-more}

@@ -1,6 +1,5 @@
 use Rattle.std.proofs.Common.{◌%◌, ◌/◌, length, sym, ap, subst, ◌∙◌}
 use Rattle.row_store.specs.Tuple.{ids_of}
-use Rattle.master_index.specs.declared.column_list.ColumnList.{ColumnList}
 use Rattle.master_index.specs.Masters.{IsWideFor}
 use Rattle.master_index.proofs.TestLists.{three_reach}
 use Rattle.master_index.proofs.tests.walks.Goals as goal

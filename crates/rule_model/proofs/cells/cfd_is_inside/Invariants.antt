@@ -1,4 +1,4 @@
-use Rattle.std.proofs.Common.{◌≡◌, take, drop, map, ◌++◌}
+use Rattle.std.proofs.Common.{◌≡◌, drop}
 use Rattle.schema_core.specs.Firsts.{first_in}
 use Rattle.rule_model.specs.Faults.{outside_in_row}
 use Rattle.rule_model.proofs.cells.cfd_is_inside.Given as goal

@@ -1,4 +1,4 @@
-use Rattle.std.proofs.Common.{◌++◌, ◌∷◌, [], subst}
+use Rattle.std.proofs.Common.{subst}
 use Rattle.rule_model.specs.declared.counts.Counts.{Counts}
 use Rattle.rule_model.specs.Faults.{Finds, duplicate_rule, schema_tests, too_many, fault_of}
 use Rattle.rule_model.proofs.Firsts.{told_last}

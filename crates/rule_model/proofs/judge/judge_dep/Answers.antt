@@ -1,4 +1,4 @@
-use Rattle.std.proofs.Common.{◌∷◌, [], sym, subst}
+use Rattle.std.proofs.Common.{sym, subst}
 use Rattle.std.proofs.lemmas.Result.{err_from_is_err_and}
 use Rattle.rule_model.specs.declared.decl.Decl.TheVariants.{Cfd}
 use Rattle.rule_model.specs.declared.dep.Dep.{Dep}

@@ -1,4 +1,4 @@
-use Rattle.std.proofs.Common.{◌≡◌, take, drop, map, ◌++◌}
+use Rattle.std.proofs.Common.{◌≡◌, take}
 use Rattle.schema_core.specs.Lookups.{attr_numbers}
 use Rattle.rule_model.proofs.lookup.attr_numbers.Given as goal
 

@@ -1,4 +1,4 @@
-use Rattle.std.proofs.Common.{◌≡◌, take, drop, map, ◌++◌}
+use Rattle.std.proofs.Common.{◌≡◌, take}
 use Rattle.rule_model.specs.Rules.{pattern_attrs}
 use Rattle.rule_model.proofs.lookup.pattern_attrs.Given as goal
 

@@ -1,4 +1,3 @@
-use Rattle.schema_core.specs.Repeats.{repeated_after}
 use Rattle.rule_model.proofs.Repeats.{found_there, not_there}
 use Rattle.rule_model.proofs.names.find_repeated.Goals as goal
 

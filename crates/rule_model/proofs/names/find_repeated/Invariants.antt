@@ -1,4 +1,4 @@
-use Rattle.std.proofs.Common.{◌≡◌, take, drop, map, ◌++◌}
+use Rattle.std.proofs.Common.{◌≡◌, take, drop, ◌++◌}
 use Rattle.std.specs.Str.{bytes_eq}
 use Rattle.schema_core.specs.Repeats.{repeated_after}
 use Rattle.rule_model.proofs.names.find_repeated.Given as goal

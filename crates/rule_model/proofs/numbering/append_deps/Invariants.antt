@@ -1,4 +1,4 @@
-use Rattle.std.proofs.Common.{◌≡◌, take, drop, map, ◌++◌}
+use Rattle.std.proofs.Common.{◌≡◌, map, ◌++◌}
 use Rattle.std.specs.List.{range_with_len}
 use Rattle.rule_model.specs.Rules.{dep_at}
 use Rattle.rule_model.proofs.numbering.append_deps.Given as goal

@@ -1,4 +1,4 @@
-use Rattle.std.proofs.Common.{◌≡◌, take, drop, map, ◌++◌}
+use Rattle.std.proofs.Common.{◌≡◌, take}
 use Rattle.rule_model.proofs.numbering.copy_rows.Given as goal
 
 -- the rows so far

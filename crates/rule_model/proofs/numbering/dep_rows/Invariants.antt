@@ -1,4 +1,4 @@
-use Rattle.std.proofs.Common.{◌≡◌, take, drop, map, ◌++◌}
+use Rattle.std.proofs.Common.{◌≡◌, take, map}
 use Rattle.rule_model.specs.Rules.{row_at}
 use Rattle.rule_model.proofs.numbering.dep_rows.Given as goal
 

@@ -1,4 +1,4 @@
-use Rattle.std.proofs.Common.{◌≡◌, take, drop, map, ◌++◌}
+use Rattle.std.proofs.Common.{◌≡◌, take}
 use Rattle.rule_model.specs.Rules.{numbered_pattern}
 use Rattle.rule_model.proofs.numbering.pattern.Given as goal
 

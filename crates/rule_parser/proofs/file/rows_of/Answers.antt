@@ -1,4 +1,4 @@
-use Rattle.std.proofs.Common.{◌++◌, ◌∷◌, [], List, All, length, ap, subst, sym, arith}
+use Rattle.std.proofs.Common.{◌∷◌, [], List, All, length, ap, subst, sym, arith}
 use Rattle.std.proofs.lemmas.List.{length-append}
 use Rattle.std.proofs.lemmas.List.Elements.{All-push}
 use Rattle.rule_parser.proofs.RowLists.{row_step}

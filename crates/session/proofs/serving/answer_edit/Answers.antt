@@ -1,4 +1,4 @@
-use Rattle.std.proofs.Common.{◌≡◌, Ok, Err, ℕ, List, [], ◌∷◌, Option, Result, refl, ap, sym, subst, OnErr}
+use Rattle.std.proofs.Common.{Ok, Err, ℕ, List, [], ◌∷◌, Option, Result, refl, ap, sym, subst, OnErr}
 use Rattle.shelf_io.specs.Transcript.{AnswersFront}
 use Rattle.shelf_io.proofs.Transcripts.{front-not_begun, front-not_written}
 use Rattle.bench_core.specs.Bench.{BenchModel}

@@ -1,6 +1,6 @@
-use Rattle.std.proofs.Common.{◌≡◌, [], ◌∷◌, Ok, Err, OnErr, refl, arith, ◌∙◌}
+use Rattle.std.proofs.Common.{[], ◌∷◌, Ok, Err, OnErr, refl, arith, ◌∙◌}
 use Rattle.shelf_io.specs.Transcript.{Answers, AnswersFront}
-use Rattle.shelf_io.proofs.Transcripts.{answers-all, answers-cut, answers-more, answers-none}
+use Rattle.shelf_io.proofs.Transcripts.{answers-cut, answers-more, answers-none}
 use Rattle.session.specs.Replies.{IsReply}
 use Rattle.session.proofs.SameRules.{under_same}
 use Rattle.session.proofs.serving.serve.Goals as goal

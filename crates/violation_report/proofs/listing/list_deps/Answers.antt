@@ -1,6 +1,5 @@
 use Rattle.std.proofs.Common.{◌≡◌, ◌∙◌, sym, ap, ◌≤◌, length}
 use Rattle.std.proofs.lemmas.List.{take_all}
-use Rattle.rule_model.specs.declared.dep.Dep.{Dep}
 use Rattle.rule_model.specs.Books.{IsBook, book_deps}
 use Rattle.violation_report.specs.Listing.{dep_line, dep_violations}
 use Rattle.violation_report.proofs.Loops.{lines-more, dep_has_table}

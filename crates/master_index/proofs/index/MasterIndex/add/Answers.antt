@@ -1,5 +1,5 @@
-use Rattle.std.proofs.Common.{◌≡◌, ℕ, List, Result, Ok, Err, OnErr, length, sym, ap, subst, ◌∙◌, arith}
-use Rattle.std.specs.Prelude.{All, map}
+use Rattle.std.proofs.Common.{sym, ap, subst, ◌∙◌, arith}
+use Rattle.std.specs.Prelude.{All}
 use Rattle.std.specs.List.{AllZip}
 use Rattle.std.specs.FinMap as finite
 use Rattle.std.proofs.lemmas.List.Elements.{length_all_zip}
@@ -9,7 +9,6 @@ use Rattle.row_store.specs.Watches.{HasAdded, HoldsTheSame}
 use Rattle.master_index.specs.declared.column_index.ColumnIndex.{ColumnIndex}
 use Rattle.master_index.specs.ColumnWatch.{attributes_of}
 use Rattle.master_index.specs.Masters.{IsWideFor, rows_in}
-use Rattle.master_index.specs.InStep.{IsMasterIndex}
 use Rattle.master_index.proofs.MasterRowFacts.{rows_alike, rows_inserted}
 use Rattle.master_index.proofs.MasterSteps.{watch, wide_each, written_whole, lists_kept, kept_after_add, kept_after_refusal, on_err}
 use Rattle.master_index.proofs.index.MasterIndex.add.Goals as goal

@@ -1,9 +1,8 @@
-use Rattle.std.proofs.Common.{◌≡◌, ◌≢◌, ℕ, ◌<◌, List, length, get_or, false, sym, ap, subst, ◌∙◌, arith}
+use Rattle.std.proofs.Common.{◌≡◌, ◌<◌, length, get_or, false, sym, ap, subst, ◌∙◌, arith}
 use Rattle.std.specs.Prelude.{◌↔◌, map, Contains}
 use Rattle.std.specs.FinMap as finite
 use Rattle.std.specs.Option.{option_map_or}
 use Rattle.std.specs.Str.{bytes_eq}
-use Rattle.master_index.specs.declared.column_index.ColumnIndex.{ColumnIndex}
 use Rattle.master_index.specs.declared.column_list.ColumnList.{ColumnList}
 use Rattle.master_index.specs.ColumnRows.{is_under, ids_in, rows_under}
 use Rattle.master_index.specs.Masters.{IsRowWith, rows_in}

@@ -1,4 +1,4 @@
-use Rattle.std.proofs.Common.{◌≡◌, ◌≢◌, ℕ, ◌<◌, get_or}
+use Rattle.std.proofs.Common.{◌≢◌, ℕ, ◌<◌, get_or}
 use Rattle.master_index.specs.declared.column_index.ColumnIndex.{ColumnIndex}
 use Rattle.master_index.proofs.index.MasterIndex.matches.Given as goal
 

@@ -1,5 +1,5 @@
-use Rattle.std.proofs.Common.{◌≡◌, ℕ, List, Some, None, length, sym, ap, subst, ◌∙◌, arith}
-use Rattle.std.specs.Prelude.{All, map, option_map}
+use Rattle.std.proofs.Common.{None, sym, ap, subst, ◌∙◌, arith}
+use Rattle.std.specs.Prelude.{All, option_map}
 use Rattle.std.specs.List.{AllZip}
 use Rattle.std.specs.FinMap as finite
 use Rattle.std.proofs.lemmas.List.Elements.{length_all_zip}

@@ -1,12 +1,12 @@
-use Rattle.std.proofs.Common.{◌≡◌, ℕ, List, Some, None, length, sym, ap, subst, ◌∙◌, arith}
-use Rattle.std.specs.Prelude.{All, IsSome, map, option_map, sum_by}
+use Rattle.std.proofs.Common.{Some, sym, ap, subst, ◌∙◌, arith}
+use Rattle.std.specs.Prelude.{All, IsSome, option_map, sum_by}
 use Rattle.std.specs.List.{AllZip}
 use Rattle.std.specs.FinMap as finite
 use Rattle.std.proofs.lemmas.List.Elements.{length_all_zip}
 use Rattle.std.proofs.lemmas.Option.{same_Some}
 use Rattle.row_store.specs.Tuple.{ids_of}
 use Rattle.row_store.specs.Watch.{IsWide}
-use Rattle.row_store.specs.Watches.{HasAdded, HasRemoved, HoldsOfRow, HoldsOfBoth, HoldsTheSame, probes_of}
+use Rattle.row_store.specs.Watches.{HasAdded, HasRemoved, HoldsOfRow, HoldsTheSame, probes_of}
 use Rattle.master_index.specs.declared.column_index.ColumnIndex.{ColumnIndex}
 use Rattle.master_index.specs.ColumnWatch.{attributes_of}
 use Rattle.master_index.specs.Masters.{IsWideFor, rows_in, lists_of}

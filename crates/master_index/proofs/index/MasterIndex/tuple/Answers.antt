@@ -1,11 +1,10 @@
-use Rattle.std.proofs.Common.{◌≡◌, ℕ, List, Option, Some, None, refl, sym, ap, ◌∙◌}
+use Rattle.std.proofs.Common.{◌≡◌, Option, Some, None, refl, sym, ap, ◌∙◌}
 use Rattle.std.specs.Prelude.{option_map}
 use Rattle.std.specs.Borrow.{Bor}
 use Rattle.std.specs.FinMap as finite
 use Rattle.std.specs.Option.{option_copied}
 use Rattle.row_store.specs.Tuple.{Tuple, ids_of, ids_behind}
 use Rattle.master_index.proofs.MasterRowFacts.{row_found}
-use Rattle.master_index.proofs.MasterSteps.{kept_after_add}
 use Rattle.master_index.proofs.index.MasterIndex.tuple.Goals as goal
 
 seen_behind : (found : Option (Bor Tuple)) → ids_behind found ≡ option_map ids_of (option_copied found)

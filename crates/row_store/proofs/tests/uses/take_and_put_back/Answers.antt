@@ -1,4 +1,4 @@
-use Rattle.std.proofs.Common.{sym, ap, ◌∙◌}
+use Rattle.std.proofs.Common.{ap, ◌∙◌}
 use Rattle.std.specs.FinMap as map
 use Rattle.row_store.specs.Tuple.{ids_of}
 use Rattle.row_store.proofs.PutBack.{taken_is_gone, put_back_is_same}
