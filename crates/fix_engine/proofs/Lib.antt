@@ -1,0 +1,2 @@
+pub mod NamedAttrs
+pub mod Completeness

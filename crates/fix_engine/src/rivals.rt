@@ -3,7 +3,7 @@
 //! attribute that isn't vouched for, all is closed but this attribute, then each move that still applies is made,
 //! and what it leads to is compared.
 
-ghost use Rattle.std.specs.Prelude.{◌≡◌, ◌≢◌, ◌<◌, ℕ, Some, length, slice_get, IfOk, IfSome, IfNone};
+ghost use Rattle.std.specs.Prelude.{◌≡◌, ◌≢◌, ◌<◌, ℕ, Some, false, length, slice_get, IfOk, IfSome, IfNone};
 ghost use Rattle.rule_runs.specs.Marks.{marked};
 ghost use Rattle.rule_runs.specs.Starts.{IsRunFrom, IsStart, width_of};
 ghost use Rattle.fix_engine.specs.Questions.{asked_at};

@@ -43,5 +43,10 @@ fn has_all(marks: Marks, width: usize) -> bool
     requires { width ≤ 64 }
     ensures { IsTrue result ↔ HasAll width (marked marks) }
 {
-    (0..width).all(|attr| marks.has(attr))
+    for attr in 0..width {
+        if !marks.has(attr) {
+            return false;
+        }
+    }
+    true
 }
