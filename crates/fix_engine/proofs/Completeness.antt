@@ -87,7 +87,7 @@ module _ (start : Start) (book : IsBook start.rules.now) (is_start : IsStart sta
       let s = end_after basis first moves in
       same_stage s.tuple last.tuple s.validated last.validated (same_elements s.tuple last.tuple (λ a. (alike a).1)) (λ a. (alike a).0) ∙ to.end
 
-  -- maximal runs that end in one tuple have validated the same attributes
-  pub tuples_tell : TuplesTellValidated (asked_at start)
-  tuples_tell one other full_one full_other same =
-      extending.same-validated (Applies basis) (after basis) (has basis) (value_at basis) (attr_of basis) (value_written basis) (HasWidth basis width) moves_are first one other is_start.tuple.width full_one full_other (λ a. ap (λ t. slice_get t a) same)
+  -- maximal runs that end in one tuple have validated the same attributes, whatever is vouched for
+  pub tuples_tell : (stage : Stage ℕ) → HasWidth basis width stage → TuplesTellValidated (record { basis = basis; stage = stage; width = width })
+  tuples_tell stage good one other full_one full_other same =
+      extending.same-validated (Applies basis) (after basis) (has basis) (value_at basis) (attr_of basis) (value_written basis) (HasWidth basis width) moves_are stage one other good full_one full_other (λ a. ap (λ t. slice_get t a) same)

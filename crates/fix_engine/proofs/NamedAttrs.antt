@@ -7,11 +7,14 @@ use Rattle.std.specs.Str.{bytes_eq}
 use Rattle.std.proofs.lemmas.Bool.{cases_lt, cases_Bool}
 use Rattle.std.proofs.lemmas.Bool.Decides.{eqb_tells}
 use Rattle.std.proofs.lemmas.List.Folds.{list_any-append}
-use Rattle.std.proofs.lemmas.Option.{slice_get-get_or, slice_get-map, slice_get_cases, slice_get_within, get_or_from_slice_get, none-some, same_Some}
+use Rattle.std.proofs.lemmas.Option.{slice_get-get_or, slice_get-map, slice_get_cases, slice_get_read, slice_get_within, get_or_from_slice_get, none-some, same_Some}
 use Rattle.std.proofs.lemmas.Slice.Eq.{bytes_eq-Decides}
 use Rattle.schema_core.specs.Repeats.{AreDistinct}
 use Rattle.schema_core.specs.Schemas.{names_of_attrs}
+use Rattle.schema_core.specs.Lookups.{attrs_at}
 use Rattle.schema_core.specs.declared.schema.Attr.{Attr}
+use Rattle.schema_core.specs.declared.schema.Table.{Table}
+use Rattle.schema_core.specs.declared.schema.Schema.{Schema}
 use Rattle.rule_runs.specs.Marks.{with_attr}
 use Rattle.rule_runs.proofs.Lists.{slice_get-either}
 use Rattle.fix_engine.specs.Questions.{is_vouched}
@@ -94,3 +97,9 @@ is_vouched-push attrs names name k other distinct within named =
 -- what holds of no name fails of each
 pub not_any : {X : Type 0} (P : X → Type 0) (xs : List X) → All (λ x. ¬ P x) xs → ¬ Any P xs
 not_any P xs none (k, x, within, is, holds) = none k x within (subst P (sym is) holds)
+
+-- the attributes of a table that is read from a schema
+pub attrs_read : (schema : Schema) (tables : List Table) (table : ℕ) (t : Table) → tables ≡ schema.tables → table < length schema.tables → t ≡ get_or tables table t → attrs_at schema table ≡ t.attrs
+attrs_read schema tables table t same within is =
+    let here : slice_get schema.tables table ≡ Some t = slice_get_read schema.tables (length schema.tables) table t refl within (subst (λ (ts : List Table). t ≡ get_or ts table t) same is) in
+    ap (λ o. option_map_or (λ (u : Table). u.attrs) o []) here

@@ -27,6 +27,10 @@ module _ {V : Type 0} (question : Question V) where
   abbrev pub AllEndIn : List V → Type 0
   AllEndIn tuple = (moves : List Move) → IsFullRun moves → (stage_after moves).tuple ≡ tuple
 
+  -- all of them end at the stage: in its tuple, and with its validated attributes
+  abbrev pub AllEndAt : Stage V → Type 0
+  AllEndAt stage = (moves : List Move) → IsFullRun moves → stage_after moves ≡ stage
+
   -- the fix is unique: all maximal runs end in one tuple
   abbrev pub IsUnique : Type 0
   IsUnique = (tuple : List V) × AllEndIn tuple

@@ -17,8 +17,7 @@ pub record IsRivalOf (start : Start) (first : Run) (rival : Rival) : Type 0 wher
 -- some run that goes on from these moves ends in the tuple
 abbrev pub LeadsTo : Start → List Move → List ℕ → Type 0
 LeadsTo start moves tuple =
-    (more : List Move)
-    × (IsRunOf (basis_of start) (first_stage start) (moves ++ more) × ((end_after (basis_of start) (first_stage start) (moves ++ more)).tuple ≡ tuple))
+    (more : List Move) × IsRunOf (basis_of start) (first_stage start) (moves ++ more) × ((end_after (basis_of start) (first_stage start) (moves ++ more)).tuple ≡ tuple)
 
 -- if the move applies after the run, then what goes on from there leads to the tuple
 abbrev pub AgreesBy : Start → Run → List ℕ → Move → Type 0

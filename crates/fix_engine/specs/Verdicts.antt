@@ -7,7 +7,7 @@ use Rattle.rule_runs.specs.Marks.{marked}
 use Rattle.rule_runs.specs.Starts.{IsTupleIn, stage_at, stage_of}
 use Rattle.fix_engine.specs.declared.verdict.Verdict.{Verdict}
 use Rattle.fix_engine.specs.declared.verdict.Verdict.TheVariants.{Unique, Conflict}
-use Rattle.fix_engine.specs.Fixes.{Question, HasAll, IsFullRun, stage_after}
+use Rattle.fix_engine.specs.Fixes.{Question, HasAll, AllEndAt, IsFullRun, stage_after}
 
 -- that the fix is unique
 abbrev pub SaysUnique : Verdict → Type 0
@@ -28,8 +28,7 @@ pub record IsFullRunTo (question : Question ℕ) (run : Run) : Type 0 where
 -- runs. Of a conflict: two maximal runs, with their ends, whose tuples differ at the attribute.
 abbrev pub IsShown : Question ℕ → Verdict → Type 0
 IsShown question (Unique tuple covered moves) =
-    ((each : List Move) → IsFullRun question each → stage_after question each ≡ stage_of tuple covered)
-    × IsFullRun question moves
+    AllEndAt question (stage_of tuple covered) × IsFullRun question moves
 IsShown question (Conflict first second attr) =
     IsFullRunTo question first × IsFullRunTo question second × (slice_get first.tuple attr ≢ slice_get second.tuple attr)
 

@@ -3,9 +3,10 @@
 //! attribute that isn't vouched for, all is closed but this attribute, then each move that still applies is made,
 //! and what it leads to is compared.
 
-ghost use Rattle.std.specs.Prelude.{◌≡◌, ◌≢◌, ◌<◌, ℕ, Some, false, length, slice_get, IfOk, IfSome, IfNone};
+ghost use Rattle.std.specs.Prelude.{◌≡◌, ◌≢◌, ℕ, Some, false, length, slice_get, IfOk, IfSome, IfNone};
 ghost use Rattle.rule_runs.specs.Marks.{marked};
-ghost use Rattle.rule_runs.specs.Starts.{IsRunFrom, IsStart, width_of};
+ghost use Rattle.rule_runs.specs.Starts.{IsRunFrom, IsStart, stage_at};
+ghost use Rattle.fix_engine.specs.Fixes.{AllEndAt};
 ghost use Rattle.fix_engine.specs.Questions.{asked_at};
 ghost use Rattle.fix_engine.specs.Rivals.{AgreesBy, AgreesWithout, IsRivalOf};
 ghost use Rattle.fix_engine.specs.Verdicts.{IsFullRunTo};
@@ -122,9 +123,10 @@ pub(crate) fn rival_of(
     requires start { IsStart start.now }
     requires first { IsFullRunTo (asked_at start.now) first.now }
     ensures rival { IfOk result (λ found. IfSome found (IsRivalOf start.now first.now)) }
-    ensures none { IfOk result (λ found. IfNone found ((attr : ℕ) → attr < width_of start.now start.now.table → marked start.now.vouched attr ≡ false → AgreesWithout start.now first.now.tuple attr)) }
+    ensures none { IfOk result (λ found. IfNone found (AllEndAt (asked_at start.now) (stage_at first.now))) }
 {
-    for attr in 0..start.tuple.len() {
+    let table = &start.rules.schema().tables.as_slice()[start.table];
+    for attr in 0..table.attrs.as_slice().len() {
         if start.vouched.has(attr) {
             continue;
         }
