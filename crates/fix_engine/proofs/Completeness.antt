@@ -83,7 +83,7 @@ module _ (start : Start) (book : IsBook start.rules.now) (is_start : IsStart sta
   all_end full to without moves maximal =
       let last = end_after basis first full.moves in
       let alike = agreeing.ends-alike (Applies basis) (after basis) (has basis) (value_at basis) (attr_of basis) (value_written basis) (HasWidth basis width) moves_are (λ b. b < width) within first is_start.tuple.width full.moves to.full
-          (λ b in_range out. let agrees = without b in_range out in (agrees.closure.moves, closes full b agrees to)) moves maximal in
+      (λ b in_range out. let agrees = without b in_range out in (agrees.closure.moves, closes full b agrees to)) moves maximal in
       let s = end_after basis first moves in
       same_stage s.tuple last.tuple s.validated last.validated (same_elements s.tuple last.tuple (λ a. (alike a).1)) (λ a. (alike a).0) ∙ to.end
 

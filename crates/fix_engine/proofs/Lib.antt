@@ -3,3 +3,4 @@ pub mod FullRuns
 pub mod Completeness
 pub mod VerdictFacts
 pub mod Asking
+pub mod TestMasters

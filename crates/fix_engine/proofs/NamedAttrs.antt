@@ -42,9 +42,9 @@ apart attrs k other b a distinct here there differ same =
     (λ below. distinct other k a.name below long' (name_at attrs other a a.name there ∙ same ∙ sym (name_at attrs k b a.name here)))
     (λ not_below.
     ⊎_elim
-        (λ above. distinct k other a.name above long (name_at attrs k b a.name here ∙ sym same ∙ sym (name_at attrs other a a.name there)))
-        (λ not_above. differ (omega arith))
-        (cases_lt k other))
+    (λ above. distinct k other a.name above long (name_at attrs k b a.name here ∙ sym same ∙ sym (name_at attrs other a a.name there)))
+    (λ not_above. differ (omega arith))
+    (cases_lt k other))
     (cases_lt other k)
 
 -- the attribute of a name is the one that has it
@@ -56,9 +56,9 @@ same_name attrs name k other b a distinct here is there =
     (bytes_eq-Decides a.name name).1 (ap (λ (c : Attr). c.name) alike ∙ is) ∙ sym is_so)
     (λ (isnt, differ).
     ⊎_elim
-        (λ equal. absurd (apart attrs k other b a distinct here there differ ((bytes_eq-Decides a.name name).0 equal ∙ sym is)))
-        (λ unequal. unequal ∙ sym isnt)
-        (cases_Bool (bytes_eq a.name name)))
+    (λ equal. absurd (apart attrs k other b a distinct here there differ ((bytes_eq-Decides a.name name).0 equal ∙ sym is)))
+    (λ unequal. unequal ∙ sym isnt)
+    (cases_Bool (bytes_eq a.name name)))
     (eqb_tells other k)
 
 -- one more name
@@ -83,14 +83,15 @@ is_vouched-push attrs names name k other distinct within named =
     swapped true false = refl
     swapped false true = refl
     swapped false false = refl
+
     past : slice_get attrs other ≡ None → (other == k) ≡ false
     past none =
         ⊎_elim
         (λ (is_so, e).
         ⊎_elim
-            (λ (b, _, here, _). absurd (none-some b (sym none ∙ ap (slice_get attrs) e ∙ here)))
-            (λ (beyond, _). absurd (omega arith))
-            (slice_get_cases attrs k).1)
+        (λ (b, _, here, _). absurd (none-some b (sym none ∙ ap (slice_get attrs) e ∙ here)))
+        (λ (beyond, _). absurd (omega arith))
+        (slice_get_cases attrs k).1)
         (λ (isnt, differ). isnt)
         (eqb_tells other k)
 

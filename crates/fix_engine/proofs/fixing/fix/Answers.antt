@@ -50,8 +50,8 @@ shown c =
     let start : Start = record { rules = c.args.rules; pool = c.args.pool; masters = c.args.masters; table = c.args.table; tuple = c.args.tuple; vouched = c.in-Some.vouched } in
     let attrs = attrs_read c.args.rules.now.schema c.as_slice.result.now c.args.table c.index-as_slice-table.result (c.as_slice.ensures ∙ ap (λ (s : Schema). s.tables) c.schema.ensures.schema) c.requires.table c.index-as_slice-table.is in
     let marks = λ (attr : ℕ). c.in-Some.ensures.marks attr
-        ∙ ap (λ ns. is_vouched c.index-as_slice-table.result.attrs ns attr) c.as_slice-2.ensures
-        ∙ ap (λ held. is_vouched held c.args.vouched.now attr) (sym attrs) in
+    ∙ ap (λ ns. is_vouched c.index-as_slice-table.result.attrs ns attr) c.as_slice-2.ensures
+    ∙ ap (λ held. is_vouched held c.args.vouched.now attr) (sym attrs) in
     subst (λ q. IsShown q c.in_ok-verdict_at.field-0) (asked_is start c.args.vouched.now marks) c.in_ok-verdict_at.ensures.shown
 
 pub returns-clause-shown : goal.returns-clause-shown

@@ -15,10 +15,10 @@ returns-clause-shown c =
     let run = c.in_ok-first.first in
     let first = to_full start run c.in_ok-first.ensures.run (c.in_ok-first.ensures.maximal refl) in
     elim c.match-branch-3.branch [
-      in-Some w ↦
+      | in-Some w ↦
           let rival = subst (λ o. IfSome o (IsRivalOf start run)) w.in-Some.is c.in_ok-rival.ensures.rival in
           subst (IsShown (asked_at start)) (sym w.result-is) (first, rival.full, rival.differs)
-    | in-None w ↦
+      | in-None w ↦
           let all = subst (λ o. IfNone o (AllEndAt (asked_at start) (stage_at run))) w.in-None.is c.in_ok-rival.ensures.none in
           subst (IsShown (asked_at start)) (sym w.result-is) (all, first.full)
     ]
@@ -29,8 +29,8 @@ returns-clause-tuples c =
     let run = c.in_ok-first.first in
     let first = full_tuple start run c.requires (to_full start run c.in_ok-first.ensures.run (c.in_ok-first.ensures.maximal refl)) in
     elim c.match-branch-3.branch [
-      in-Some w ↦
+      | in-Some w ↦
           let rival = subst (λ o. IfSome o (IsRivalOf start run)) w.in-Some.is c.in_ok-rival.ensures.rival in
           subst (HasTuplesIn start.rules.now start.pool.now start.table) (sym w.result-is) (first, full_tuple start w.in-Some.rival.run c.requires rival.full)
-    | in-None w ↦ subst (HasTuplesIn start.rules.now start.pool.now start.table) (sym w.result-is) first
+      | in-None w ↦ subst (HasTuplesIn start.rules.now start.pool.now start.table) (sym w.result-is) first
     ]
