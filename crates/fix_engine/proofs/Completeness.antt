@@ -1,6 +1,6 @@
 -- Why it is enough to leave out one attribute at a time: if each closure without an attribute leads to the tuple of one
 -- full run, and so does each move that still applies after it, then all maximal runs end as that run does.
-use Rattle.std.proofs.Common.{◌≡◌, ℕ, ◌<◌, true, false, List, [], ◌∷◌, ◌++◌, Some, sym, ap, ◌∙◌, subst}
+use Rattle.std.proofs.Common.{◌≡◌, ℕ, ◌<◌, true, false, List, [], ◌∷◌, ◌++◌, sym, ap, ◌∙◌, subst}
 use Rattle.std.specs.Prelude.{slice_get}
 use Rattle.std.proofs.lemmas.Option.{same_Some}
 use Rattle.rule_model.specs.Books.{IsBook}
@@ -8,15 +8,15 @@ use Rattle.rule_runs.specs.declared.moves.Move.{Move}
 use Rattle.rule_runs.specs.declared.moves.Start.{Start}
 use Rattle.rule_runs.specs.declared.runs.Run.{Run}
 use Rattle.rule_runs.specs.Marks.{marked}
-use Rattle.rule_runs.specs.Moves.{Basis, Stage, Applies, IsMaximalRun, IsRunOf, after, end_after}
-use Rattle.rule_runs.specs.Starts.{IsStart, basis_of, first_stage, stage_at, stage_of, width_of}
+use Rattle.rule_runs.specs.Moves.{Basis, Stage, Applies, IsMaximalRun, after, end_after}
+use Rattle.rule_runs.specs.Starts.{IsStart, basis_of, first_stage, stage_of, width_of}
 use Rattle.rule_runs.proofs.Agreeing as agreeing
 use Rattle.rule_runs.proofs.Agreeing.{Closes}
 use Rattle.rule_runs.proofs.Extending as extending
 use Rattle.rule_runs.proofs.Extending.{AreMoves}
 use Rattle.rule_runs.proofs.Lists.{same_elements}
 use Rattle.rule_runs.proofs.Moving.{HasWidth, are_moves, attr-is, attr_of, has, parts, same_stage, target-some, value_at, value_written}
-use Rattle.rule_runs.proofs.Running.{end-append, end-push, run-front, run-push, run-rest}
+use Rattle.rule_runs.proofs.Running.{end-append, end-push, run-front, run-rest}
 use Rattle.rule_runs.proofs.StartFacts.{writes_within}
 use Rattle.fix_engine.specs.Fixes.{TuplesTellValidated}
 use Rattle.fix_engine.specs.Questions.{asked_at}

@@ -3,4 +3,3 @@ pub mod FullRuns
 pub mod Completeness
 pub mod VerdictFacts
 pub mod Asking
-pub mod TestMasters

@@ -5,7 +5,7 @@ use Rattle.rule_runs.specs.Moves.{Stage}
 use Rattle.rule_runs.specs.declared.runs.Run.{Run}
 use Rattle.fix_engine.specs.declared.verdict.Verdict.{Verdict}
 use Rattle.fix_engine.specs.declared.verdict.Verdict.TheVariants.{Unique, Conflict}
-use Rattle.fix_engine.specs.Fixes.{Question, AllEndIn, IsCertain, IsUnique, stage_after}
+use Rattle.fix_engine.specs.Fixes.{Question, IsCertain, IsUnique}
 use Rattle.fix_engine.specs.Verdicts.{IsFullRunTo, IsShown, SaysCertain, SaysUnique}
 
 -- a maximal run ends in the tuple in which all do

@@ -1,7 +1,6 @@
 -- What a verdict says of the question.
 use Rattle.std.specs.Prelude.{◌≡◌, ◌≢◌, ℕ, List, slice_get}
 use Rattle.rule_model.specs.Books.{Book}
-use Rattle.rule_runs.specs.declared.moves.Move.{Move}
 use Rattle.rule_runs.specs.declared.runs.Run.{Run}
 use Rattle.rule_runs.specs.Marks.{marked}
 use Rattle.rule_runs.specs.Starts.{IsTupleIn, stage_at, stage_of}

@@ -1,15 +1,8 @@
-use Rattle.std.proofs.Common.{◌≡◌, ◌≢◌, ℕ, List, Ok, Err, refl, sym, ap, ◌∙◌, subst}
-use Rattle.std.specs.Prelude.{Any, IsErrAnd}
+use Rattle.std.proofs.Common.{ℕ, sym, ap, ◌∙◌, subst}
 use Rattle.std.proofs.lemmas.Bool.{true≢false}
-use Rattle.schema_core.specs.Lookups.{attrs_at}
-use Rattle.schema_core.specs.declared.schema.Attr.{Attr}
 use Rattle.schema_core.specs.declared.schema.Schema.{Schema}
-use Rattle.rule_runs.specs.declared.marks.Marks.{Marks}
 use Rattle.row_store.specs.Tuple.{ids_of}
 use Rattle.rule_runs.specs.declared.moves.Start.{Start}
-use Rattle.rule_runs.specs.Marks.{marked}
-use Rattle.rule_runs.specs.Starts.{IsStart}
-use Rattle.fix_engine.specs.Fixes.{IsCertain, IsUnique}
 use Rattle.fix_engine.specs.Questions.{is_vouched, question}
 use Rattle.fix_engine.specs.Verdicts.{IsShown}
 use Rattle.fix_engine.proofs.Asking.{all_known, asked_is, named_law, only_memory}

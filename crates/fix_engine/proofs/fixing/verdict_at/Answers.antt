@@ -1,4 +1,4 @@
-use Rattle.std.proofs.Common.{None, Some, refl, sym, subst}
+use Rattle.std.proofs.Common.{refl, sym, subst}
 use Rattle.std.specs.Prelude.{IfNone, IfSome}
 use Rattle.rule_runs.specs.Starts.{stage_at}
 use Rattle.fix_engine.specs.Fixes.{AllEndAt}

@@ -1,4 +1,4 @@
-use Rattle.std.proofs.Common.{◌≡◌, ◌<◌, length, sym, ap, ◌∙◌, arith}
+use Rattle.std.proofs.Common.{◌≡◌, length, sym, ap, ◌∙◌, arith}
 use Rattle.schema_core.specs.declared.schema.Schema.{Schema}
 use Rattle.rule_runs.specs.Starts.{width_of}
 use Rattle.fix_engine.proofs.Completeness.{all_end}

@@ -1,4 +1,4 @@
-use Rattle.std.proofs.Common.{None, Some, refl, ◌∙◌, subst}
+use Rattle.std.proofs.Common.{refl, ◌∙◌, subst}
 use Rattle.std.specs.Prelude.{IfNone}
 use Rattle.rule_runs.specs.declared.moves.Move.{Move}
 use Rattle.fix_engine.specs.Rivals.{AgreesBy}

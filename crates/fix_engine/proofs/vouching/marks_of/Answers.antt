@@ -1,4 +1,4 @@
-use Rattle.std.proofs.Common.{◌≡◌, ◌≤◌, List, ℕ, [], ◌∷◌, ◌++◌, length, get_or, take, sym, ap, ◌∙◌, subst, arith}
+use Rattle.std.proofs.Common.{◌≡◌, [], ◌∷◌, ◌++◌, get_or, take, sym, ap, ◌∙◌, subst, arith}
 use Rattle.std.proofs.lemmas.Bool.{false≢true}
 use Rattle.std.proofs.lemmas.List.{take_all, take_more}
 use Rattle.std.proofs.lemmas.List.Elements.{All-more}
@@ -6,7 +6,6 @@ use Rattle.std.specs.List.{All}
 use Rattle.std.specs.Prelude.{◌==◌, ◌||◌}
 use Rattle.schema_core.specs.declared.schema.Attr.{Attr}
 use Rattle.schema_core.specs.declared.schema.Domain.TheVariants.{AnyText}
-use Rattle.rule_runs.specs.Marks.{with_attr}
 use Rattle.fix_engine.specs.Questions.{IsNoAttr, is_vouched}
 use Rattle.fix_engine.proofs.NamedAttrs.{is_vouched-none, is_vouched-push, not_any}
 use Rattle.fix_engine.proofs.vouching.marks_of.Goals as goal
