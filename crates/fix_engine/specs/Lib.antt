@@ -1,0 +1,4 @@
+pub mod Fixes
+pub mod Questions
+pub mod Verdicts
+pub mod Rivals

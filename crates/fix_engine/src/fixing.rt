@@ -1,0 +1,77 @@
+//! The verdict on a tuple.
+
+ghost use Rattle.std.specs.Prelude.{◌≡◌, ◌↔◌, ◌<◌, Err, length, Any, IfOk};
+ghost use Rattle.row_store.specs.Tuple.{ids_of};
+ghost use Rattle.schema_core.specs.Lookups.{attrs_at};
+ghost use Rattle.rule_runs.specs.Starts.{AreMasters, IsStart, IsTupleIn};
+ghost use Rattle.fix_engine.specs.Fixes.{IsCertain, IsUnique, TuplesTellValidated};
+ghost use Rattle.fix_engine.specs.Questions.{IsNoAttr, asked_at, question};
+ghost use Rattle.fix_engine.specs.Verdicts.{HasTuplesIn, IsShown, SaysCertain, SaysUnique};
+
+use crate::fault::FixFault;
+use crate::rivals::rival_of;
+use crate::verdict::Verdict;
+use crate::vouching::marks_of;
+use master_index::MasterIndex;
+use row_store::Tuple;
+use rule_model::RuleBook;
+use rule_runs::{Start, close_without};
+use schema_core::Texts;
+use std::alloc::{AllocError, Global};
+use value_pool::Pool;
+
+/// What the fix of the tuple is, where the attributes with these names are vouched for. A name may stand twice.
+pub fn fix(
+    alloc: Global,
+    rules: &RuleBook,
+    pool: &Pool,
+    masters: &MasterIndex,
+    table: usize,
+    tuple: &Tuple,
+    vouched: &Texts,
+) -> Result<Verdict, FixFault>
+    requires table { table < length rules.now.schema.tables }
+    requires tuple { IsTupleIn rules.now pool.now table (ids_of tuple.now) }
+    requires masters { AreMasters rules.now pool.now masters.now }
+    ensures unknown { (result ≡ Err FixFault.UnknownAttr) ↔ Any (IsNoAttr (attrs_at rules.now.schema table)) vouched.now }
+    ensures unique { IfOk result (λ verdict. SaysUnique verdict ↔ IsUnique (question rules.now pool.now masters.now table (ids_of tuple.now) vouched.now)) }
+    ensures certain { IfOk result (λ verdict. SaysCertain (length (attrs_at rules.now.schema table)) verdict ↔ IsCertain (question rules.now pool.now masters.now table (ids_of tuple.now) vouched.now)) }
+    ensures shown { IfOk result (IsShown (question rules.now pool.now masters.now table (ids_of tuple.now) vouched.now)) }
+    ensures tuples { IfOk result (HasTuplesIn rules.now pool.now table) }
+    ensures law { TuplesTellValidated (question rules.now pool.now masters.now table (ids_of tuple.now) vouched.now) }
+{
+    let attrs = &rules.schema().tables.as_slice()[table];
+    let Some(vouched) = marks_of(attrs, vouched.as_slice()) else {
+        return Err(FixFault::UnknownAttr);
+    };
+    let start = Start {
+        rules,
+        pool,
+        masters,
+        table,
+        tuple,
+        vouched,
+    };
+    Ok(verdict_at(alloc, &start)?)
+}
+
+/// The verdict at a start.
+fn verdict_at(alloc: Global, start: &Start<'_>) -> Result<Verdict, AllocError>
+    requires { IsStart start.now }
+    ensures shown { IfOk result (IsShown (asked_at start.now)) }
+    ensures tuples { IfOk result (HasTuplesIn start.now.rules.now start.now.pool.now start.now.table) }
+{
+    let first = close_without(alloc, start, None)?;
+    Ok(match rival_of(alloc, start, &first)? {
+        Some(rival) => Verdict::Conflict {
+            first,
+            second: rival.run,
+            attr: rival.attr,
+        },
+        None => Verdict::Unique {
+            tuple: first.tuple,
+            covered: first.covered,
+            moves: first.moves,
+        },
+    })
+}
