@@ -1,0 +1,91 @@
+//! The groups by their keys, with the dirty ones marked.
+ghost use Rattle.std.specs.Prelude.{◌≡◌, ◌+◌, ◌<◌, ◌≤◌, length, OnOk, OnErr, IsTrue};
+ghost use Rattle.group_index.specs.Pairs.{pairs_of, is_dirty};
+ghost use Rattle.group_index.specs.Groups.{AreMarked, AreMarkedBut, IsEntered, IsLeft, HoldTheSame};
+
+use crate::group::Group;
+use crate::index::IdRow;
+use crate::key::matches_all;
+use marked_map::MarkedMap;
+use probe_steps::Steps;
+use row_store::RowId;
+use std::alloc::{AllocError, Global};
+use std::sync::ledger::Ledger;
+use value_pool::ValueId;
+
+pub(crate) type Groups = MarkedMap<Vec<ValueId>, Group>;
+
+/// Puts a row into the group of its key, in one probe.
+pub(crate) fn put_entry<L: Ledger>(
+    groups: &mut Groups,
+    rows: &[IdRow],
+    key: Vec<ValueId>,
+    a: ValueId,
+    row: RowId,
+    steps: &mut Steps<L>,
+) -> Result<(), AllocError>
+    requires { AreMarked rows.now groups.old }
+    ensures marks { AreMarked rows.now groups.new }
+    ensures ok { OnOk result (IsEntered groups.old groups.new (record { x = key.items; a = a; row = row })) }
+    ensures err { OnErr result (HoldTheSame groups.old groups.new) }
+    ensures probes { steps.new ≡ steps.old + 1 }
+{
+    let alloc = *key.allocator();
+    let place = groups.enter(key, Group::One(a, row), steps)?;
+    let put = groups.value_at_mut(place).put(alloc, a, row);
+    settle(groups, rows, place);
+    put
+}
+
+/// Takes a row away from the group of its key, in one probe and without memory.
+pub(crate) fn take_entry<L: Ledger>(
+    groups: &mut Groups,
+    rows: &[IdRow],
+    key: &Vec<ValueId>,
+    a: ValueId,
+    row: RowId,
+    steps: &mut Steps<L>,
+)
+    requires { AreMarked rows.now groups.old }
+    ensures marks { AreMarked rows.now groups.new }
+    ensures left { IsLeft groups.old groups.new (record { x = key.now.items; a = a; row = row }) }
+    ensures probes { steps.new ≡ steps.old + 1 }
+{
+    if let Some(place) = groups.find(key, steps) {
+        if groups.value_at_mut(place).take(a, row) {
+            groups.remove_at(place);
+        } else {
+            settle(groups, rows, place);
+        }
+    }
+}
+
+// Marks the group at the place where it is dirty, and takes its mark off where it isn't.
+fn settle(groups: &mut Groups, rows: &[IdRow], place: usize)
+    requires within { place < length groups.old.pairs }
+    requires others { AreMarkedBut rows.now groups.old place }
+    ensures marks { AreMarked rows.now groups.new }
+    ensures same { HoldTheSame groups.old groups.new }
+{
+    if is_dirty(
+        rows,
+        groups.key_at(place).as_slice(),
+        groups.value_at(place),
+    ) {
+        groups.mark_at(place);
+    } else {
+        groups.unmark_at(place);
+    }
+}
+
+// Whether a row of the group violates some tableau row: it matches it on X, and has an A id that doesn't match, or two
+// A ids, of which one doesn't match or both differ.
+fn is_dirty(rows: &[IdRow], x: &[ValueId], group: &Group) -> bool
+    ensures { result ≡ is_dirty rows.now x.now (pairs_of group.now) }
+{
+    let Some((a, _)) = group.next_head(None) else {
+        return false;
+    };
+    let mixed = group.next_head(Some(a)).is_some();
+    rows.iter().any(|row| matches_all(row.x.as_slice(), x) && (mixed || !row.a.matches(&a)))
+}

@@ -1,0 +1,65 @@
+//! The partners of the rows of a group. Among the A ids that match a cell, one has the least row of all: that row is the
+//! least partner of every row with another A id, and the rows of that A id share the least row of the others. So two rows
+//! tell the partners of all, and no row is compared with another.
+ghost use Rattle.std.specs.Prelude.{◌≡◌};
+ghost use Rattle.group_index.specs.Pairs.{pairs_of};
+ghost use Rattle.group_index.specs.Leads.{AreLeads, IsAmong, IsLeastOther};
+
+use crate::group::Group;
+use crate::index::IdCell;
+use row_store::RowId;
+use value_pool::ValueId;
+
+/// The matching A id with the least row of all, with that row, and the least row of the other matching A ids.
+#[derive(Clone, Copy)]
+pub(crate) struct Leads {
+    pub(crate) first: Option<(ValueId, RowId)>,
+    pub(crate) second: Option<RowId>,
+}
+
+impl Leads {
+    /// Looks at the least row of each A id of the group.
+    pub(crate) fn of(group: &Group, cell: &IdCell) -> Leads
+        ensures { AreLeads cell.now (IsAmong (pairs_of group.now)) result.first result.second }
+    {
+        let mut leads = Leads {
+            first: None,
+            second: None,
+        };
+        let mut head = group.next_head(None);
+        while let Some((a, row)) = head {
+            if cell.matches(&a) {
+                leads = leads.with(a, row);
+            }
+            head = group.next_head(Some(a));
+        }
+        leads
+    }
+
+    // With one more A id and its least row.
+    fn with(self, a: ValueId, row: RowId) -> Leads {
+        match self.first {
+            None => Leads {
+                first: Some((a, row)),
+                second: None,
+            },
+            Some((_, least)) if row < least => Leads {
+                first: Some((a, row)),
+                second: Some(least),
+            },
+            Some(_) => Leads {
+                first: self.first,
+                second: Some(self.second.map_or(row, |other| other.min(row))),
+            },
+        }
+    }
+
+    /// The least row with another A id than this one.
+    pub(crate) fn partner_of(&self, a: ValueId) -> Option<RowId> {
+        match self.first {
+            Some((own, _)) if own == a => self.second,
+            Some((_, least)) => Some(least),
+            None => None,
+        }
+    }
+}
