@@ -1,5 +1,7 @@
 //! The groups by their keys, with the dirty ones marked.
-ghost use Rattle.std.specs.Prelude.{◌≡◌, ◌+◌, ◌<◌, ◌≤◌, length, OnOk, OnErr, IsTrue};
+ghost use Rattle.std.specs.Prelude.{◌≡◌, ◌+◌, ◌<◌, ◌≤◌, ◌&&◌, ◌||◌, not, nat_eq, length, OnOk, OnErr};
+ghost use Rattle.std.specs.List.{list_any};
+ghost use Rattle.cfd_semantics.specs.Pattern.{matches, all_match};
 ghost use Rattle.group_index.specs.Pairs.{pairs_of, is_dirty};
 ghost use Rattle.group_index.specs.Groups.{AreMarked, AreMarkedBut, IsEntered, IsLeft, HoldTheSame};
 
@@ -87,5 +89,13 @@ fn is_dirty(rows: &[IdRow], x: &[ValueId], group: &Group) -> bool
         return false;
     };
     let mixed = group.next_head(Some(a)).is_some();
-    rows.iter().any(|row| matches_all(row.x.as_slice(), x) && (mixed || !row.a.matches(&a)))
+    some_disagrees(rows, x, a, mixed)
+}
+
+// Whether some tableau row that the key matches asks for another A id, or there are two.
+fn some_disagrees(rows: &[IdRow], x: &[ValueId], a: ValueId, mixed: bool) -> bool
+    ensures { result ≡ list_any (λ t. all_match nat_eq t.x x.now && (mixed || not (matches nat_eq t.a a))) rows.now }
+{
+    rows.iter()
+        .any(|row| matches_all(row.x.as_slice(), x) && (mixed || !row.a.matches(&a)))
 }
