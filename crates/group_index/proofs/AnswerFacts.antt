@@ -1,5 +1,6 @@
 -- What follows where a call was answered by Ok, and where by an error.
-use Rattle.std.proofs.Common.{Result, Ok, Err, OnOk, OnErr}
+use Rattle.std.specs.Bool.{OnFalse}
+use Rattle.std.proofs.Common.{◌≡◌, Bool, true, false, Result, Ok, Err, OnOk, OnErr}
 
 pub put_answer : {A E : Type 0} (r : Result A E) {P R : Type 0} → OnOk r P → (P → R) → OnOk r R
 put_answer (Ok a) p so = so p
@@ -8,3 +9,7 @@ put_answer (Err e) p so = tt
 pub refused_answer : {A E : Type 0} (r : Result A E) {P Q R : Type 0} → OnErr r P → OnErr r Q → (P → Q → R) → OnErr r R
 refused_answer (Ok a) p q so = tt
 refused_answer (Err e) p q so = so p q
+
+pub kept_answer : (b : Bool) {P : Type 0} → OnFalse b P → b ≡ false → P
+kept_answer true p is = absurd (cc)
+kept_answer false p is = p

@@ -57,14 +57,14 @@ right_so : (a b : Bool) → b ≡ true → (a || b) ≡ true
 right_so true b is = refl
 right_so false b is = is
 
-clash : (b : Bool) → b ≡ true → b ≡ false → ⊥
+pub clash : (b : Bool) → b ≡ true → b ≡ false → ⊥
 clash b one other = cc
 
-isnt : (b : Bool) → (b ≡ true → ⊥) → b ≡ false
+pub isnt : (b : Bool) → (b ≡ true → ⊥) → b ≡ false
 isnt true never = absurd (never refl)
 isnt false never = refl
 
-not_true : (b : Bool) → not b ≡ true → b ≡ false
+pub not_true : (b : Bool) → not b ≡ true → b ≡ false
 not_true true h = absurd (cc)
 not_true false h = refl
 
@@ -162,18 +162,18 @@ pair_of : Entry ℕ → Pair
 pair_of e = (e.a, e.row)
 
 -- an entry of the key with the pair is the entry
-is_entry_from : (entry e : Entry ℕ) (key : List ℕ) → key ≡ entry.x → bytes_eq key e.x ≡ true → is_pair (e.a, e.row) (entry.a, entry.row) ≡ true → is_entry entry e ≡ true
+pub is_entry_from : (entry e : Entry ℕ) (key : List ℕ) → key ≡ entry.x → bytes_eq key e.x ≡ true → is_pair (e.a, e.row) (entry.a, entry.row) ≡ true → is_entry entry e ≡ true
 is_entry_from entry e key is same pair =
     let both = both_true (e.a == entry.a) (e.row == entry.row) pair in
     let a : nat_eq entry.a e.a ≡ true = grind (arith, nat_tests, both.0) in
     let row : (entry.row == e.row) ≡ true = grind (arith, nat_tests, both.1) in
     rw (sym (ap (λ k. bytes_eq k e.x) is) ∙ same, a, row) refl
 
-record IsEntryBy (entry e : Entry ℕ) : Type 0 where
-  x : entry.x ≡ e.x
-  pair : is_pair (e.a, e.row) (entry.a, entry.row) ≡ true
+pub record IsEntryBy (entry e : Entry ℕ) : Type 0 where
+  pub x : entry.x ≡ e.x
+  pub pair : is_pair (e.a, e.row) (entry.a, entry.row) ≡ true
 
-is_entry_parts : (entry e : Entry ℕ) → is_entry entry e ≡ true → IsEntryBy entry e
+pub is_entry_parts : (entry e : Entry ℕ) → is_entry entry e ≡ true → IsEntryBy entry e
 is_entry_parts entry e is =
     let first = both_true (bytes_eq entry.x e.x && nat_eq entry.a e.a) (entry.row == e.row) is in
     let second = both_true (bytes_eq entry.x e.x) (nat_eq entry.a e.a) first.0 in

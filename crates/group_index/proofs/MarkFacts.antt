@@ -12,7 +12,7 @@ use Rattle.cfd_semantics.specs.Violation.{Entry}
 use Rattle.group_index.specs.declared.group.Group.{Group}
 use Rattle.group_index.specs.declared.group.Group.TheVariants.{One}
 use Rattle.group_index.specs.Groups.{KeyedGroup, KeyedGroups, is_in, is_dirty_at, AreMarked, AreMarkedBut}
-use Rattle.group_index.proofs.GroupFacts.{same_key, same_ids, clash, same_test, holds_at, found_in, is_in_from, key_at, set_value_at, set_elsewhere, pushed_before}
+use Rattle.group_index.proofs.GroupFacts.{same_key, same_test, holds_at, found_in, is_in_from, key_at, set_value_at, set_elsewhere, pushed_before}
 
 module _ (rows : List (TableauRow ℕ)) where
   -- ---- a mark is put, or taken off

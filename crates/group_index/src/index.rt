@@ -8,7 +8,7 @@ ghost use Rattle.group_index.specs.Laws.{gives_names_row, needed_where_given};
 ghost use Rattle.group_index.specs.Answers.{AreDirty, IsSettled, AreViolationsOf, AreThoseOfTheList, IsPartnerOfRow};
 
 use crate::groups::{Groups, put_entry, take_entry};
-use crate::key::{agree, make_room, matches_all, write_key};
+use crate::key::{make_room, matches_all, same_entry, write_key};
 use crate::leads::Leads;
 use crate::violations::push_violations;
 use cfd_semantics::{Dependency, Pattern, TableauRow, Violation};
@@ -175,10 +175,8 @@ impl Watch for GroupIndex {
         }
         let x = self.dependency.x.as_slice();
         let a = self.dependency.a;
-        if let Some(tuple) = old {
-            if tuple.as_slice()[a] == new.as_slice()[a] && agree(tuple, new, x) {
-                return Ok(());
-            }
+        if same_entry(old, new, x, a) {
+            return Ok(());
         }
         make_room(&mut self.key, x.len())?;
         let mut key = Vec::with_capacity(*self.key.allocator(), x.len())?;
@@ -200,10 +198,8 @@ impl Watch for GroupIndex {
         }
         let x = self.dependency.x.as_slice();
         let a = self.dependency.a;
-        if let Some(tuple) = new {
-            if tuple.as_slice()[a] == old.as_slice()[a] && agree(tuple, old, x) {
-                return;
-            }
+        if same_entry(new, old, x, a) {
+            return;
         }
         write_key(&mut self.key, old, x);
         let rows = self.dependency.rows.as_slice();

@@ -1,9 +1,11 @@
 //! The key of a row's group: its ids on X.
-ghost use Rattle.std.specs.Prelude.{◌≡◌, ◌<◌, ◌≤◌, ◌&&◌, ℕ, Some, length, map, All, IfOk, OnErr, OnOk, nat_eq, slice_index, vec_capacity};
+ghost use Rattle.std.specs.Prelude.{◌≡◌, ◌<◌, ◌≤◌, ◌∷◌, false, length, All, OnErr, OnOk, nat_eq, vec_capacity};
 ghost use Rattle.std.specs.Str.{bytes_eq};
 ghost use Rattle.cfd_semantics.specs.Pattern.{all_match};
-ghost use Rattle.row_store.specs.Tuple.{ids_of};
-ghost use Rattle.group_index.specs.Keys.{ids_at};
+ghost use Rattle.std.specs.Option.{option_map_or, ForSome};
+ghost use Rattle.row_store.specs.Tuple.{ids_of, ids_behind};
+ghost use Rattle.row_store.specs.Watch.{IsWide};
+ghost use Rattle.group_index.specs.Keys.{ids_at, gives_alike};
 
 use crate::index::IdCell;
 use row_store::Tuple;
@@ -34,8 +36,30 @@ pub(crate) fn make_room(key: &mut Vec<ValueId>, count: usize) -> Result<(), Allo
     Ok(())
 }
 
-/// Whether two tuples have the same ids on X.
-pub(crate) fn agree(one: &Tuple, other: &Tuple, x: &[usize]) -> bool
+/// Whether a row gives the same entry with two tuples, one of which may be missing: they have the same ids on X and on A.
+pub(crate) fn same_entry(one: Option<&Tuple>, other: &Tuple, x: &[usize], a: usize) -> bool
+    requires wide_one { ForSome (ids_behind one) (IsWide (a ∷ x.now)) }
+    requires wide_other { IsWide (a ∷ x.now) (ids_of other.now) }
+    ensures { result ≡ option_map_or (λ ids. gives_alike ids (ids_of other.now) x.now a) (ids_behind one.entry) false }
+{
+    match one {
+        Some(tuple) => alike(tuple, other, x, a),
+        None => false,
+    }
+}
+
+fn alike(one: &Tuple, other: &Tuple, x: &[usize], a: usize) -> bool
+    requires a_one { a < length (ids_of one.now) }
+    requires a_other { a < length (ids_of other.now) }
+    requires wide_one { IsWide x.now (ids_of one.now) }
+    requires wide_other { IsWide x.now (ids_of other.now) }
+    ensures { result ≡ gives_alike (ids_of one.now) (ids_of other.now) x.now a }
+{
+    one.as_slice()[a] == other.as_slice()[a] && agree(one, other, x)
+}
+
+// Whether two tuples have the same ids on X.
+fn agree(one: &Tuple, other: &Tuple, x: &[usize]) -> bool
     requires wide_one { All (λ attribute. attribute < length (ids_of one.now)) x.now }
     requires wide_other { All (λ attribute. attribute < length (ids_of other.now)) x.now }
     ensures { result ≡ bytes_eq (ids_at (ids_of one.now) x.now) (ids_at (ids_of other.now) x.now) }
