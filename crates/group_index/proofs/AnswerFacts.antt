@@ -10,6 +10,6 @@ pub refused_answer : {A E : Type 0} (r : Result A E) {P Q R : Type 0} → OnErr 
 refused_answer (Ok a) p q so = tt
 refused_answer (Err e) p q so = so p q
 
-pub kept_answer : (b : Bool) {P : Type 0} → OnFalse b P → b ≡ false → P
-kept_answer true p is = absurd (cc)
-kept_answer false p is = p
+pub kept_answer : (b : Bool) (P : Type 0) → OnFalse b P → b ≡ false → P
+kept_answer true P p is = absurd (cc)
+kept_answer false P p is = p

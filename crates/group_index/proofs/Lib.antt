@@ -5,3 +5,4 @@ pub mod MarkFacts
 pub mod RemovedFacts
 pub mod AnswerFacts
 pub mod WatchFacts
+pub mod LeadFacts

@@ -1,10 +1,9 @@
 -- The partners of the rows of a group, told from the least rows of two of its A ids.
-use Rattle.std.specs.Prelude.{◌≡◌, ◌≢◌, ℕ, ◌≤◌, Bool, cond, nat_eq, List, Contains, Option, Some, None, filter_map, IsTrue}
-use Rattle.std.specs.Option.{option_map}
+use Rattle.std.specs.Prelude.{◌≡◌, ◌≢◌, ℕ, ◌≤◌, Bool, cond, min, nat_eq, nat_lt, List, ◌++◌, AllPairs, Contains, Option, Some, None, filter_map, IsTrue}
+use Rattle.std.specs.Option.{option_map, option_map_or}
 use Rattle.cfd_semantics.specs.declared.pattern.Pattern.{Pattern}
 use Rattle.cfd_semantics.specs.declared.violation.Violation.{Violation}
 use Rattle.cfd_semantics.specs.Pattern.{matches}
-use Rattle.group_index.specs.declared.leads.Leads.{Leads}
 use Rattle.group_index.specs.Pairs.{Pair}
 
 -- Among pairs that are told by `among`: the row is the least of those whose A id matches the cell.
@@ -26,3 +25,31 @@ AreLeads cell among (Some first) second =
 -- the pair is one of a group
 abbrev pub IsAmong : List Pair → Pair → Type 0
 IsAmong pairs p = Contains pairs p
+
+-- ---- the leads with one more A id, which has this least row
+
+abbrev pub first_with : Option (ℕ × ℕ) → ℕ → ℕ → Option (ℕ × ℕ)
+first_with None a row = Some (a, row)
+first_with (Some first) a row = cond (nat_lt row first.1) (Some (a, row)) (Some first)
+
+abbrev pub second_with : Option (ℕ × ℕ) → Option ℕ → ℕ → Option ℕ
+second_with None second row = None
+second_with (Some first) second row = cond (nat_lt row first.1) (Some first.1) (Some (option_map_or (min row) second row))
+
+-- the least row with another A id than this one
+abbrev pub partner_by : Option (ℕ × ℕ) → Option ℕ → ℕ → Option ℕ
+partner_by None second a = None
+partner_by (Some first) second a = cond (nat_eq first.0 a) second (Some first.1)
+
+-- what is listed of a pair
+abbrev pub listed_by : Pattern ℕ → Option (ℕ × ℕ) → Option ℕ → Pair → Option Violation
+listed_by cell first second p =
+    cond (matches nat_eq cell p.0) (option_map (λ partner. record { row = p.1; partner = Some partner }) (partner_by first second p.0)) (Some (record { row = p.1; partner = None }))
+
+-- what is listed of the pairs of a group was added; no pair stands there twice
+pub record AddsListed (cell : Pattern ℕ) (pairs : List Pair) (old new : List Violation) : Type 0 where
+  pub first : Option (ℕ × ℕ)
+  pub second : Option ℕ
+  pub leads : AreLeads cell (IsAmong pairs) first second
+  pub once : AllPairs (λ p q. p ≢ q) pairs
+  pub is : new ≡ old ++ filter_map (listed_by cell first second) pairs

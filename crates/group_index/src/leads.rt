@@ -3,7 +3,7 @@
 //! tell the partners of all, and no row is compared with another.
 ghost use Rattle.std.specs.Prelude.{◌≡◌};
 ghost use Rattle.group_index.specs.Pairs.{pairs_of};
-ghost use Rattle.group_index.specs.Leads.{AreLeads, IsAmong, IsLeastOther};
+ghost use Rattle.group_index.specs.Leads.{AreLeads, IsAmong, first_with, second_with, partner_by};
 
 use crate::group::Group;
 use crate::index::IdCell;
@@ -37,7 +37,10 @@ impl Leads {
     }
 
     // With one more A id and its least row.
-    fn with(self, a: ValueId, row: RowId) -> Leads {
+    fn with(self, a: ValueId, row: RowId) -> Leads
+        ensures first { result.first ≡ first_with self.first a row }
+        ensures second { result.second ≡ second_with self.first self.second row }
+    {
         match self.first {
             None => Leads {
                 first: Some((a, row)),
@@ -55,7 +58,9 @@ impl Leads {
     }
 
     /// The least row with another A id than this one.
-    pub(crate) fn partner_of(&self, a: ValueId) -> Option<RowId> {
+    pub(crate) fn partner_of(&self, a: ValueId) -> Option<RowId>
+        ensures { result ≡ partner_by self.now.first self.now.second a }
+    {
         match self.first {
             Some((own, _)) if own == a => self.second,
             Some((_, least)) => Some(least),

@@ -1,4 +1,5 @@
 use Rattle.std.proofs.Common.{◌≡◌, sym, ◌∙◌, arith}
+use Rattle.group_index.specs.Pairs.{pairs_of, IsTaken}
 use Rattle.group_index.proofs.AnswerFacts.{kept_answer}
 use Rattle.group_index.proofs.GroupFacts.{equal_ids, pair_at, set_as_long, content_taken}
 use Rattle.group_index.proofs.MarkFacts.{marked_but_written}
@@ -35,7 +36,7 @@ returns-else-take-clause-left g c e =
     let at = pair_at c.args.groups.now.pairs c.in-Some.place has.0 c.value_at_mut.result.now has.1 c.value_at_mut.ensures.value in
     c.settle.ensures.same e
     ∙ content_taken c.args.groups.now c.in-Some.place has.0 c.value_at_mut.result.now c.take.new.self (record { x = c.args.key.now.items; a = c.args.a; row = c.args.row }) at
-    (sym (equal_ids c.args.key.now.items has.0.items has.2)) c.find.ensures.distinct (kept_answer c.take.result c.take.ensures.left c.if-take.false) e
+    (sym (equal_ids c.args.key.now.items has.0.items has.2)) c.find.ensures.distinct (kept_answer c.take.result (IsTaken (pairs_of c.value_at_mut.result.now) (pairs_of c.take.new.self) (c.args.a, c.args.row)) c.take.ensures.left c.if-take.false) e
 
 pub returns-in_default-clause-left : goal.returns-in_default-clause-left
 returns-in_default-clause-left g c =
