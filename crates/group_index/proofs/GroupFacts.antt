@@ -46,14 +46,14 @@ both_true false b h = absurd (cc)
 pub both_so : (a b : Bool) → a ≡ true → b ≡ true → (a && b) ≡ true
 both_so a b one other = rw (one, other) refl
 
-one_true : (a b : Bool) → (a || b) ≡ true → (a ≡ true) ⊎ (b ≡ true)
+pub one_true : (a b : Bool) → (a || b) ≡ true → (a ≡ true) ⊎ (b ≡ true)
 one_true true b h = inl refl
 one_true false b h = inr h
 
-left_so : (a b : Bool) → a ≡ true → (a || b) ≡ true
+pub left_so : (a b : Bool) → a ≡ true → (a || b) ≡ true
 left_so a b is = ap (λ c. c || b) is
 
-right_so : (a b : Bool) → b ≡ true → (a || b) ≡ true
+pub right_so : (a b : Bool) → b ≡ true → (a || b) ≡ true
 right_so true b is = refl
 right_so false b is = is
 

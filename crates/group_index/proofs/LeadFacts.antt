@@ -1,10 +1,11 @@
 -- Two rows tell the least partners of all rows of a group.
-use Rattle.std.proofs.Common.{◌≡◌, ◌≢◌, ℕ, ◌<◌, ◌≤◌, ◌⊎◌, Bool, true, false, cond, min, nat_lt, List, Option, Some, None, refl, sym, ap, ◌∙◌, subst, inl, inr, arith}
+use Rattle.std.proofs.Common.{◌≡◌, ◌≢◌, ℕ, suc, ◌<◌, ◌≤◌, ◌⊎◌, Bool, true, false, cond, min, nat_lt, List, [], ◌∷◌, Option, Some, None, refl, sym, ap, ◌∙◌, subst, inl, inr, arith}
 use Rattle.std.specs.Prelude.{nat_eq, IsTrue, Contains}
 use Rattle.std.specs.Option.{option_map_or}
 use Rattle.std.proofs.lemmas.Bool.Decides.{nat_tests}
 use Rattle.cfd_semantics.specs.declared.pattern.Pattern.{Pattern}
 use Rattle.cfd_semantics.specs.Pattern.{matches}
+use Rattle.cfd_semantics.proofs.Members.{contains_nothing, contains_cases}
 use Rattle.group_index.specs.Pairs.{Pair, IsAfter, ComesBefore, IsNextHead}
 use Rattle.group_index.specs.Leads.{IsLeastRow, IsLeastOther, AreLeads, IsAmong, first_with, second_with, partner_by}
 
@@ -108,13 +109,6 @@ walk_begins cell pairs (Some head) first = (
 )
 
 module _ (cell : Pattern ℕ) (pairs : List Pair) (head : Pair) (next : Option Pair) (is_head : IsHead pairs (Some head)) (then : IsNextHead pairs (Some head.0) next) where
-  goes_on : IsHead pairs next
-  goes_on = of next then
-    where
-      of : (o : Option Pair) → IsNextHead pairs (Some head.0) o → IsHead pairs o
-      of None none = tt
-      of (Some h) first = (first.0, λ p inside past. let after = first.1 in first.2 p inside (omega (arith, after, past)))
-
   passed_more : (p : Pair) → IsPassed pairs (Some head) p → IsPassed pairs next p
   passed_more p passed = of next then
     where
@@ -155,16 +149,82 @@ module _ (cell : Pattern ℕ) (pairs : List Pair) (head : Pair) (next : Option P
       not_after : head.0 < p.0 → ⊥
       not_after above = after_none next then passed above
 
-  pub walk_goes_on : (first : Option Pair) (second : Option ℕ) (first' : Option Pair) (second' : Option ℕ) → AreLeads cell (IsPassed pairs (Some head)) first second
-      → (IsTrue (matches nat_eq cell head.0) → (first' ≡ first_with first head.0 head.1) × (second' ≡ second_with first second head.1)) → (matches nat_eq cell head.0 ≡ false → (first' ≡ first) × (second' ≡ second))
-      → AreLeads cell (IsPassed pairs next) first' second' × IsHead pairs next
-  walk_goes_on first second first' second' leads with without = (by (matches nat_eq cell head.0) refl, goes_on)
+  pub walk_goes_on : (first : Option Pair) (second : Option ℕ) → AreLeads cell (IsPassed pairs (Some head)) first second
+      → AreLeads cell (IsPassed pairs next) (cond (matches nat_eq cell head.0) (first_with first head.0 head.1) first) (cond (matches nat_eq cell head.0) (second_with first second head.1) second)
+  walk_goes_on first second leads = by (matches nat_eq cell head.0) refl
     where
-      by : (b : Bool) → matches nat_eq cell head.0 ≡ b → AreLeads cell (IsPassed pairs next) first' second'
+      by : (b : Bool) → matches nat_eq cell head.0 ≡ b → AreLeads cell (IsPassed pairs next) (cond b (first_with first head.0 head.1) first) (cond b (second_with first second head.1) second)
       by true does =
-          let is = with does in
-          rw (is.0, is.1) (leads_with cell (IsPassed pairs (Some head)) (IsPassed pairs next) head.0 head.1 passed_more head_passed passed_parts (λ p passed same. let below = passed.1 in absurd (omega (arith, below, same))) does first second leads)
+          leads_with cell (IsPassed pairs (Some head)) (IsPassed pairs next) head.0 head.1 passed_more head_passed passed_parts (λ p passed same. let below = passed.1 in absurd (omega (arith, below, same))) does first second leads
       by false isnt =
-          let is = without isnt in
-          rw (is.0, is.1) (leads_same cell (IsPassed pairs (Some head)) (IsPassed pairs next) passed_more
-          (λ p passed match. elim (passed_parts p passed) [ inl before ↦ before | inr own ↦ absurd (let not : matches nat_eq cell p.0 ≡ false = ap (matches nat_eq cell) own.0 ∙ isnt in cc) ]) first second leads)
+          leads_same cell (IsPassed pairs (Some head)) (IsPassed pairs next) passed_more
+          (λ p passed match. elim (passed_parts p passed) [ inl before ↦ before | inr own ↦ absurd (let not : matches nat_eq cell p.0 ≡ false = ap (matches nat_eq cell) own.0 ∙ isnt in cc) ]) first second leads
+
+-- the same of a walk whose head may be any
+pub leads_go_on : (cell : Pattern ℕ) (pairs : List Pair) (at : Option Pair) (head : Pair) (next : Option Pair) (first : Option Pair) (second : Option ℕ) → at ≡ Some head → IsHead pairs at → IsNextHead pairs (Some head.0) next → AreLeads cell (IsPassed pairs at) first second
+    → AreLeads cell (IsPassed pairs next) (cond (matches nat_eq cell head.0) (first_with first head.0 head.1) first) (cond (matches nat_eq cell head.0) (second_with first second head.1) second)
+leads_go_on cell pairs at head next first second is is_head then leads =
+    walk_goes_on cell pairs head next (subst (IsHead pairs) is is_head) then first second (subst (λ (o : Option Pair). AreLeads cell (IsPassed pairs o) first second) is leads)
+
+pub head_goes_on : (pairs : List Pair) (head : Pair) (next : Option Pair) → IsNextHead pairs (Some head.0) next → IsHead pairs next
+head_goes_on pairs head None none = tt
+head_goes_on pairs head (Some h) first = (first.0, λ p inside past. let after = first.1 in first.2 p inside (omega (arith, after, past)))
+
+-- ---- how many pairs are left
+
+abbrev pub left : Option Pair → List Pair → ℕ
+left None pairs = 0
+left (Some head) [] = 0
+left (Some head) (p ∷ ps) = cond (nat_lt p.0 head.0) (left (Some head) ps) (suc (left (Some head) ps))
+
+no_more_left : (head later : Pair) → head.0 < later.0 → (pairs : List Pair) → left (Some later) pairs ≤ left (Some head) pairs
+no_more_left head later above [] = omega arith
+no_more_left head later above (p ∷ ps) = by (nat_lt p.0 head.0) refl (nat_lt p.0 later.0) refl (no_more_left head later above ps)
+  where
+    by : (b : Bool) → nat_lt p.0 head.0 ≡ b → (c : Bool) → nat_lt p.0 later.0 ≡ c → left (Some later) ps ≤ left (Some head) ps → cond c (left (Some later) ps) (suc (left (Some later) ps)) ≤ cond b (left (Some head) ps) (suc (left (Some head) ps))
+    by true is true too rest = rest
+    by true is false isnt rest = absurd (grind (arith, nat_tests, is, isnt, above))
+    by false isnt true is rest = omega (arith, rest)
+    by false isnt false is rest = omega (arith, rest)
+
+fewer_left : (head later : Pair) → head.0 < later.0 → (pairs : List Pair) → Contains pairs head → left (Some later) pairs < left (Some head) pairs
+fewer_left head later above [] inside = absurd (contains_nothing head inside)
+fewer_left head later above (p ∷ ps) inside = elim (contains_cases head p ps inside) [
+  | inl is ↦ here (nat_lt p.0 head.0) refl (nat_lt p.0 later.0) refl (ap (λ (q : Pair). q.0) is) (no_more_left head later above ps)
+  | inr rest ↦ by (nat_lt p.0 head.0) refl (nat_lt p.0 later.0) refl (fewer_left head later above ps rest)
+]
+  where
+    here : (b : Bool) → nat_lt p.0 head.0 ≡ b → (c : Bool) → nat_lt p.0 later.0 ≡ c → p.0 ≡ head.0 → left (Some later) ps ≤ left (Some head) ps → cond c (left (Some later) ps) (suc (left (Some later) ps)) < cond b (left (Some head) ps) (suc (left (Some head) ps))
+    here true is c eq same rest = absurd (grind (arith, nat_tests, is, same))
+    here false isnt true is same rest = omega (arith, rest)
+    here false isnt false is same rest = absurd (grind (arith, nat_tests, is, same, above))
+
+    by : (b : Bool) → nat_lt p.0 head.0 ≡ b → (c : Bool) → nat_lt p.0 later.0 ≡ c → left (Some later) ps < left (Some head) ps → cond c (left (Some later) ps) (suc (left (Some later) ps)) < cond b (left (Some head) ps) (suc (left (Some head) ps))
+    by true is true too rest = rest
+    by true is false isnt rest = absurd (grind (arith, nat_tests, is, isnt, above))
+    by false isnt true is rest = omega (arith, rest)
+    by false isnt false is rest = omega (arith, rest)
+
+some_left : (head : Pair) (pairs : List Pair) → Contains pairs head → 0 < left (Some head) pairs
+some_left head [] inside = absurd (contains_nothing head inside)
+some_left head (p ∷ ps) inside = elim (contains_cases head p ps inside) [
+  | inl is ↦ here (nat_lt p.0 head.0) refl (ap (λ (q : Pair). q.0) is)
+  | inr rest ↦ by (nat_lt p.0 head.0) (some_left head ps rest)
+]
+  where
+    here : (b : Bool) → nat_lt p.0 head.0 ≡ b → p.0 ≡ head.0 → 0 < cond b (left (Some head) ps) (suc (left (Some head) ps))
+    here true is same = absurd (grind (arith, nat_tests, is, same))
+    here false is same = omega arith
+
+    by : (b : Bool) → 0 < left (Some head) ps → 0 < cond b (left (Some head) ps) (suc (left (Some head) ps))
+    by true rest = rest
+    by false rest = omega arith
+
+pub walk_ends : (pairs : List Pair) (at : Option Pair) (head : Pair) (next : Option Pair) → at ≡ Some head → IsHead pairs at → IsNextHead pairs (Some head.0) next → left next pairs < left at pairs
+walk_ends pairs at head next is is_head then =
+    let own = subst (IsHead pairs) is is_head in
+    subst (λ (o : Option Pair). left next pairs < left o pairs) (sym is) (of next then own.0)
+  where
+    of : (o : Option Pair) → IsNextHead pairs (Some head.0) o → Contains pairs head → left o pairs < left (Some head) pairs
+    of None none inside = some_left head pairs inside
+    of (Some h) first inside = fewer_left head h first.1 pairs inside

@@ -6,3 +6,6 @@ pub mod RemovedFacts
 pub mod AnswerFacts
 pub mod WatchFacts
 pub mod LeadFacts
+pub mod PartnerFacts
+pub mod ListedFacts
+pub mod DirtyPlaces

@@ -4,25 +4,14 @@ use Rattle.std.specs.Prelude.{◌==◌, nat_eq, slice_index, All, vec_capacity}
 use Rattle.std.specs.Option.{option_map_or, ForSome}
 use Rattle.std.specs.Str.{bytes_eq}
 use Rattle.std.proofs.lemmas.Bool.Decides.{nat_tests}
-use Rattle.std.proofs.lemmas.List.Elements.{All-head, All-tail}
-use Rattle.std.proofs.lemmas.Option.{slice_get-get_or, slice_get_within}
-use Rattle.cfd_semantics.specs.declared.dependency.Dependency.{Dependency}
-use Rattle.cfd_semantics.specs.Tuple.{with_both, values_at}
-use Rattle.cfd_semantics.specs.Violation.{Entry, entry_of}
-use Rattle.cfd_semantics.specs.EntrySets.{gives}
+use Rattle.std.proofs.lemmas.Option.{slice_get_within}
+use Rattle.cfd_semantics.specs.Violation.{Entry}
 use Rattle.row_store.specs.Watch.{entries_of, AddsEntries, RemovesEntries, IsWide}
 use Rattle.group_index.specs.GroupSet.{GroupsMade, GroupSet, is_entry, holds_entry, gives_entry, attributes_of}
 use Rattle.group_index.specs.Keys.{ids_at, gives_alike}
-use Rattle.group_index.specs.Groups.{KeyedGroups, entries_in, is_in, IsEntered, IsLeft}
+use Rattle.group_index.specs.Groups.{KeyedGroups, set_of, entries_in, is_in, IsEntered, IsLeft}
+use Rattle.group_index.specs.Laws.{HasAll, entry_at, given, own_entry}
 use Rattle.group_index.proofs.GroupFacts.{equal_ids, same_ids, both_true, both_so, clash, isnt, found_in, is_entry_parts}
-
--- the set of the groups of an index
-abbrev pub set_of : GroupsMade → KeyedGroups → GroupSet
-set_of made groups = record { made = made; entries = entries_in groups.pairs; dirty = groups.marked }
-
--- the tuple has the attributes
-abbrev pub HasAll : GroupsMade → List ℕ → Type 0
-HasAll made ids = IsWide (made.dependency.a ∷ made.dependency.x) ids
 
 pub wide_from : (made : GroupsMade) (groups : KeyedGroups) (s : GroupSet) (table : ℕ) (ids : List ℕ) → set_of made groups ≡ s → table ≡ made.table → IsWide (attributes_of s.made table) ids → HasAll made ids
 wide_from made groups s table ids view is wide = of (table == made.table) (grind (arith, nat_tests)) (subst (λ (r : GroupSet). IsWide (attributes_of r.made table) ids) (sym view) wide)
@@ -32,26 +21,6 @@ wide_from made groups s table ids view is wide = of (table == made.table) (grind
     of false at all = absurd (cc)
 
 -- ---- the entry of a row
-
-abbrev pub entry_at : GroupsMade → ℕ → List ℕ → Entry ℕ
-entry_at made row ids = record { x = ids_at ids made.dependency.x; a = slice_index ids made.dependency.a; row = row }
-
-there : (ids : List ℕ) (i : ℕ) → i < length ids → slice_get ids i ≡ Some (slice_index ids i)
-there ids i within = slice_get-get_or ids i 0 within
-
-values_there : (ids x : List ℕ) → All (λ attribute. attribute < length ids) x → values_at ids x ≡ Some (ids_at ids x)
-values_there ids [] wide = refl
-values_there ids (i ∷ is) wide =
-    rw (there ids i (All-head (λ attribute. attribute < length ids) i is wide), values_there ids is (All-tail (λ attribute. attribute < length ids) i is wide)) refl
-
-pub entry_there : (made : GroupsMade) (row : ℕ) (ids : List ℕ) → HasAll made ids → entry_of made.dependency (row, ids) ≡ Some (entry_at made row ids)
-entry_there made row ids wide =
-    rw (values_there ids made.dependency.x (All-tail (λ attribute. attribute < length ids) made.dependency.a made.dependency.x wide), there ids made.dependency.a (All-head (λ attribute. attribute < length ids) made.dependency.a made.dependency.x wide)) refl
-
-pub given : (made : GroupsMade) (table row : ℕ) (ids : List ℕ) → table ≡ made.table → HasAll made ids → (e : Entry ℕ) → gives_entry made table row ids e ≡ is_entry (entry_at made row ids) e
-given made table row ids is wide e =
-    let at : (table == made.table) ≡ true = grind (arith, nat_tests) in
-    ap (λ b. b && gives nat_eq made.dependency row ids e) at ∙ ap (λ o. option_map_or (λ own. is_entry own e) o false) (entry_there made row ids wide)
 
 -- tuples that agree give one entry
 same_entries : (made : GroupsMade) (row : ℕ) (one other : List ℕ) → gives_alike one other made.dependency.x made.dependency.a ≡ true → entry_at made row one ≡ entry_at made row other
@@ -73,13 +42,6 @@ alike_from made row one other e first second =
 
 row_of_entry : (made : GroupsMade) (row : ℕ) (ids : List ℕ) (e : Entry ℕ) → is_entry (entry_at made row ids) e ≡ true → e.row ≡ row
 row_of_entry made row ids e is = let pair = (both_true (e.a == slice_index ids made.dependency.a) (e.row == row) (is_entry_parts (entry_at made row ids) e is).pair).1 in grind (arith, nat_tests, pair)
-
--- the row's own entry is one
-pub own_entry : (entry : Entry ℕ) → is_entry entry entry ≡ true
-own_entry entry =
-    let a : nat_eq entry.a entry.a ≡ true = grind (arith, nat_tests) in
-    let row : (entry.row == entry.row) ≡ true = grind (arith, nat_tests) in
-    rw (same_ids entry.x entry.x refl, a, row) refl
 
 module _ (made : GroupsMade) (old : KeyedGroups) (s : GroupSet) (table row : ℕ) (view : set_of made old ≡ s) (is : table ≡ made.table) where
   -- what is said of the groups is said of the set

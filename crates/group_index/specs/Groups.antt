@@ -1,5 +1,5 @@
 -- How an index keeps its groups: a map from the ids on X to a group, in which the dirty groups are marked.
-use Rattle.std.specs.Prelude.{◌≡◌, ◌≢◌, ℕ, ◌<◌, ◌≤◌, Bool, false, ◌&&◌, ◌||◌, not, List, [], ◌∷◌, map, length, Some, slice_get, IsTrue, vec_capacity}
+use Rattle.std.specs.Prelude.{◌≡◌, ◌≢◌, ℕ, ◌<◌, ◌≤◌, Bool, false, ◌&&◌, ◌||◌, not, List, [], ◌∷◌, map, length, Option, Some, slice_get, IsTrue, vec_capacity}
 use Rattle.std.specs.List.{flat_map, list_any}
 use Rattle.std.specs.declared.vec.Vec.{Vec}
 use Rattle.std.specs.declared.alloc.Global.{Global}
@@ -8,7 +8,8 @@ use Rattle.cfd_semantics.specs.declared.dependency.TableauRow.{TableauRow}
 use Rattle.cfd_semantics.specs.declared.dependency.Dependency.{Dependency}
 use Rattle.cfd_semantics.specs.Violation.{Entry}
 use Rattle.group_index.specs.declared.group.Group.{Group}
-use Rattle.group_index.specs.GroupSet.{is_entry}
+use Rattle.group_index.specs.GroupSet.{GroupsMade, GroupSet, is_entry}
+use Rattle.group_index.specs.Answers.{IsPartnerOf}
 use Rattle.group_index.specs.Pairs.{pairs_of, is_dirty}
 
 -- a key with its group, and all of them
@@ -60,3 +61,11 @@ abbrev pub AreMarkedBut : List (TableauRow ℕ) → KeyedGroups → ℕ → Type
 AreMarkedBut rows groups but =
     ((place : ℕ) (at : KeyedGroup) → place ≢ but → place < groups.marked → slice_get groups.pairs place ≡ Some at → IsTrue (is_dirty_at rows at))
     × ((place : ℕ) (at : KeyedGroup) → place ≢ but → groups.marked ≤ place → slice_get groups.pairs place ≡ Some at → is_dirty_at rows at ≡ false)
+
+-- the set of the groups of an index
+abbrev pub set_of : GroupsMade → KeyedGroups → GroupSet
+set_of made groups = record { made = made; entries = entries_in groups.pairs; dirty = groups.marked }
+
+-- the least partner of an entry with these ids on X and this A id, or that it has none
+abbrev pub IsPartnerIn : KeyedGroups → TableauRow ℕ → List ℕ → ℕ → Option ℕ → Type 0
+IsPartnerIn groups t x a partner = (made : GroupsMade) (row : ℕ) → IsPartnerOf (set_of made groups) t (record { x = x; a = a; row = row }) partner

@@ -3,11 +3,12 @@ ghost use Rattle.std.specs.Prelude.{◌≡◌, ◌+◌, ◌<◌, ◌≤◌, ◌&
 ghost use Rattle.std.specs.List.{list_any};
 ghost use Rattle.cfd_semantics.specs.Pattern.{matches, all_match};
 ghost use Rattle.group_index.specs.Pairs.{pairs_of, is_dirty};
-ghost use Rattle.group_index.specs.Groups.{AreMarked, AreMarkedBut, IsEntered, IsLeft, HoldTheSame};
+ghost use Rattle.group_index.specs.Groups.{AreMarked, AreMarkedBut, IsEntered, IsLeft, HoldTheSame, IsPartnerIn};
 
 use crate::group::Group;
 use crate::index::IdRow;
 use crate::key::matches_all;
+use crate::leads::Leads;
 use marked_map::MarkedMap;
 use probe_steps::Steps;
 use row_store::RowId;
@@ -60,6 +61,27 @@ pub(crate) fn take_entry<L: Ledger>(
             settle(groups, rows, place);
         }
     }
+}
+
+/// The least row with which an entry makes a pair violation of a tableau row, in one probe.
+pub(crate) fn least_partner<L: Ledger>(
+    groups: &Groups,
+    row: &IdRow,
+    key: &Vec<ValueId>,
+    a: ValueId,
+    steps: &mut Steps<L>,
+) -> Option<RowId>
+    ensures partner { IsPartnerIn groups.now row.now key.now.items a result }
+    ensures probes { steps.new ≤ steps.old + 1 }
+{
+    if !matches_all(row.x.as_slice(), key.as_slice()) {
+        return None;
+    }
+    if !row.a.matches(&a) {
+        return None;
+    }
+    let place = groups.find(key, steps)?;
+    Leads::of(groups.value_at(place), &row.a).partner_of(a)
 }
 
 // Marks the group at the place where it is dirty, and takes its mark off where it isn't.

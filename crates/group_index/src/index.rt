@@ -7,9 +7,8 @@ ghost use Rattle.group_index.specs.GroupSet.{GroupSet, GroupsMade, holds_entry, 
 ghost use Rattle.group_index.specs.Laws.{gives_names_row, needed_where_given};
 ghost use Rattle.group_index.specs.Answers.{AreDirty, IsSettled, AreViolationsOf, AreThoseOfTheList, IsPartnerOfRow};
 
-use crate::groups::{Groups, put_entry, take_entry};
+use crate::groups::{Groups, least_partner, put_entry, take_entry};
 use crate::key::{make_room, matches_all, same_entry, write_key};
-use crate::leads::Leads;
 use crate::violations::push_violations;
 use cfd_semantics::{Dependency, Pattern, TableauRow, Violation};
 use marked_map::MarkedMap;
@@ -122,18 +121,12 @@ impl GroupIndex {
         ensures probes { steps.new ≤ steps.old + 1 }
     {
         let _ = row;
-        let cells = &self.dependency.rows.as_slice()[k];
-        let a = tuple.as_slice()[self.dependency.a];
+        let tableau_row = &self.dependency.rows.as_slice()[k];
         let x = self.dependency.x.as_slice();
         let mut key = Vec::with_capacity(*self.key.allocator(), x.len())?;
         write_key(&mut key, tuple, x);
-        if !matches_all(cells.x.as_slice(), key.as_slice()) || !cells.a.matches(&a) {
-            return Ok(None);
-        }
-        Ok(match self.groups.find(&key, steps) {
-            Some(place) => Leads::of(self.groups.value_at(place), &cells.a).partner_of(a),
-            None => None,
-        })
+        let a = tuple.as_slice()[self.dependency.a];
+        Ok(least_partner(&self.groups, tableau_row, &key, a, steps))
     }
 }
 

@@ -1,7 +1,8 @@
 //! The partners of the rows of a group. Among the A ids that match a cell, one has the least row of all: that row is the
 //! least partner of every row with another A id, and the rows of that A id share the least row of the others. So two rows
 //! tell the partners of all, and no row is compared with another.
-ghost use Rattle.std.specs.Prelude.{◌≡◌};
+ghost use Rattle.std.specs.Prelude.{◌≡◌, cond, nat_eq};
+ghost use Rattle.cfd_semantics.specs.Pattern.{matches};
 ghost use Rattle.group_index.specs.Pairs.{pairs_of};
 ghost use Rattle.group_index.specs.Leads.{AreLeads, IsAmong, first_with, second_with, partner_by};
 
@@ -28,15 +29,24 @@ impl Leads {
         };
         let mut head = group.next_head(None);
         while let Some((a, row)) = head {
-            if cell.matches(&a) {
-                leads = leads.with(a, row);
-            }
+            leads = leads.with_head(cell, a, row);
             head = group.next_head(Some(a));
         }
         leads
     }
 
-    // With one more A id and its least row.
+    // With one more A id and its least row, where it matches.
+    fn with_head(self, cell: &IdCell, a: ValueId, row: RowId) -> Leads
+        ensures first { result.first ≡ cond (matches nat_eq cell.now a) (first_with self.first a row) self.first }
+        ensures second { result.second ≡ cond (matches nat_eq cell.now a) (second_with self.first self.second row) self.second }
+    {
+        if cell.matches(&a) {
+            self.with(a, row)
+        } else {
+            self
+        }
+    }
+
     fn with(self, a: ValueId, row: RowId) -> Leads
         ensures first { result.first ≡ first_with self.first a row }
         ensures second { result.second ≡ second_with self.first self.second row }

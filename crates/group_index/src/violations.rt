@@ -1,5 +1,5 @@
 //! The violations of a tableau row in one group that matches it on X.
-ghost use Rattle.std.specs.Prelude.{◌≡◌, ◌≢◌, ◌++◌, AllPairs, filter_map, OnOk};
+ghost use Rattle.std.specs.Prelude.{◌≡◌, ◌++◌, filter_map, OnOk};
 ghost use Rattle.std.specs.Option.{option_to_list};
 ghost use Rattle.group_index.specs.Leads.{AddsListed, listed_by};
 ghost use Rattle.group_index.specs.Pairs.{pairs_of};
@@ -25,7 +25,11 @@ pub(crate) fn push_violations(
     let leads = Leads::of(group, cell);
     match group {
         Group::One(a, row) => push_listed(found, cell, &leads, *a, *row),
-        Group::Many(pairs) => push_all_listed(found, cell, &leads, pairs),
+        Group::Many(pairs) => {
+            // The length is what says that the pairs stand in order.
+            let _len = pairs.len();
+            push_all_listed(found, cell, &leads, pairs)
+        }
     }
 }
 
@@ -35,8 +39,7 @@ fn push_all_listed(
     leads: &Leads,
     pairs: &BTreeSet<(ValueId, RowId)>,
 ) -> Result<(), AllocError>
-    ensures ok { OnOk result (found.new.items ≡ found.old.items ++ filter_map (listed_by cell.now leads.now.first leads.now.second) pairs.now.keys) }
-    ensures once { AllPairs (λ p q. p ≢ q) pairs.now.keys }
+    ensures { OnOk result (found.new.items ≡ found.old.items ++ filter_map (listed_by cell.now leads.now.first leads.now.second) pairs.now.keys) }
 {
     for pair in pairs {
         push_listed(found, cell, leads, pair.0, pair.1)?;

@@ -8,7 +8,7 @@ use Rattle.cfd_semantics.specs.Violation.{Entry}
 use Rattle.group_index.specs.GroupSet.{GroupsMade}
 use Rattle.group_index.specs.Keys.{ids_at, gives_alike}
 use Rattle.group_index.proofs.AnswerFacts.{put_answer}
-use Rattle.group_index.proofs.WatchFacts.{HasAll, wide_from, added, added_already}
+use Rattle.group_index.proofs.WatchFacts.{wide_from, added, added_already}
 use Rattle.group_index.proofs.index.GroupIndexWatch.add.Goals as goal
 
 pub same_entry-requires-clause-wide_one : goal.same_entry-requires-clause-wide_one

@@ -5,7 +5,7 @@ use Rattle.std.proofs.lemmas.List.Elements.{All-tail}
 use Rattle.row_store.specs.Tuple.{ids_of, ids_behind}
 use Rattle.group_index.specs.GroupSet.{GroupsMade}
 use Rattle.group_index.specs.Keys.{ids_at, gives_alike}
-use Rattle.group_index.proofs.WatchFacts.{HasAll, wide_from, some_group, removed, removed_already}
+use Rattle.group_index.proofs.WatchFacts.{wide_from, some_group, removed, removed_already}
 use Rattle.group_index.proofs.index.GroupIndexWatch.remove.Goals as goal
 
 pub same_entry-requires-clause-wide_one : goal.same_entry-requires-clause-wide_one
