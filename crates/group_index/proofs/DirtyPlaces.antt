@@ -150,7 +150,7 @@ all_apart x (suc m) [] apart = tt
 all_apart x (suc m) (g ∷ gs) apart = (apart 0 g (omega arith) refl, all_apart x m gs (λ place h below at. apart (suc place) h (omega (arith, below)) at))
 
 once : (m : ℕ) (gs : List KeyedGroup) → ((i j : ℕ) (g h : KeyedGroup) → slice_get gs i ≡ Some g → slice_get gs j ≡ Some h → same_values nat_eq g.0.items h.0.items ≡ true → i ≡ j) → IsDistinct (same_values nat_eq) (firsts m gs)
-unfolding firsts, IsDistinct
+unfolding firsts IsDistinct
 once zero gs distinct = tt
 once (suc m) [] distinct = tt
 once (suc m) (g ∷ gs) distinct = (

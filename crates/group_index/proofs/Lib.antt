@@ -9,3 +9,4 @@ pub mod LeadFacts
 pub mod PartnerFacts
 pub mod ListedFacts
 pub mod DirtyPlaces
+pub mod CollectFacts

@@ -49,6 +49,9 @@ adds_listed cell group pairs first second old new is leads ordered added = recor
   is = added ∙ ap (λ g. old ++ filter_map (listed_by cell first second) (pairs_of g)) (sym is);
 }
 
+abbrev with_partner : Pair → ℕ → Violation
+with_partner p partner = record { row = p.1; partner = Some partner }
+
 module _ (made : GroupsMade) (groups : KeyedGroups) (distinct : AreDistinct same_key groups) (t : TableauRow ℕ) (place : ℕ) (key : Vec ℕ Global) (v : Group) (at : slice_get groups.pairs place ≡ Some (key, v))
     (matched : all_match nat_eq t.x key.items ≡ true) (first : Option Pair) (second : Option ℕ) (leads : AreLeads t.a (IsAmong (pairs_of v)) first second) where
   partner_is : (p : Pair) → matches nat_eq t.a p.0 ≡ true → IsPartnerOf (set_of made groups) t (entry_in key p) (partner_by first second p.0)
@@ -78,10 +81,9 @@ module _ (made : GroupsMade) (groups : KeyedGroups) (distinct : AreDistinct same
   listed_where p None single = rw (single_parts nat_eq t (entry_in key p) single).a refl
   listed_where p (Some row) least =
       let does = (pair_parts nat_eq t (entry_in key p) least.partner.0 least.partner.1.pair).a in
-      ap (λ b. cond b (option_map (λ partner. record { row = p.1; partner = Some partner }) (partner_by first second p.0)) (Some (record { row = p.1; partner = None }))) does
-      ∙ of (partner_by first second p.0) (partner_is p does)
+      rw does (of (partner_by first second p.0) (partner_is p does))
     where
-      of : (o : Option ℕ) → IsPartnerOf (set_of made groups) t (entry_in key p) o → option_map (λ partner. record { row = p.1; partner = Some partner }) o ≡ Some (record { row = p.1; partner = Some row })
+      of : (o : Option ℕ) → IsPartnerOf (set_of made groups) t (entry_in key p) o → option_map (with_partner p) o ≡ Some (with_partner p row)
       of None none = absurd (none least.partner.0 least.partner.1)
       of (Some other) is =
           let below = is.least least.partner.0 least.partner.1 in
@@ -89,4 +91,4 @@ module _ (made : GroupsMade) (groups : KeyedGroups) (distinct : AreDistinct same
           let one = least.partner.2 in
           let two = is.partner.2 in
           let same : other ≡ row = omega (arith, below, above, one, two) in
-          ap (λ n. Some (record { row = p.1; partner = Some n })) same
+          ap (λ n. Some (with_partner p n)) same

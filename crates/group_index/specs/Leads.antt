@@ -1,10 +1,14 @@
 -- The partners of the rows of a group, told from the least rows of two of its A ids.
-use Rattle.std.specs.Prelude.{◌≡◌, ◌≢◌, ℕ, ◌≤◌, Bool, cond, min, nat_eq, nat_lt, List, ◌++◌, AllPairs, Contains, Option, Some, None, filter_map, IsTrue}
+use Rattle.std.specs.Prelude.{◌≡◌, ◌≢◌, ℕ, ◌≤◌, ◌↔◌, ◌⊎◌, Bool, false, map, cond, min, nat_eq, nat_lt, List, ◌++◌, AllPairs, Contains, Option, Some, None, filter_map, IsTrue}
 use Rattle.std.specs.Option.{option_map, option_map_or}
 use Rattle.cfd_semantics.specs.declared.pattern.Pattern.{Pattern}
 use Rattle.cfd_semantics.specs.declared.violation.Violation.{Violation}
-use Rattle.cfd_semantics.specs.Pattern.{matches}
+use Rattle.cfd_semantics.specs.declared.dependency.TableauRow.{TableauRow}
+use Rattle.cfd_semantics.specs.Pattern.{matches, all_match}
+use Rattle.cfd_semantics.specs.EntrySets.{IsViolation}
+use Rattle.std.specs.List.{IsDistinct}
 use Rattle.group_index.specs.Pairs.{Pair}
+use Rattle.group_index.specs.Groups.{KeyedGroups, is_in}
 
 -- Among pairs that are told by `among`: the row is the least of those whose A id matches the cell.
 abbrev pub IsLeastRow : Pattern ℕ → (Pair → Type 0) → ℕ → Type 0
@@ -53,3 +57,12 @@ pub record AddsListed (cell : Pattern ℕ) (pairs : List Pair) (old new : List V
   pub leads : AreLeads cell (IsAmong pairs) first second
   pub once : AllPairs (λ p q. p ≢ q) pairs
   pub is : new ≡ old ++ filter_map (listed_by cell first second) pairs
+
+-- the same where the key of the group matches the tableau row, and nothing where it doesn't
+abbrev pub AddsMatching : TableauRow ℕ → List ℕ → List Pair → List Violation → List Violation → Type 0
+AddsMatching t x pairs old new = (IsTrue (all_match nat_eq t.x x) × AddsListed t.a pairs old new) ⊎ ((all_match nat_eq t.x x ≡ false) × (new ≡ old))
+
+-- the violations of the tableau row in the groups, in any order, and no row twice
+pub record AreCollected (t : TableauRow ℕ) (groups : KeyedGroups) (found : List Violation) : Type 0 where
+  pub exactly : (v : Violation) → Contains found v ↔ IsViolation nat_eq t (is_in groups.pairs) v
+  pub once : IsDistinct nat_eq (map (λ (v : Violation). v.row) found)

@@ -8,8 +8,8 @@ ghost use Rattle.group_index.specs.Laws.{gives_names_row, needed_where_given};
 ghost use Rattle.group_index.specs.Answers.{AreDirty, IsSettled, AreViolationsOf, AreThoseOfTheList, IsPartnerOfRow};
 
 use crate::groups::{Groups, least_partner, put_entry, take_entry};
-use crate::key::{make_room, matches_all, same_entry, write_key};
-use crate::violations::push_violations;
+use crate::key::{make_room, same_entry, write_key};
+use crate::violations::collect;
 use cfd_semantics::{Dependency, Pattern, TableauRow, Violation};
 use marked_map::MarkedMap;
 use probe_steps::Steps;
@@ -95,14 +95,8 @@ impl GroupIndex {
         ensures list { IfOk result (AreThoseOfTheList self.now k) }
         ensures probes { steps.new ≤ steps.old + self.now.dirty }
     {
-        let row = &self.dependency.rows.as_slice()[k];
-        let mut found = Vec::new(*self.key.allocator());
-        for place in 0..self.groups.marked() {
-            steps.tick();
-            if matches_all(row.x.as_slice(), self.groups.key_at(place).as_slice()) {
-                push_violations(&mut found, &row.a, self.groups.value_at(place))?;
-            }
-        }
+        let rows = self.dependency.rows.as_slice();
+        let mut found = collect(*self.key.allocator(), &self.groups, rows, k, steps)?;
         found.sort_unstable_by_key(|violation| violation.row);
         Ok(List::from(found))
     }
