@@ -1,11 +1,11 @@
 -- The partners of an entry are pairs of its own group.
-use Rattle.std.proofs.Common.{◌≡◌, ◌≢◌, ℕ, ◌≤◌, Bool, true, false, ◌&&◌, List, slice_get, Option, Some, None, refl, sym, ap, ◌∙◌, arith}
-use Rattle.std.specs.Prelude.{nat_eq, Contains}
+use Rattle.std.proofs.Common.{◌≡◌, ◌≢◌, ℕ, ◌<◌, ◌≤◌, Bool, true, false, ◌&&◌, List, length, get_or, slice_get, Option, Some, None, refl, sym, ap, ◌∙◌, subst, arith}
+use Rattle.std.specs.Prelude.{nat_eq, slice_index, Contains}
 use Rattle.std.specs.Str.{bytes_eq}
 use Rattle.std.specs.declared.vec.Vec.{Vec}
 use Rattle.std.specs.declared.alloc.Global.{Global}
 use Rattle.std.proofs.lemmas.Bool.Decides.{nat_tests}
-use Rattle.std.proofs.lemmas.Option.{same_Some}
+use Rattle.std.proofs.lemmas.Option.{same_Some, slice_get-get_or}
 use Rattle.marked_map.specs.MarkedMap.{IsAbsent, AreDistinct}
 use Rattle.cfd_semantics.specs.declared.dependency.TableauRow.{TableauRow}
 use Rattle.cfd_semantics.specs.Pattern.{matches, all_match}
@@ -13,10 +13,12 @@ use Rattle.cfd_semantics.specs.Violation.{Entry}
 use Rattle.cfd_semantics.specs.EntrySets.{IsPartner}
 use Rattle.cfd_semantics.proofs.Parts.{pair_parts, pair_from_parts}
 use Rattle.group_index.specs.declared.group.Group.{Group}
-use Rattle.group_index.specs.GroupSet.{GroupsMade}
-use Rattle.group_index.specs.Answers.{IsPartnerOf}
+use Rattle.group_index.specs.GroupSet.{GroupsMade, GroupSet}
+use Rattle.group_index.specs.Answers.{IsPartnerOf, IsPartnerOfRow}
+use Rattle.group_index.specs.Keys.{ids_at}
+use Rattle.group_index.specs.Laws.{HasAll, entry_at, entry_there}
 use Rattle.group_index.specs.Pairs.{Pair, pairs_of, has_pair}
-use Rattle.group_index.specs.Groups.{KeyedGroup, KeyedGroups, set_of, is_in}
+use Rattle.group_index.specs.Groups.{KeyedGroup, KeyedGroups, set_of, is_in, IsPartnerIn}
 use Rattle.group_index.specs.Leads.{IsLeastOther, IsAmong}
 use Rattle.group_index.proofs.PairFacts.{has_from, member_from}
 use Rattle.group_index.proofs.GroupFacts.{same_key, equal_ids, same_ids, both_true, both_so, clash, isnt, found_in, is_in_from, key_at}
@@ -90,3 +92,16 @@ first_false a b is = ap (λ c. c && b) is
 pub second_false : (a b : Bool) → b ≡ false → (a && b) ≡ false
 second_false true b is = is
 second_false false b is = refl
+
+-- ---- the partner of a row, and the tableau row with a number
+
+pub row_at : (rows : List (TableauRow ℕ)) (k : ℕ) (r t : TableauRow ℕ) → r ≡ get_or rows k r → k < length rows → slice_get rows k ≡ Some t → r ≡ t
+row_at rows k r t at within is = at ∙ same_Some (get_or rows k r) t (sym (slice_get-get_or rows k r within) ∙ is)
+
+pub partner_of_row : (made : GroupsMade) (groups : KeyedGroups) (s : GroupSet) (k row : ℕ) (ids key : List ℕ) (a : ℕ) (r : TableauRow ℕ) (o : Option ℕ) → set_of made groups ≡ s → HasAll made ids → key ≡ ids_at ids made.dependency.x → a ≡ slice_index ids made.dependency.a
+    → r ≡ get_or made.dependency.rows k r → k < length made.dependency.rows → IsPartnerIn groups r key a o → IsPartnerOfRow s k row ids o
+partner_of_row made groups s k row ids key a r o view wide own_key own_a at within partner =
+    subst (λ (u : GroupSet). IsPartnerOfRow u k row ids o) view (λ t e is own.
+    let entry : entry_at made row ids ≡ e = same_Some (entry_at made row ids) e (sym (entry_there made row ids wide) ∙ own) in
+    let same : ◌≡◌ {A = Entry ℕ} (record { x = key; a = a; row = row }) e = (λ i. record { x = own_key i; a = own_a i; row = row }) ∙ entry in
+    subst (λ (f : Entry ℕ). IsPartnerOf (set_of made groups) t f o) same (subst (λ (u : TableauRow ℕ). IsPartnerOf (set_of made groups) u (record { x = key; a = a; row = row }) o) (row_at made.dependency.rows k r t at within is) (partner made row)))
