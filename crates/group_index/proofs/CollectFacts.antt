@@ -163,7 +163,6 @@ module _ (groups : KeyedGroups) (distinct : AreDistinct same_key groups) (t : Ta
       listed_all : all_match nat_eq t.x key.items ≡ true → AddsListed t.a (pairs_of v) old new → ListedSoFar groups t (i + 1) new
       listed_all matched adds = subst (ListedSoFar groups t (i + 1)) (sym adds.is) (record { from = from; all = all; apart = apart })
         where
-
           from : (w : Violation) → Contains (old ++ filter_map (listed_by t.a adds.first adds.second) (pairs_of v)) w → ListedAt groups t (i + 1) w
           from w inside = elim (contains_either old (filter_map (listed_by t.a adds.first adds.second) (pairs_of v)) w inside) [
             | inl before ↦ longer groups t i w (so_far.from w before)

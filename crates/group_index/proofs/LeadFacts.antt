@@ -33,13 +33,13 @@ module _ (cell : Pattern ℕ) (among among' : Pair → Type 0) (a row : ℕ) (ke
       )
       others past (Some r) least = elim (cases (min row r ≡ row) (min row r ≡ r) (either row r)) [
         | inl is ↦ (
-            (a, subst (λ n. among' (a, n)) (sym is) here, does, λ same. fresh first leads.0 (sym same)),
-            λ p inside match apart. elim (parts p inside) [ inl before ↦ let low = least.1 p before match apart in omega (arith, low, is) | inr own ↦ omega (arith, own.1, is) ],
-          )
+          (a, subst (λ n. among' (a, n)) (sym is) here, does, λ same. fresh first leads.0 (sym same)),
+          λ p inside match apart. elim (parts p inside) [ inl before ↦ let low = least.1 p before match apart in omega (arith, low, is) | inr own ↦ omega (arith, own.1, is) ],
+        )
         | inr is ↦ (
-            (least.0.0, subst (λ n. among' (least.0.0, n)) (sym is) (kept (least.0.0, r) least.0.1), least.0.2, least.0.3),
-            λ p inside match apart. elim (parts p inside) [ inl before ↦ let low = least.1 p before match apart in omega (arith, low, is) | inr own ↦ omega (arith, own.1, is) ],
-          )
+          (least.0.0, subst (λ n. among' (least.0.0, n)) (sym is) (kept (least.0.0, r) least.0.1), least.0.2, least.0.3),
+          λ p inside match apart. elim (parts p inside) [ inl before ↦ let low = least.1 p before match apart in omega (arith, low, is) | inr own ↦ omega (arith, own.1, is) ],
+        )
       ]
         where
           either : (m n : ℕ) → (min m n ≡ m) ⊎ (min m n ≡ n)

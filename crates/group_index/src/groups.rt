@@ -118,6 +118,5 @@ fn is_dirty(rows: &[IdRow], x: &[ValueId], group: &Group) -> bool
 fn some_disagrees(rows: &[IdRow], x: &[ValueId], a: ValueId, mixed: bool) -> bool
     ensures { result ≡ list_any (λ t. all_match nat_eq t.x x.now && (mixed || not (matches nat_eq t.a a))) rows.now }
 {
-    rows.iter()
-        .any(|row| matches_all(row.x.as_slice(), x) && (mixed || !row.a.matches(&a)))
+    rows.iter().any(|row| matches_all(row.x.as_slice(), x) && (mixed || !row.a.matches(&a)))
 }
