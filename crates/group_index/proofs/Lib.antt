@@ -1,0 +1,12 @@
+pub mod KeyFacts
+pub mod PairFacts
+pub mod GroupFacts
+pub mod MarkFacts
+pub mod RemovedFacts
+pub mod AnswerFacts
+pub mod WatchFacts
+pub mod LeadFacts
+pub mod PartnerFacts
+pub mod ListedFacts
+pub mod DirtyPlaces
+pub mod CollectFacts

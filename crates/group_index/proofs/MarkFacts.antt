@@ -1,0 +1,147 @@
+-- The marked groups are the dirty ones: what a change of one group, a mark and a removal leave of that.
+use Rattle.std.proofs.Common.{◌≡◌, ◌≢◌, ℕ, zero, suc, ◌+◌, ◌-◌, ◌<◌, ◌≤◌, ◌⊎◌, Bool, true, false, List, [], ◌∷◌, ◌++◌, length, slice_get, swap, Option, Some, None, refl, sym, ap, ◌∙◌, subst, inl, inr, arith, length-append}
+use Rattle.std.specs.Map.{keys_of, values_of}
+use Rattle.std.specs.declared.vec.Vec.{Vec}
+use Rattle.std.specs.declared.alloc.Global.{Global}
+use Rattle.std.proofs.lemmas.Bool.{cases_lt, cases_eq}
+use Rattle.std.proofs.lemmas.Option.{same_Some, slice_get_within}
+use Rattle.marked_map.specs.MarkedMap.{MarkedPairs, with_mark, without_mark, IsAbsent, IsMarked, IsUnmarked, Enters, KeepsOthers}
+use Rattle.marked_map.proofs.MarkedMapLemmas.{slice_get-swap_to, slice_get-swap_from, slice_get-swap_else}
+use Rattle.cfd_semantics.specs.declared.dependency.TableauRow.{TableauRow}
+use Rattle.cfd_semantics.specs.Violation.{Entry}
+use Rattle.group_index.specs.declared.group.Group.{Group}
+use Rattle.group_index.specs.declared.group.Group.TheVariants.{One}
+use Rattle.group_index.specs.Groups.{KeyedGroup, KeyedGroups, is_in, is_dirty_at, AreMarked, AreMarkedBut}
+use Rattle.group_index.proofs.GroupFacts.{same_key, same_test, holds_at, found_in, is_in_from, key_at, set_value_at, set_elsewhere, pushed_before}
+
+module _ (rows : List (TableauRow ℕ)) where
+  -- ---- a mark is put, or taken off
+
+  module _ (old new : KeyedGroups) (place : ℕ) (group : KeyedGroup) (others : AreMarkedBut rows old place) (at : slice_get old.pairs place ≡ Some group) where
+    within : place < length old.pairs
+    within = slice_get_within old.pairs place group at
+
+    pub marked_where_dirty : is_dirty_at rows group ≡ true → (place < old.marked → new ≡ old) → (old.marked ≤ place → new ≡ with_mark old place) → AreMarked rows new
+    marked_where_dirty dirty already marks = elim (cases_lt place old.marked) [
+      | inl low ↦ subst (AreMarked rows) (sym (already low)) (record {
+        marked = λ i g below stands. elim (cases_eq i place) [
+          | inl same ↦ ap (is_dirty_at rows) (same_Some g group (sym stands ∙ ap (slice_get old.pairs) same ∙ at)) ∙ dirty
+          | inr apart ↦ others.0 i g apart below stands
+        ];
+        unmarked = λ i g past stands. others.1 i g (λ same. absurd (omega (arith, same, past, low))) past stands;
+      })
+      | inr high ↦ subst (AreMarked rows) (sym (marks high)) (record {
+        marked = λ i g below stands. elim (cases_eq i old.marked) [
+          | inl same ↦ ap (is_dirty_at rows) (same_Some g group (sym stands ∙ ap (slice_get (swap old.pairs place old.marked)) same ∙ slice_get-swap_to old.pairs place old.marked within (omega (arith, within, high)) ∙ at)) ∙ dirty
+          | inr apart ↦
+              let low : i < old.marked = omega (arith, apart, below) in
+              let not_place : i ≢ place = λ same. absurd (omega (arith, same, low, high)) in
+              others.0 i g not_place low (sym (slice_get-swap_else old.pairs place old.marked i within (omega (arith, within, high)) not_place apart) ∙ stands)
+        ];
+        unmarked = λ i g past stands. elim (cases_eq i place) [
+          | inl same ↦
+              others.1 old.marked g (λ equal. absurd (omega (arith, same, equal, past))) (omega arith)
+              (sym (slice_get-swap_from old.pairs place old.marked within (omega (arith, within, high))) ∙ ap (slice_get (swap old.pairs place old.marked)) (sym same) ∙ stands)
+          | inr apart ↦
+              others.1 i g apart (omega (arith, past))
+              (sym (slice_get-swap_else old.pairs place old.marked i within (omega (arith, within, high)) apart (λ same. absurd (omega (arith, same, past)))) ∙ stands)
+        ];
+      })
+    ]
+
+    pub unmarked_where_clean : is_dirty_at rows group ≡ false → (old.marked ≤ place → new ≡ old) → (place < old.marked → new ≡ without_mark old place) → (place < old.marked → old.marked ≤ length old.pairs) → AreMarked rows new
+    unmarked_where_clean clean already unmarks fits = elim (cases_lt place old.marked) [
+      | inr high ↦ subst (AreMarked rows) (sym (already high)) (record {
+        marked = λ i g below stands. others.0 i g (λ same. absurd (omega (arith, same, below, high))) below stands;
+        unmarked = λ i g past stands. elim (cases_eq i place) [
+          | inl same ↦ ap (is_dirty_at rows) (same_Some g group (sym stands ∙ ap (slice_get old.pairs) same ∙ at)) ∙ clean
+          | inr apart ↦ others.1 i g apart past stands
+        ];
+      })
+      | inl low ↦
+          let last : old.marked - 1 < length old.pairs = omega (arith, low, fits low) in
+          subst (AreMarked rows) (sym (unmarks low)) (record {
+            marked = λ i g below stands. elim (cases_eq i place) [
+              | inl same ↦
+                  others.0 (old.marked - 1) g (λ equal. absurd (omega (arith, same, equal, below))) (omega (arith, low))
+                  (sym (slice_get-swap_from old.pairs place (old.marked - 1) within last) ∙ ap (slice_get (swap old.pairs place (old.marked - 1))) (sym same) ∙ stands)
+              | inr apart ↦
+                  others.0 i g apart (omega (arith, below))
+                  (sym (slice_get-swap_else old.pairs place (old.marked - 1) i within last apart (λ same. absurd (omega (arith, same, below)))) ∙ stands)
+            ];
+            unmarked = λ i g past stands. elim (cases_eq i (old.marked - 1)) [
+              | inl same ↦ ap (is_dirty_at rows) (same_Some g group (sym stands ∙ ap (slice_get (swap old.pairs place (old.marked - 1))) same ∙ slice_get-swap_to old.pairs place (old.marked - 1) within last ∙ at)) ∙ clean
+              | inr apart ↦
+                  let high : old.marked ≤ i = omega (arith, apart, past) in
+                  let not_place : i ≢ place = λ same. absurd (omega (arith, same, low, high)) in
+                  others.1 i g not_place high (sym (slice_get-swap_else old.pairs place (old.marked - 1) i within last not_place apart) ∙ stands)
+            ];
+          })
+    ]
+
+  -- ---- one group is entered, or gets other pairs
+
+  pub marked_but_entered : (old mid : KeyedGroups) (key : Vec ℕ Global) (a row place : ℕ) (w : Group) → Enters same_key old key (One a row) place mid → AreMarked rows old → AreMarkedBut rows (record { pairs = set_value_at mid.pairs place w; marked = mid.marked }) place
+  marked_but_entered old mid key a row place w enters are = (
+    (λ i g apart below stands. let own = kept i g apart (sym (set_elsewhere mid.pairs place i w apart) ∙ stands) in are.marked i g (omega (arith, below, same_marked)) own),
+    (λ i g apart past stands. let own = kept i g apart (sym (set_elsewhere mid.pairs place i w apart) ∙ stands) in are.unmarked i g (omega (arith, past, same_marked)) own),
+  )
+    where
+      same_marked : mid.marked ≡ old.marked
+      same_marked = elim enters [ inl found ↦ ap (λ (m : KeyedGroups). m.marked) found.1 | inr new ↦ ap (λ (m : KeyedGroups). m.marked) new.2 ]
+
+      kept : (i : ℕ) (g : KeyedGroup) → i ≢ place → slice_get mid.pairs i ≡ Some g → slice_get old.pairs i ≡ Some g
+      kept i g apart stands = elim enters [
+        | inl found ↦ ap (λ (m : KeyedGroups). slice_get m.pairs i) (sym found.1) ∙ stands
+        | inr new ↦
+            let pushed : mid.pairs ≡ old.pairs ++ (key, One a row) ∷ [] = ap (λ (m : KeyedGroups). m.pairs) new.2 in
+            let among : slice_get (old.pairs ++ (key, One a row) ∷ []) i ≡ Some g = ap (λ ps. slice_get ps i) (sym pushed) ∙ stands in
+            let short = slice_get_within (old.pairs ++ (key, One a row) ∷ []) i g among in
+            let before : i < length old.pairs = omega (arith, short, length-append old.pairs ((key, One a row) ∷ []), apart, new.1) in
+            sym (pushed_before old.pairs (key, One a row) i before) ∙ among
+      ]
+
+  pub marked_but_written : (old : KeyedGroups) (place : ℕ) (w : Group) → AreMarked rows old → AreMarkedBut rows (record { pairs = set_value_at old.pairs place w; marked = old.marked }) place
+  marked_but_written old place w are = (
+    (λ i g apart below stands. are.marked i g below (sym (set_elsewhere old.pairs place i w apart) ∙ stands)),
+    (λ i g apart past stands. are.unmarked i g past (sym (set_elsewhere old.pairs place i w apart) ∙ stands)),
+  )
+
+-- ---- the entries stay where a mark moves groups
+
+content_swapped : (pairs : List KeyedGroup) (i j : ℕ) → i < length pairs → j < length pairs → (e : Entry ℕ) → is_in (swap pairs i j) e ≡ is_in pairs e
+content_swapped pairs i j in_i in_j e = same_test (is_in (swap pairs i j) e) (is_in pairs e) to from
+  where
+    to : is_in (swap pairs i j) e ≡ true → is_in pairs e ≡ true
+    to inside =
+        let it = found_in (swap pairs i j) e inside in
+        elim (cases_eq it.place i) [
+          | inl same ↦ is_in_from pairs e j it.group (sym (slice_get-swap_from pairs i j in_i in_j) ∙ ap (slice_get (swap pairs i j)) (sym same) ∙ it.at) it.holds
+          | inr apart ↦ elim (cases_eq it.place j) [
+            | inl same ↦ is_in_from pairs e i it.group (sym (slice_get-swap_to pairs i j in_i in_j) ∙ ap (slice_get (swap pairs i j)) (sym same) ∙ it.at) it.holds
+            | inr other ↦ is_in_from pairs e it.place it.group (sym (slice_get-swap_else pairs i j it.place in_i in_j apart other) ∙ it.at) it.holds
+          ]
+        ]
+
+    from : is_in pairs e ≡ true → is_in (swap pairs i j) e ≡ true
+    from inside =
+        let it = found_in pairs e inside in
+        elim (cases_eq it.place i) [
+          | inl same ↦ is_in_from (swap pairs i j) e j it.group (slice_get-swap_to pairs i j in_i in_j ∙ ap (slice_get pairs) (sym same) ∙ it.at) it.holds
+          | inr apart ↦ elim (cases_eq it.place j) [
+            | inl same ↦ is_in_from (swap pairs i j) e i it.group (slice_get-swap_from pairs i j in_i in_j ∙ ap (slice_get pairs) (sym same) ∙ it.at) it.holds
+            | inr other ↦ is_in_from (swap pairs i j) e it.place it.group (slice_get-swap_else pairs i j it.place in_i in_j apart other ∙ it.at) it.holds
+          ]
+        ]
+
+pub content_marked : (old new : KeyedGroups) (place : ℕ) → place < length old.pairs → (place < old.marked → new ≡ old) → (old.marked ≤ place → new ≡ with_mark old place) → (e : Entry ℕ) → is_in new.pairs e ≡ is_in old.pairs e
+content_marked old new place within already marks e = elim (cases_lt place old.marked) [
+  | inl low ↦ ap (λ (m : KeyedGroups). is_in m.pairs e) (already low)
+  | inr high ↦ ap (λ (m : KeyedGroups). is_in m.pairs e) (marks high) ∙ content_swapped old.pairs place old.marked within (omega (arith, within, high)) e
+]
+
+pub content_unmarked : (old new : KeyedGroups) (place : ℕ) → place < length old.pairs → (old.marked ≤ place → new ≡ old) → (place < old.marked → new ≡ without_mark old place) → (place < old.marked → old.marked ≤ length old.pairs) → (e : Entry ℕ) → is_in new.pairs e ≡ is_in old.pairs e
+content_unmarked old new place within already unmarks fits e = elim (cases_lt place old.marked) [
+  | inr high ↦ ap (λ (m : KeyedGroups). is_in m.pairs e) (already high)
+  | inl low ↦ ap (λ (m : KeyedGroups). is_in m.pairs e) (unmarks low) ∙ content_swapped old.pairs place (old.marked - 1) within (omega (arith, low, fits low)) e
+]

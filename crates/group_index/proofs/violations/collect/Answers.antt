@@ -1,0 +1,33 @@
+use Rattle.std.proofs.Common.{◌≡◌, ◌≤◌, ◌+◌, get_or, sym, ap, ◌∙◌, subst, arith}
+use Rattle.std.proofs.lemmas.Option.{slice_get-get_or, same_Some}
+use Rattle.cfd_semantics.specs.declared.dependency.TableauRow.{TableauRow}
+use Rattle.group_index.specs.Pairs.{pairs_of}
+use Rattle.group_index.specs.Leads.{AddsMatching}
+use Rattle.group_index.proofs.GroupFacts.{pair_at}
+use Rattle.group_index.proofs.CollectFacts.{ListedSoFar, nothing_listed, listed_more, collected}
+use Rattle.group_index.proofs.violations.collect.Goals as goal
+
+pub loop-place-init : goal.loop-place-init
+loop-place-init g c = record {
+  listed = rw c.new-found.ensures.items (nothing_listed c.args.groups.now c.index-rows-k.result);
+  probes = omega arith;
+}
+
+pub loop-place-preserved : goal.loop-place-preserved
+loop-place-preserved g c =
+    let at = pair_at c.args.groups.now.pairs c.loop-place.place c.key_at.result.now c.value_at.result.now c.key_at.ensures c.value_at.ensures in
+    let adds = subst (λ x. AddsMatching c.index-rows-k.result x (pairs_of c.value_at.result.now) c.loop-place.found.items c.push_matching.new.found.items) c.as_slice-x.ensures.value c.in_ok-push_matching.ensures in
+    record {
+      listed = listed_more c.args.groups.now c.len-len.ensures.distinct c.index-rows-k.result c.requires.settled c.loop-place.place c.key_at.result.now c.value_at.result.now at c.loop-place.found.items c.push_matching.new.found.items c.loop-place.invariant.listed adds;
+      probes = omega (arith, c.tick.ensures, c.loop-place.invariant.probes);
+    }
+
+pub returns-clause-exactly : goal.returns-clause-exactly
+returns-clause-exactly g c t is =
+    let row = c.index-rows-k.result in
+    let same : row ≡ t = c.index-rows-k.is ∙ same_Some (get_or c.args.rows.now c.args.k row) t (sym (slice_get-get_or c.args.rows.now c.args.k row c.requires.row) ∙ is) in
+    let own : get_or c.args.rows.now c.args.k t ≡ t = same_Some (get_or c.args.rows.now c.args.k t) t (sym (slice_get-get_or c.args.rows.now c.args.k t c.requires.row) ∙ is) in
+    let last : c.loop-place.place ≡ c.args.groups.now.marked = omega (arith, c.loop-place-test.false, c.loop-place.auto.place-end, c.marked-place-end.ensures.marked) in
+    let all : ListedSoFar c.args.groups.now t c.args.groups.now.marked c.loop-place.found.items =
+    subst (λ (r : TableauRow _). ListedSoFar c.args.groups.now r c.args.groups.now.marked c.loop-place.found.items) same (subst (λ n. ListedSoFar c.args.groups.now row n c.loop-place.found.items) last c.loop-place.invariant.listed) in
+    collected c.args.groups.now c.len-len.ensures.distinct t c.requires.settled c.args.rows.now c.loop-place.found.items (c.args.k, c.requires.row, own) c.requires.marks all

@@ -1,0 +1,88 @@
+//! The key of a row's group: its ids on X.
+ghost use Rattle.std.specs.Prelude.{◌≡◌, ◌<◌, ◌≤◌, ◌∷◌, false, length, All, OnErr, OnOk, nat_eq, vec_capacity};
+ghost use Rattle.std.specs.Str.{bytes_eq};
+ghost use Rattle.cfd_semantics.specs.Pattern.{all_match};
+ghost use Rattle.std.specs.Option.{option_map_or, ForSome};
+ghost use Rattle.row_store.specs.Tuple.{ids_of, ids_behind};
+ghost use Rattle.row_store.specs.Watch.{IsWide};
+ghost use Rattle.group_index.specs.Keys.{ids_at, gives_alike};
+
+use crate::index::IdCell;
+use row_store::Tuple;
+use std::alloc::AllocError;
+use value_pool::ValueId;
+
+/// Writes the ids of a tuple on X into a list that has the room.
+pub(crate) fn write_key(key: &mut Vec<ValueId>, tuple: &Tuple, x: &[usize])
+    requires room { length x.now ≤ vec_capacity key.old }
+    requires wide { All (λ attribute. attribute < length (ids_of tuple.now)) x.now }
+    ensures ids { key.new.items ≡ ids_at (ids_of tuple.now) x.now }
+    ensures room { vec_capacity key.new ≡ vec_capacity key.old }
+{
+    key.clear();
+    for attribute in x {
+        key.push_reserved(tuple.as_slice()[*attribute]);
+    }
+}
+
+/// Makes room for a key.
+pub(crate) fn make_room(key: &mut Vec<ValueId>, count: usize) -> Result<(), AllocError>
+    ensures ok { OnOk result (count ≤ vec_capacity key.new) }
+    ensures err { OnErr result (key.new ≡ key.old) }
+{
+    if key.capacity() < count {
+        *key = Vec::with_capacity(*key.allocator(), count)?;
+    }
+    Ok(())
+}
+
+/// Whether a row gives the same entry with two tuples, one of which may be missing: they have the same ids on X and on A.
+pub(crate) fn same_entry(one: Option<&Tuple>, other: &Tuple, x: &[usize], a: usize) -> bool
+    requires wide_one { ForSome (ids_behind one) (IsWide (a ∷ x.now)) }
+    requires wide_other { IsWide (a ∷ x.now) (ids_of other.now) }
+    ensures { result ≡ option_map_or (λ ids. gives_alike ids (ids_of other.now) x.now a) (ids_behind one.entry) false }
+{
+    match one {
+        Some(tuple) => alike(tuple, other, x, a),
+        None => false,
+    }
+}
+
+fn alike(one: &Tuple, other: &Tuple, x: &[usize], a: usize) -> bool
+    requires a_one { a < length (ids_of one.now) }
+    requires a_other { a < length (ids_of other.now) }
+    requires wide_one { IsWide x.now (ids_of one.now) }
+    requires wide_other { IsWide x.now (ids_of other.now) }
+    ensures { result ≡ gives_alike (ids_of one.now) (ids_of other.now) x.now a }
+{
+    one.as_slice()[a] == other.as_slice()[a] && agree(one, other, x)
+}
+
+// Whether two tuples have the same ids on X.
+fn agree(one: &Tuple, other: &Tuple, x: &[usize]) -> bool
+    requires wide_one { All (λ attribute. attribute < length (ids_of one.now)) x.now }
+    requires wide_other { All (λ attribute. attribute < length (ids_of other.now)) x.now }
+    ensures { result ≡ bytes_eq (ids_at (ids_of one.now) x.now) (ids_at (ids_of other.now) x.now) }
+{
+    for attribute in x {
+        if one.as_slice()[*attribute] != other.as_slice()[*attribute] {
+            return false;
+        }
+    }
+    true
+}
+
+/// Whether the ids match the cells place by place.
+pub(crate) fn matches_all(cells: &[IdCell], ids: &[ValueId]) -> bool
+    ensures { result ≡ all_match nat_eq cells.now ids.now }
+{
+    if cells.len() != ids.len() {
+        return false;
+    }
+    for (place, id) in ids.iter().enumerate() {
+        if !cells[place].matches(id) {
+            return false;
+        }
+    }
+    true
+}

@@ -1,0 +1,19 @@
+//! The groups of one dependency X -> A: the rows of a table by their ids on X, each group with the A ids of its rows. It
+//! is kept in step with the rows, and knows ids of values and no texts. Contracts see it as the set of the entries that
+//! the rows give, with the number of its dirty groups, those in which some row violates some tableau row.
+//!
+//! A change of a row costs a hash, a look at each tableau row, and a search in an ordered set of its group, however many
+//! rows the group has. The dirty groups are marked, and only they are gone through for the violations.
+#![tactic(auto)]
+
+mod group;
+mod groups;
+mod index;
+mod key;
+mod leads;
+mod violations;
+
+pub use index::{GroupIndex, IdCell, IdRow};
+
+#[cfg(test)]
+mod tests;
