@@ -5,3 +5,5 @@ pub mod Tildes
 pub mod LiteralLists
 pub mod Gathering
 pub mod Counting
+pub mod Anys
+pub mod Meaning
