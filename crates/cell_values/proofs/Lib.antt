@@ -9,3 +9,4 @@ pub mod Anys
 pub mod Meaning
 pub mod Choices
 pub mod ValueFacts
+pub mod ValueOrder
