@@ -4,3 +4,6 @@ pub mod CellLists
 pub mod Asked
 pub mod Rows
 pub mod WellFormed
+pub mod Law
+pub mod ShortTexts
+pub mod Questions

@@ -51,3 +51,16 @@ zip_related R (a ∷ xs) (b ∷ ys) x y (suc k) all within is =
     let rest = zip_related R xs ys x y k all.1 (omega arith) is in
     let there = rest.0 in
     ((suc there.0, omega (arith, there.1), there.2), rest.1)
+
+-- lists of two types that are related place by place
+pub AllZip-long : {X Y : Type 0} (R : X → Y → Type 0) (xs : List X) (ys : List Y) → AllZip R xs ys → length xs ≡ length ys
+AllZip-long R [] [] all = refl
+AllZip-long R [] (y ∷ ys) all = absurd all
+AllZip-long R (x ∷ xs) [] all = absurd all
+AllZip-long R (x ∷ xs) (y ∷ ys) all = ap suc (AllZip-long R xs ys all.1)
+
+pub AllZip-at : {X Y : Type 0} (R : X → Y → Type 0) (xs : List X) (ys : List Y) (k : ℕ) (d : X) (e : Y) → AllZip R xs ys → k < length xs → R (get_or xs k d) (get_or ys k e)
+AllZip-at R [] ys k d e all within = absurd (omega arith)
+AllZip-at R (x ∷ xs) [] k d e all within = absurd all
+AllZip-at R (x ∷ xs) (y ∷ ys) zero d e all within = all.0
+AllZip-at R (x ∷ xs) (y ∷ ys) (suc k) d e all within = AllZip-at R xs ys k d e all.1 (omega arith)

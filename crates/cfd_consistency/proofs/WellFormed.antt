@@ -2,6 +2,8 @@
 use Rattle.std.proofs.Common.{inl, inr, ◌⊎◌, ⊎_elim, ◌≡◌, ℕ, zero, suc, ◌+◌, ◌^◌, ◌<◌, ◌≤◌, Bool, true, false, cond, List, [], ◌∷◌, ◌++◌, length, get_or, Option, Some, Contains, refl, sym, ap, ◌∙◌, subst, arith}
 use Rattle.std.specs.Prelude.{All, map, filter}
 use Rattle.std.specs.List.{AllByRecursion, flat_map, zip}
+use Rattle.std.specs.declared.vec.Vec.{Vec}
+use Rattle.std.specs.declared.alloc.Global.{Global}
 use Rattle.std.specs.Str.{bytes_eq}
 use Rattle.std.proofs.lemmas.List.{get_or_default}
 use Rattle.std.proofs.lemmas.List.Elements.{All-nil, All-cons, All-append, All-contains, All-from_recursion, Contains-append_cases}
@@ -11,7 +13,7 @@ use Rattle.cfd_semantics.specs.declared.pattern.Pattern.TheVariants as patterns
 use Rattle.cfd_semantics.specs.declared.dependency.TableauRow.{TableauRow}
 use Rattle.case_tree.specs.declared.clauses.Literal.{Literal}
 use Rattle.case_tree.specs.declared.clauses.VarCell.{VarCell}
-use Rattle.case_tree.specs.CaseTree.{ClauseSet, IsIn, IsWellFormed, var_count}
+use Rattle.case_tree.specs.CaseTree.{ClauseSet, IsIn, IsWellFormed, clause_set, literals_of, var_count}
 use Rattle.case_tree.proofs.Cells.{same_cell}
 use Rattle.case_search.specs.Answer.{IsFree, HasOneFree}
 use Rattle.cell_values.specs.declared.values.CellValues.{CellValues}
@@ -70,6 +72,14 @@ well_formed values rules few = record {
       (All-flat_map (All (Below (total values))) (rule_clauses values) rules (λ k d within. let rule : Rule = get_or rules k d in
       All-map_filter (All (Below (total values))) (row_clause values rule) (λ (row : TableauRow (List ℕ)). asks row.a) rule.rows (λ j e inside asking. clause_below values rule (get_or rule.rows j e))));
 }
+
+abbrev set_with : List VarCell → List (List Literal) → ClauseSet
+set_with cells clauses = record { cells = cells; clauses = clauses }
+
+-- the cells and clauses that were made are those of the question
+pub set_is : (cells : List VarCell) (clauses : List (Vec Literal Global)) (values : List CellValues) (rules : List Rule) → cells ≡ cells_from 0 values → literals_of clauses ≡ flat_map (rule_clauses values) rules → clause_set cells clauses ≡ question_of values rules
+set_is cells clauses values rules cells-is clauses-is =
+    ap (λ (some : List VarCell). set_with some (literals_of clauses)) cells-is ∙ ap (set_with (cells_from 0 values)) clauses-is
 
 -- ---- variables of cells that aren't demanded
 
