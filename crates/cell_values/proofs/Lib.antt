@@ -1,0 +1,12 @@
+pub mod Lists
+pub mod Among
+pub mod FreshTexts
+pub mod Tildes
+pub mod LiteralLists
+pub mod Gathering
+pub mod Counting
+pub mod Anys
+pub mod Meaning
+pub mod Choices
+pub mod ValueFacts
+pub mod ValueOrder
