@@ -1,0 +1,6 @@
+pub mod Entries
+pub mod RowsHeld
+pub mod KeysHeld
+pub mod Orphans
+pub mod Index
+pub mod Laws
