@@ -1,5 +1,6 @@
 -- What an index is made with, and which entries the rows of a table give.
 use Rattle.std.specs.Prelude.{ℕ, ◌==◌, ◌&&◌, nat_eq, Bool, List, [], ◌++◌, map, slice_index, if◌then◌else◌}
+use Rattle.std.specs.Str.{bytes_eq}
 use Rattle.cfd_semantics.specs.declared.inclusion.Inclusion.{Inclusion}
 use Rattle.cfd_semantics.specs.Orphan.{SideEntry}
 use Rattle.cfd_semantics.specs.EntrySets.{gives_side}
@@ -35,6 +36,10 @@ pattern_on rule Right = rule.yp
 -- the ids of a tuple at attributes, which it has
 abbrev pub ids_in : List ℕ → List ℕ → List ℕ
 ids_in tuple attributes = map (slice_index tuple) attributes
+
+-- the entry of a row with these ids
+abbrev pub is_entry : List ℕ → List ℕ → ℕ → SideEntry ℕ → Bool
+is_entry key pattern row e = bytes_eq key e.key && bytes_eq pattern e.pattern && (row == e.row)
 
 -- what a tuple gives for one side
 abbrev pub gives_on : Inclusion ℕ → Side → ℕ → List ℕ → SideEntry ℕ → Bool

@@ -1,5 +1,5 @@
 -- The rows under all keys: the two sets of entries that they are, and which keys are marked.
-use Rattle.std.specs.Prelude.{◌≡◌, ◌≢◌, ℕ, ◌≤◌, ◌&&◌, ◌||◌, ◌==◌, not, Bool, true, false, List, length, vec_capacity, slice_get, Some, IsSomeAnd}
+use Rattle.std.specs.Prelude.{◌≡◌, ◌≢◌, ℕ, ◌≤◌, ◌&&◌, ◌||◌, not, Bool, true, false, List, length, vec_capacity, slice_get, Some, IsSomeAnd}
 use Rattle.std.specs.List.{list_any}
 use Rattle.std.specs.Str.{bytes_eq}
 use Rattle.std.specs.declared.vec.Vec.{Vec}
@@ -50,10 +50,6 @@ HasKeyAt keys place key = IsSomeAnd (slice_get keys.pairs place) (λ pair. pair.
 -- each key stands where it stood
 abbrev pub KeepsKeys : KeyedRows → KeyedRows → Type 0
 KeepsKeys old new = (place : ℕ) (key : List ℕ) → HasKeyAt old place key → HasKeyAt new place key
-
--- the entry of a row with these ids
-abbrev pub is_entry : List ℕ → List ℕ → ℕ → SideEntry ℕ → Bool
-is_entry key pattern row e = bytes_eq key e.key && bytes_eq pattern e.pattern && (row == e.row)
 
 -- both sides hold what they held
 abbrev pub HoldTheSame : KeyedRows → KeyedRows → Type 0

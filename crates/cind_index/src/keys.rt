@@ -2,7 +2,8 @@
 //! tableau again.
 ghost use Rattle.std.specs.Prelude.{◌≡◌, ◌+◌, ◌<◌, ◌≤◌, ◌≢◌, ◌==◌, ◌&&◌, ◌||◌, ℕ, List, Some, false, not, length, slice_get, IsTrue, IfOk, IfSome, IfNone, OnOk, OnErr};
 ghost use Rattle.std.specs.Map.{keys_of};
-ghost use Rattle.cind_index.specs.KeysHeld.{held, is_entry, AreMarkedRight, AreMarkedRightBut, HasKeyAt, HoldTheSame, HoldsMore, HoldsLess, KeepsKeys};
+ghost use Rattle.cind_index.specs.Entries.{is_entry};
+ghost use Rattle.cind_index.specs.KeysHeld.{held, AreMarkedRight, AreMarkedRightBut, HasKeyAt, HoldTheSame, HoldsMore, HoldsLess, KeepsKeys};
 
 use crate::key_rows::KeyRows;
 use crate::side::Side;
