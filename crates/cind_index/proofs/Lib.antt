@@ -1,2 +1,5 @@
 pub mod Values
 pub mod MapFacts
+pub mod PairFacts
+pub mod KeyFacts
+pub mod RowFacts

@@ -2,6 +2,7 @@
 //! tableau again.
 ghost use Rattle.std.specs.Prelude.{◌≡◌, ◌+◌, ◌<◌, ◌≤◌, ◌≢◌, ◌==◌, ◌&&◌, ◌||◌, ℕ, List, Some, false, not, length, slice_get, IsTrue, IfOk, IfSome, IfNone, OnOk, OnErr};
 ghost use Rattle.std.specs.Map.{keys_of};
+ghost use Rattle.cfd_semantics.specs.declared.inclusion.InclusionRow.{InclusionRow};
 ghost use Rattle.cind_index.specs.Entries.{is_entry};
 ghost use Rattle.cind_index.specs.KeysHeld.{held, AreMarkedRight, AreMarkedRightBut, HasKeyAt, HoldTheSame, HoldsMore, HoldsLess, KeepsKeys};
 
@@ -30,18 +31,44 @@ pub(crate) fn put_entry<L: Ledger>(
     requires { AreMarkedRight tableau.now keys.old }
     ensures marks { AreMarkedRight tableau.now keys.new }
     ensures ok { OnOk result (HoldsMore side (is_entry key.items pattern.now row) keys.old keys.new) }
+    ensures old { IfOk result (λ new. IfNone new (HoldTheSame keys.old keys.new)) }
     ensures new { IfOk result (λ new. IfSome new (λ place. HasKeyAt keys.new place key.items × (held keys.old side (record { key = key.items; pattern = pattern.now; row = row }) ≡ false))) }
     ensures err { OnErr result (HoldTheSame keys.old keys.new) }
     ensures places { OnErr result (KeepsKeys keys.old keys.new) }
+    ensures probes { steps.new ≤ steps.old + 1 }
+{
+    let (place, new) = enter_entry(keys, side, key, pattern, row, steps)?;
+    let place = settle(keys, tableau, place);
+    if new { Ok(Some(place)) } else { Ok(None) }
+}
+
+// Puts an entry in, and leaves the mark of its key as it is. Gives the key's place, and whether the entry is new.
+fn enter_entry<L: Ledger>(
+    keys: &mut Keys,
+    side: Side,
+    key: Vec<ValueId>,
+    pattern: &[ValueId],
+    row: RowId,
+    steps: &mut Steps<L>,
+) -> Result<(usize, bool), AllocError>
+    ensures ok { OnOk result (HoldsMore side (is_entry key.items pattern.now row) keys.old keys.new) }
+    ensures key { IfOk result (λ entered. HasKeyAt keys.new entered.0 key.items) }
+    ensures new { IfOk result (λ entered. held keys.old side (record { key = key.items; pattern = pattern.now; row = row }) ≡ not entered.1) }
+    ensures others { IfOk result (λ entered. (tableau : List (InclusionRow ℕ)) → AreMarkedRight tableau keys.old → AreMarkedRightBut entered.0 tableau keys.new) }
+    ensures err { OnErr result (HoldTheSame keys.old keys.new) }
+    ensures places { OnErr result (KeepsKeys keys.old keys.new) }
+    ensures marks { OnErr result ((tableau : List (InclusionRow ℕ)) → AreMarkedRight tableau keys.old → AreMarkedRight tableau keys.new) }
     ensures probes { steps.new ≤ steps.old + 1 }
 {
     let alloc = *key.allocator();
     let fresh = KeyRows::with_row(alloc, side, pattern, row)?;
     let before = keys.len();
     let place = keys.enter(key, fresh, steps)?;
-    let new = place == before || keys.value_at_mut(place).put(alloc, side, pattern, row)?;
-    let place = settle(keys, tableau, place);
-    if new { Ok(Some(place)) } else { Ok(None) }
+    if place == before {
+        return Ok((place, true));
+    }
+    let new = keys.value_at_mut(place).put(alloc, side, pattern, row)?;
+    Ok((place, new))
 }
 
 /// Takes an entry away, in one probe.
@@ -78,6 +105,8 @@ pub(crate) fn take_at(
     ensures marks { AreMarkedRight tableau.now keys.new }
     ensures left { (key : List ℕ) → HasKeyAt keys.old place key → HoldsLess side (is_entry key pattern.now row) keys.old keys.new }
 {
+    // The length is what says that no key stands twice.
+    let _len = keys.len();
     keys.value_at_mut(place).take(side, pattern, row);
     if keys.value_at(place).is_empty() {
         keys.remove_at(place);
@@ -94,6 +123,8 @@ fn settle(keys: &mut Keys, tableau: &[InclusionRow<ValueId>], place: usize) -> u
     ensures same { HoldTheSame keys.old keys.new }
     ensures pair { slice_get keys.new.pairs result ≡ slice_get keys.old.pairs place }
 {
+    // The length is what says that no key stands twice.
+    let _len = keys.len();
     if keys.value_at(place).is_dirty(tableau) {
         keys.mark_at(place)
     } else {

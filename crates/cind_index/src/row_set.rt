@@ -61,14 +61,12 @@ impl RowSet {
         ensures { OnOk result ((row : ℕ) → Contains found.new.items row ↔ (Contains found.old.items row ⊎ IsTrue (is_in self.now row))) }
     {
         match self {
-            RowSet::One(held) => found.push(*held)?,
-            RowSet::More(rows) => {
-                for row in rows {
-                    found.push(*row)?;
-                }
+            RowSet::One(held) => {
+                found.push(*held)?;
+                Ok(())
             }
+            RowSet::More(rows) => push_all(rows, found),
         }
-        Ok(())
     }
 }
 
@@ -79,4 +77,13 @@ fn set_of_two(alloc: Global, one: RowId, other: RowId) -> Result<BTreeSet<RowId>
     rows.insert(one)?;
     rows.insert(other)?;
     Ok(rows)
+}
+
+fn push_all(rows: &BTreeSet<RowId>, found: &mut Vec<RowId>) -> Result<(), AllocError>
+    ensures { OnOk result (found.new.items ≡ found.old.items ++ rows.now.keys) }
+{
+    for row in rows.iter() {
+        found.push(*row)?;
+    }
+    Ok(())
 }
