@@ -1,5 +1,5 @@
 -- What a change of one key's rows makes of the two sets of entries and of the marks.
-use Rattle.std.proofs.Common.{◌≡◌, ◌≢◌, ℕ, zero, suc, ◌+◌, ◌-◌, ◌<◌, ◌≤◌, ◌⊎◌, Bool, true, false, not, ◌&&◌, ◌||◌, List, [], ◌∷◌, ◌++◌, length, swap, slice_get, Option, Some, None, refl, sym, ap, ◌∙◌, subst, inl, inr, arith}
+use Rattle.std.proofs.Common.{◌≡◌, ◌≢◌, ℕ, zero, suc, ◌+◌, ◌-◌, ◌<◌, ◌≤◌, ◌⊎◌, Bool, true, false, not, ◌&&◌, ◌||◌, List, [], ◌∷◌, ◌++◌, length, swap, slice_get, Option, Some, None, Result, Ok, Err, OnErr, refl, sym, ap, ◌∙◌, subst, inl, inr, arith}
 use Rattle.std.specs.Prelude.{◌==◌, IsSomeAnd}
 use Rattle.std.specs.declared.vec.Vec.{Vec}
 use Rattle.std.specs.declared.alloc.Global.{Global}
@@ -9,7 +9,7 @@ use Rattle.std.specs.Str.{bytes_eq}
 use Rattle.std.proofs.lemmas.Bool.{cases_eq, cases_lt}
 use Rattle.std.proofs.lemmas.Bool.Decides.{nat_tests}
 use Rattle.std.proofs.lemmas.Option.{none-some, same_Some, slice_get_within}
-use Rattle.marked_map.specs.MarkedMap.{MarkedPairs, with_mark, without_mark, IsMarked, IsUnmarked, KeepsOthers, AreDistinct, HasKey, IsAbsent}
+use Rattle.marked_map.specs.MarkedMap.{MarkedPairs, with_mark, without_mark, IsMarked, IsUnmarked, KeepsOthers, AreDistinct, HasKey, IsAbsent, Enters}
 use Rattle.cfd_semantics.specs.declared.inclusion.InclusionRow.{InclusionRow}
 use Rattle.cfd_semantics.specs.Orphan.{SideEntry}
 use Rattle.cfd_semantics.proofs.InclusionLaw.{both_true}
@@ -164,7 +164,7 @@ less_over false q h = refl
 -- ---- a row comes in under a key that is there
 
 module _ (m : KeyedRows) (place : ℕ) (k : Vec ℕ Global) (v w : KeyRows) (at : slice_get m.pairs place ≡ Some (k, v)) (side : Side) where
-  abbrev written : KeyedRows
+  abbrev pub written : KeyedRows
   written = record { pairs = set_value_at m.pairs place w; marked = m.marked }
 
   same_beside : HaveTheSame (rows_on v (across side)) (rows_on w (across side)) → (e : SideEntry ℕ) → held written (across side) e ≡ held m (across side) e
@@ -236,7 +236,7 @@ module _ (m : KeyedRows) (place : ℕ) (k : Vec ℕ Global) (v w : KeyRows) (at 
 -- ---- a key comes in
 
 module _ (m : KeyedRows) (k : Vec ℕ Global) (fresh : KeyRows) (side : Side) where
-  abbrev pushed : KeyedRows
+  abbrev pub pushed : KeyedRows
   pushed = record { pairs = m.pairs ++ (k, fresh) ∷ []; marked = m.marked }
 
   pub put_new : (pattern : List ℕ) (row : ℕ) → ((ids : List ℕ) (other : ℕ) → has (rows_on fresh side) ids other ≡ (bytes_eq ids pattern && other == row)) → HasNothing (rows_on fresh (across side))
@@ -301,3 +301,79 @@ nothing_more side key pattern row old new there more s e = on s side more there
     on Right Right more there = here Right more there
     on Left Right more there = more.beside e
     on Right Left more there = more.beside e
+
+pub same_then_same : (old mid new : KeyedRows) → HoldTheSame old mid → HoldTheSame mid new → HoldTheSame old new
+same_then_same old mid new first second side e = second side e ∙ first side e
+
+-- ---- where a key was looked up
+
+pub value_of_key : (es : List Pair) (i : ℕ) (k : Vec ℕ Global) → slice_get (keys_of es) i ≡ Some k → (v : KeyRows) × (slice_get es i ≡ Some (k, v))
+value_of_key [] i k at = absurd (none-some k at)
+value_of_key (e ∷ es) zero k at = (e.1, let key : e.0 ≡ k = same_Some e.0 k at in λ i. Some (key i, e.1))
+value_of_key (e ∷ es) (suc i) k at = value_of_key es i k at
+
+pub key_found : (m : KeyedRows) (key : Vec ℕ Global) (place : ℕ) → HasKey same_key m key place → HasKeyAt m place key.items
+key_found m key place (stored, at, same) =
+    let it = value_of_key m.pairs place stored at in
+    has_key_at m place stored it.0 key.items it.1 (sym (equal_lists key.items stored.items same))
+
+pub has_place : (m : KeyedRows) (place : ℕ) (key : List ℕ) → HasKeyAt m place key → place < length m.pairs
+has_place m place key has_key = of (slice_get m.pairs place) refl has_key
+  where
+    of : (o : Option Pair) → slice_get m.pairs place ≡ o → IsSomeAnd o (λ pair. pair.0.items ≡ key) → place < length m.pairs
+    of None at has_key = absurd has_key
+    of (Some x) at has_key = slice_get_within m.pairs place x at
+
+pub same_place : (m new : KeyedRows) (place at : ℕ) (key : List ℕ) → slice_get new.pairs at ≡ slice_get m.pairs place → HasKeyAt m place key → HasKeyAt new at key
+same_place m new place at key same has_key = subst (λ (o : Option Pair). IsSomeAnd o (λ pair. pair.0.items ≡ key)) (sym same) has_key
+
+-- where a key isn't, nothing goes away
+pub nothing_less : (m : KeyedRows) (k : Vec ℕ Global) (side : Side) (pattern : List ℕ) (row : ℕ) → IsAbsent same_key m k → HoldsLess side (is_entry k.items pattern row) m m
+nothing_less m k side pattern row absent = record {
+  here = λ e. still (held m side e) (is_entry k.items pattern row e) (λ is.
+      ap (held m side) (sym (entry_is k.items pattern row e is))
+      ∙ none_pass (is_under side (record { key = k.items; pattern = pattern; row = row })) m.pairs (λ x i there. ap (λ b. b && has (rows_on x.1 side) pattern row) (absent i x.0 (key_there m.pairs i x there))));
+  beside = λ e. refl;
+}
+  where
+    still : (b t : Bool) → (t ≡ true → b ≡ false) → b ≡ (b && not t)
+    still b true none = none refl ∙ sym (and_false b)
+      where
+        and_false : (b : Bool) → (b && false) ≡ false
+        and_false true = refl
+        and_false false = refl
+    still true false none = refl
+    still false false none = refl
+
+-- ---- a key was entered
+
+pub entered_new : (old new : KeyedRows) (key : Vec ℕ Global) (fresh : KeyRows) (place : ℕ) → Enters same_key old key fresh place new → place ≡ length old.pairs
+    → IsAbsent same_key old key × (new ≡ record { pairs = old.pairs ++ (key, fresh) ∷ []; marked = old.marked })
+entered_new old new key fresh place (inl there) last = absurd (let at = slice_get_within (keys_of old.pairs) place there.0.0 there.0.1 in omega (arith, at, keys_length old.pairs, last))
+  where
+    keys_length : (es : List Pair) → length (keys_of es) ≡ length es
+    keys_length [] = refl
+    keys_length (e ∷ es) = ap (λ n. suc n) (keys_length es)
+entered_new old new key fresh place (inr (absent, is, same)) last = (absent, same)
+
+pub record Found (old new : KeyedRows) (key : Vec ℕ Global) (place : ℕ) (v : KeyRows) : Type 0 where
+  pub k : Vec ℕ Global
+  pub at : slice_get old.pairs place ≡ Some (k, v)
+  pub is : k.items ≡ key.items
+  pub same : old ≡ new
+
+pub entered_there : (old new : KeyedRows) (key : Vec ℕ Global) (fresh : KeyRows) (place : ℕ) (v : KeyRows) → Enters same_key old key fresh place new → place ≢ length old.pairs
+    → slice_get (values_of new.pairs) place ≡ Some v → Found old new key place v
+entered_there old new key fresh place v (inr (absent, is, same)) before value = absurd (before is)
+entered_there old new key fresh place v (inl ((stored, at, equal), same)) before value = record {
+  k = stored;
+  at = pair_there old.pairs place stored v at (ap (λ (m : KeyedRows). slice_get (values_of m.pairs) place) (sym same) ∙ value);
+  is = sym (equal_lists key.items stored.items equal);
+  same = sym same;
+}
+
+-- ---- results
+
+pub err_of : {A E P : Type 0} (r : Result A E) → P → OnErr r P
+err_of (Ok v) p = tt
+err_of (Err e) p = p

@@ -68,7 +68,7 @@ some_in (More rows) = (first rows.keys, last rows.keys)
 
     last : (keys : List ℕ) → (row : ℕ) × (list_any (λ k. is_eq (nat_cmp row k)) keys ≡ true) → nat_lt 0 (length keys) ≡ true
     last [] (row, some) = absurd (cc)
-    last (k ∷ ks) (row, some) = refl
+    last (k ∷ ks) (row, some) = grind (arith, nat_tests)
 
 among_some : (found : Option RowSet) → (option_map_or is_filled found false ≡ true) ↔ ((row : ℕ) × (option_map_or (λ rows. is_in rows row) found false ≡ true))
 among_some None = ((λ some. absurd (cc)), (λ one. absurd (let no = one.1 in cc)))

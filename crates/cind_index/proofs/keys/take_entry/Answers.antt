@@ -1,14 +1,8 @@
-use Rattle.std.proofs.Common.{rules, ◌≡◌, ◌+◌, ◌<◌, ◌≤◌, ◌≢◌, ◌==◌, ◌&&◌, ◌||◌, ℕ, List, Some, false, not, length, slice_get, IsTrue, IfOk, IfSome, IfNone, OnOk, OnErr, ◌-◌, ◌*◌, ◌/◌, ◌%◌, Bool, true, nat_eq, nat_lt, [], ◌∷◌, ◌++◌, slice_index_or, slice_set, bit_and, bit_or, Fits, w8, w32, w64, Bor, MutBor}
-use Rattle.std.specs.Map.{keys_of}
-use Rattle.cfd_semantics.specs.declared.inclusion.InclusionRow.{InclusionRow}
-use Rattle.cind_index.specs.Entries.{is_entry}
-use Rattle.cind_index.specs.KeysHeld.{held, AreMarkedRight, AreMarkedRightBut, HasKeyAt, HoldTheSame, HoldsMore, HoldsLess, KeepsKeys}
+use Rattle.cind_index.proofs.KeyFacts.{key_found, nothing_less}
 use Rattle.cind_index.proofs.keys.take_entry.Goals as goal
 
--- src/keys.rt:75:1
 pub returns-in-Some-clause-left : goal.returns-in-Some-clause-left
-returns-in-Some-clause-left g c = ?
+returns-in-Some-clause-left g c = c.take_at.ensures.left c.args.key.now.items (key_found c.args.keys.now c.args.key.now c.in-Some.place c.in-Some.ensures.found)
 
--- src/keys.rt:75:1
 pub returns-in_default-clause-left : goal.returns-in_default-clause-left
-returns-in_default-clause-left g c = ?
+returns-in_default-clause-left g c = nothing_less c.args.keys.now c.args.key.now c.args.side c.args.pattern.now c.args.row c.in_default.ensures.absent
