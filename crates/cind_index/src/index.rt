@@ -66,6 +66,8 @@ impl CindIndex {
         ensures dirty { IsDirtyCount self.now.rule (lefts self.now.keys) (rights self.now.keys) result }
         ensures marked { result ≡ self.now.keys.marked }
     {
+        // The length is what says that no key stands twice.
+        let _len = self.keys.len();
         self.keys.marked()
     }
 

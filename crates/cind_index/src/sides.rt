@@ -1,10 +1,11 @@
 //! What a change of a row does to one side of an index.
 ghost use Rattle.std.specs.Prelude.{◌≡◌, ◌+◌, ◌≤◌, ◌==◌, ◌&&◌, ◌||◌, ◌++◌, ℕ, false, true, cond, IfNone, IsTrue, IfOk, IfSome, OnOk, OnErr, IsSomeAnd};
 ghost use Rattle.std.specs.Option.{ForSome};
+ghost use Rattle.std.specs.Str.{bytes_eq};
 ghost use Rattle.row_store.specs.Tuple.{ids_of, ids_behind};
 ghost use Rattle.row_store.specs.Watch.{IsWide, entries_of};
 ghost use Rattle.cfd_semantics.specs.Orphan.{SideEntry};
-ghost use Rattle.cind_index.specs.Entries.{key_on, pattern_on, table_on, gives_on, attributes_on};
+ghost use Rattle.cind_index.specs.Entries.{ids_in, key_on, pattern_on, table_on, gives_on, attributes_on};
 ghost use Rattle.cind_index.specs.RowsHeld.{across};
 ghost use Rattle.cind_index.specs.KeysHeld.{held, HaveRoom, HoldTheSame, HoldsMore, HoldsLess, KeepsKeys};
 ghost use Rattle.cind_index.specs.Index.{made_of, given, HoldsOfRowOn, StandsAt, KeepsMade};
@@ -39,6 +40,16 @@ fn pattern_on(rule: &Inclusion<ValueId>, side: Side) -> &[usize]
         Side::Left => rule.xp.as_slice(),
         Side::Right => rule.yp.as_slice(),
     }
+}
+
+// Whether two tuples give one entry.
+fn agree_on(rule: &Inclusion<ValueId>, side: Side, one: &Tuple, other: &Tuple) -> bool
+    requires wide_one { IsWide (key_on rule.now side ++ pattern_on rule.now side) (ids_of one.now) }
+    requires wide_other { IsWide (key_on rule.now side ++ pattern_on rule.now side) (ids_of other.now) }
+    ensures { result ≡ (bytes_eq (ids_in (ids_of one.now) (key_on rule.now side)) (ids_in (ids_of other.now) (key_on rule.now side))
+        && bytes_eq (ids_in (ids_of one.now) (pattern_on rule.now side)) (ids_in (ids_of other.now) (pattern_on rule.now side))) }
+{
+    agree(one, other, key_on(rule, side)) && agree(one, other, pattern_on(rule, side))
 }
 
 impl CindIndex {
@@ -80,10 +91,7 @@ impl CindIndex {
             return false;
         }
         match one {
-            Some(tuple) => {
-                !(agree(tuple, other, key_on(&self.rule, side))
-                    && agree(tuple, other, pattern_on(&self.rule, side)))
-            }
+            Some(tuple) => !agree_on(&self.rule, side, tuple, other),
             None => true,
         }
     }
