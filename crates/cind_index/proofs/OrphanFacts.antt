@@ -1,14 +1,22 @@
 -- Orphans and dirty keys of the two sets are those that the rows under each key tell.
-use Rattle.std.proofs.Common.{◌≡◌, ◌≢◌, ℕ, zero, suc, ◌+◌, ◌<◌, ◌≤◌, ◌↔◌, ◌⊎◌, Bool, true, false, not, ◌&&◌, ◌||◌, List, [], ◌∷◌, length, slice_get, Option, Some, None, refl, sym, ap, ◌∙◌, subst, inl, inr, arith}
+use Rattle.std.proofs.Common.{◌≡◌, ◌≢◌, ℕ, zero, suc, ◌+◌, ◌<◌, ◌≤◌, ◌↔◌, ◌⊎◌, Bool, true, false, not, ◌&&◌, ◌||◌, List, [], ◌∷◌, length, get_or, slice_get, Option, Some, None, refl, sym, ap, ◌∙◌, subst, inl, inr, arith}
 use Rattle.std.specs.Prelude.{IsTrue, nat_eq, AllPairs, All}
 use Rattle.std.specs.List.{list_any, Contains}
+use Rattle.std.specs.Map.{values_of}
 use Rattle.std.specs.Str.{bytes_eq}
 use Rattle.std.specs.declared.vec.Vec.{Vec}
 use Rattle.std.specs.declared.alloc.Global.{Global}
 use Rattle.std.proofs.lemmas.Bool.{cases_lt}
-use Rattle.std.proofs.lemmas.Option.{none-some, same_Some, slice_get_within}
+use Rattle.std.proofs.lemmas.Option.{none-some, same_Some, slice_get_within, slice_get-get_or}
 use Rattle.std.proofs.lemmas.List.Elements.{All-weaker, All-contains_itself}
-use Rattle.std.proofs.lemmas.List.Kept.{AllPairs-cons}
+use Rattle.std.specs.List.{dedup}
+use Rattle.std.specs.List.Sorted.{IsPermutation, IsSorted}
+use Rattle.std.specs.List.Retain.{IsFiltered, DiffersFromLast}
+use Rattle.std.specs.Ordering.{nat_cmp}
+use Rattle.std.proofs.lemmas.List.Filters.{dedup_is}
+use Rattle.std.proofs.lemmas.List.Sorted.{Contains-permutation}
+use Rattle.std.proofs.lemmas.Map.Keys.{IsStrictlyIncreasing-dedup}
+use Rattle.std.proofs.lemmas.List.Kept.{AllPairs-cons, AllPairs-from_increasing, Contains-dedup_nat, Contains-from_dedup}
 use Rattle.marked_map.specs.MarkedMap.{MarkedPairs, AreDistinct, IsAbsent, IsMarked, IsUnmarked}
 use Rattle.cfd_semantics.specs.declared.inclusion.InclusionRow.{InclusionRow}
 use Rattle.cfd_semantics.specs.declared.inclusion.Inclusion.{Inclusion}
@@ -21,11 +29,11 @@ use Rattle.cind_index.specs.declared.side.Side.TheVariants.{Left, Right}
 use Rattle.cind_index.specs.declared.key_rows.KeyRows.{KeyRows}
 use Rattle.cind_index.specs.RowsHeld.{has, has_some, lacks_answer, is_dirty}
 use Rattle.cind_index.specs.KeysHeld.{KeyedRows, is_under, held, lefts, rights, AreMarkedRight}
-use Rattle.cind_index.specs.Orphans.{AreDirtyKeys, IsDirtyCount}
+use Rattle.cind_index.specs.Orphans.{AreOrphans, AreDirtyKeys, IsDirtyCount}
 use Rattle.cind_index.proofs.MapFacts.{equal_lists, same_list}
 use Rattle.cind_index.proofs.PairFacts.{never, clash, any_at, found_at}
 use Rattle.cind_index.proofs.RowFacts.{some_row}
-use Rattle.cind_index.proofs.KeyFacts.{Pair, same_key, key_there}
+use Rattle.cind_index.proofs.KeyFacts.{Pair, same_key, key_there, value_there, with_key}
 
 not_true : (b : Bool) → not b ≡ true → b ≡ false
 not_true true is = absurd (cc)
@@ -33,6 +41,37 @@ not_true false is = refl
 
 not_false : (b : Bool) → b ≡ false → not b ≡ true
 not_false b is = ap not is
+
+module _ (m : KeyedRows) where
+  -- a left row with the constants of Xp, under a key without a right row with those of Yp
+  pub record OrphanAt (t : InclusionRow ℕ) (row i : ℕ) (x : Pair) : Type 0 where
+    pub at : slice_get m.pairs i ≡ Some x
+    pub left : has x.1.lefts t.xp row ≡ true
+    pub none : has_some x.1.rights t.yp ≡ false
+
+  -- under one of the first keys
+  abbrev pub FoundBelow : InclusionRow ℕ → ℕ → ℕ → Type 0
+  FoundBelow t n row = (i : ℕ) × (i < n) × (x : Pair) × OrphanAt t row i x
+
+  pub found_none : (t : InclusionRow ℕ) (row : ℕ) → FoundBelow t 0 row → ⊥
+  found_none t row (i, low, x, it) = omega (arith, low)
+
+  -- one key more
+  pub found_more : (t : InclusionRow ℕ) (n row : ℕ) (v : KeyRows) (old new : List ℕ) → slice_get (values_of m.pairs) n ≡ Some v → Contains old row ↔ FoundBelow t n row
+      → Contains new row ↔ (Contains old row ⊎ (IsTrue (has v.lefts t.xp row) × (has_some v.rights t.yp ≡ false))) → Contains new row ↔ FoundBelow t (n + 1) row
+  found_more t n row v old new value before step = (
+    (λ inside. elim (step.0 inside) [
+      | inl was ↦ let found = before.0 was in (found.0, (let low = found.1 in omega (arith, low)), found.2, found.3)
+      | inr both ↦ let it = with_key m.pairs n v value in (n, omega arith, (it.0, v), record { at = it.1; left = both.0; none = both.1 })
+    ]),
+    (λ (i, low, x, it). elim (cases_lt i n) [
+      | inl earlier ↦ step.1 (inl (before.1 (i, earlier, x, it)))
+      | inr late ↦
+          let here : i ≡ n = omega (arith, low, late) in
+          let same : x.1 ≡ v = same_Some x.1 v (sym (value_there m.pairs i x it.at) ∙ ap (slice_get (values_of m.pairs)) here ∙ value) in
+          step.1 (inr (ap (λ (w : KeyRows). has w.lefts t.xp row) (sym same) ∙ it.left, ap (λ (w : KeyRows). has_some w.rights t.yp) (sym same) ∙ it.none))
+    ]),
+  )
 
 module _ (m : KeyedRows) (distinct : AreDistinct same_key m) where
   -- ---- the answers to a left entry stand under its key
@@ -62,16 +101,7 @@ module _ (m : KeyedRows) (distinct : AreDistinct same_key m) where
 
   -- ---- orphans stand under marked keys
 
-  pub record OrphanAt (t : InclusionRow ℕ) (row i : ℕ) (x : Pair) : Type 0 where
-    pub at : slice_get m.pairs i ≡ Some x
-    pub left : has x.1.lefts t.xp row ≡ true
-    pub none : has_some x.1.rights t.yp ≡ false
-
-  -- under one of the first keys
-  abbrev pub FoundBelow : InclusionRow ℕ → ℕ → ℕ → Type 0
-  FoundBelow t n row = (i : ℕ) × (i < n) × (x : Pair) × OrphanAt t row i x
-
-  entry_at : (t : InclusionRow ℕ) (row i : ℕ) (x : Pair) → OrphanAt t row i x → (left : SideEntry ℕ) × IsTrue (lefts m left) × (left.row ≡ row) × (left.key ≡ x.0.items) × IsUnanswered nat_eq t (rights m) left
+  entry_at : (t : InclusionRow ℕ) (row i : ℕ) (x : Pair) → OrphanAt m t row i x → (left : SideEntry ℕ) × IsTrue (lefts m left) × (left.row ≡ row) × (left.key ≡ x.0.items) × IsUnanswered nat_eq t (rights m) left
   entry_at t row i x it = (
     record { key = x.0.items; pattern = t.xp; row = row },
     any_at (is_under Left (record { key = x.0.items; pattern = t.xp; row = row })) m.pairs x i it.at (ap (λ b. b && has x.1.lefts t.xp row) (same_list x.0.items) ∙ it.left),
@@ -80,7 +110,7 @@ module _ (m : KeyedRows) (distinct : AreDistinct same_key m) where
     record { constants = same_list t.xp; alone = alone_at t (record { key = x.0.items; pattern = t.xp; row = row }) i x it.at refl it.none },
   )
 
-  at_entry : (t : InclusionRow ℕ) (left : SideEntry ℕ) → IsTrue (lefts m left) → IsUnanswered nat_eq t (rights m) left → (i : ℕ) × (x : Pair) × (left.key ≡ x.0.items) × OrphanAt t left.row i x
+  at_entry : (t : InclusionRow ℕ) (left : SideEntry ℕ) → IsTrue (lefts m left) → IsUnanswered nat_eq t (rights m) left → (i : ℕ) × (x : Pair) × (left.key ≡ x.0.items) × OrphanAt m t left.row i x
   at_entry t left there unanswered =
       let found = found_at (is_under Left left) m.pairs there in
       let under = both_true (bytes_eq left.key found.0.0.items) (has found.0.1.lefts left.pattern left.row) found.3 in
@@ -92,20 +122,40 @@ module _ (m : KeyedRows) (distinct : AreDistinct same_key m) where
       })
 
   module _ (tableau : List (InclusionRow ℕ)) (right : AreMarkedRight tableau m) where
-    is_marked : (t : InclusionRow ℕ) (row i : ℕ) (x : Pair) → Contains tableau t → OrphanAt t row i x → i < m.marked
+    is_marked : (t : InclusionRow ℕ) (row i : ℕ) (x : Pair) → Contains tableau t → OrphanAt m t row i x → i < m.marked
     is_marked t row i x inside it =
         let lacks : lacks_answer x.1 t ≡ true = ap (λ b. b && not (has_some x.1.rights t.yp)) ((some_row x.1.lefts t.xp).1 (row, it.left)) ∙ not_false (has_some x.1.rights t.yp) it.none in
         let dirty = any_from_found (lacks_answer x.1) tableau t inside lacks in
         elim (cases_lt i m.marked) [ inl low ↦ low | inr high ↦ absurd (clash (is_dirty tableau x.1) dirty (right.unmarked x (i, high, it.at))) ]
 
-    pub orphans_below : (t : InclusionRow ℕ) (row : ℕ) → Contains tableau t → FoundBelow t m.marked row ↔ IsOrphan nat_eq t (lefts m) (rights m) row
+    pub orphans_below : (t : InclusionRow ℕ) (row : ℕ) → Contains tableau t → FoundBelow m t m.marked row ↔ IsOrphan nat_eq t (lefts m) (rights m) row
     orphans_below t row inside = (
       (λ (i, low, x, it). let e = entry_at t row i x it in (e.0, e.1, e.2, e.4)),
       (λ (left, there, is, unanswered).
           let it = at_entry t left there unanswered in
-          let moved = subst (λ r. OrphanAt t r it.0 it.1) is it.3 in
+          let moved = subst (λ r. OrphanAt m t r it.0 it.1) is it.3 in
           (it.0, is_marked t row it.0 it.1 inside moved, it.1, moved)),
     )
+
+    -- a list of them that was sorted and rid of what stands twice
+    pub orphans_listed : (k n : ℕ) (t x : InclusionRow ℕ) (found sorted final : List ℕ) → k < length tableau → t ≡ get_or tableau k t → slice_get tableau k ≡ Some x → n ≡ m.marked
+        → ((row : ℕ) → Contains found row ↔ FoundBelow m t n row) → IsPermutation found sorted → IsPermutation sorted found → IsSorted nat_cmp sorted → IsFiltered (DiffersFromLast nat_eq) [] sorted final
+        → AreOrphans (lefts m) (rights m) final x
+    orphans_listed k n t x found sorted final within is at all members to from order filtered =
+        let same : final ≡ dedup nat_eq sorted = dedup_is nat_eq sorted final filtered in
+        let inside : Contains tableau t = (k, within, sym is ∙ refl) in
+        let one : t ≡ x = same_Some t x (ap (λ (r : InclusionRow ℕ). Some r) is ∙ sym (slice_get-get_or tableau k t within) ∙ at) in
+        subst (AreOrphans (lefts m) (rights m) final) one (record {
+          rising = subst (λ xs. AllPairs (λ row other. row < other) xs) (sym same) (AllPairs-from_increasing (dedup nat_eq sorted) (IsStrictlyIncreasing-dedup sorted order));
+          exactly = λ row. (
+            (λ there.
+                let kept = Contains-from_dedup nat_eq sorted row (subst (λ xs. Contains xs row) same there) in
+                (orphans_below t row inside).0 (subst (λ b. FoundBelow m t b row) all ((members row).0 (Contains-permutation sorted found row from kept)))),
+            (λ orphan.
+                let first = (members row).1 (subst (λ b. FoundBelow m t b row) (sym all) ((orphans_below t row inside).1 orphan)) in
+                subst (λ xs. Contains xs row) (sym same) (Contains-dedup_nat sorted row (Contains-permutation found sorted row to first))),
+          );
+        })
 
     -- ---- dirty keys
 
@@ -138,8 +188,8 @@ module _ (m : KeyedRows) (distinct : AreDistinct same_key m) where
 
     keys_apart : (n : ℕ) (es : List Pair) → ((i j : ℕ) (x y : Pair) → slice_get es i ≡ Some x → slice_get es j ≡ Some y → x.0.items ≡ y.0.items → i ≡ j) → AllPairs (λ key other. key ≢ other) (first_keys n es)
     unfolding first_keys
-    keys_apart zero es once i j d before within = absurd (omega arith)
-    keys_apart (suc n) [] once i j d before within = absurd (omega arith)
+    keys_apart zero es once = λ i j d before within. absurd (omega arith)
+    keys_apart (suc n) [] once = λ i j d before within. absurd (omega arith)
     keys_apart (suc n) (e ∷ es) once =
         AllPairs-cons (λ key other. key ≢ other) e.0.items (first_keys n es)
         (All-weaker (Contains (first_keys n es)) (λ other. e.0.items ≢ other) (λ other inside same.

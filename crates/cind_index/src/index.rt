@@ -83,6 +83,8 @@ impl CindIndex {
         ensures probes { steps.new ≤ steps.old + self.now.keys.marked }
     {
         let tableau_row = &self.rule.rows.as_slice()[k];
+        // The length is what says that no key stands twice.
+        let _len = self.keys.len();
         let mut found = Vec::new(*self.key.allocator());
         for place in 0..self.keys.marked() {
             self.keys.value_at(place).push_orphans(tableau_row, &mut found)?;
