@@ -1,5 +1,5 @@
 -- Orphans and dirty keys of the two sets are those that the rows under each key tell.
-use Rattle.std.proofs.Common.{◌≡◌, ◌≢◌, ℕ, zero, suc, ◌+◌, ◌<◌, ◌≤◌, ◌↔◌, ◌⊎◌, Bool, true, false, not, ◌&&◌, ◌||◌, List, [], ◌∷◌, length, get_or, slice_get, Option, Some, None, refl, sym, ap, ◌∙◌, subst, inl, inr, arith}
+use Rattle.std.proofs.Common.{◌≡◌, ◌≢◌, ℕ, zero, suc, ◌+◌, ◌<◌, ◌≤◌, ◌↔◌, ◌⊎◌, Bool, true, false, not, ◌&&◌, ◌||◌, List, [], ◌∷◌, ◌++◌, length, get_or, slice_get, Option, Some, None, refl, sym, ap, ◌∙◌, subst, inl, inr, arith}
 use Rattle.std.specs.Prelude.{IsTrue, nat_eq, AllPairs, All}
 use Rattle.std.specs.List.{list_any, Contains}
 use Rattle.std.specs.Map.{values_of}
@@ -17,12 +17,13 @@ use Rattle.std.proofs.lemmas.List.Filters.{dedup_is}
 use Rattle.std.proofs.lemmas.List.Sorted.{Contains-permutation}
 use Rattle.std.proofs.lemmas.Map.Keys.{IsStrictlyIncreasing-dedup}
 use Rattle.std.proofs.lemmas.List.Kept.{AllPairs-cons, AllPairs-from_increasing, Contains-dedup_nat, Contains-from_dedup}
-use Rattle.marked_map.specs.MarkedMap.{MarkedPairs, AreDistinct, IsAbsent, IsMarked, IsUnmarked}
+use Rattle.marked_map.specs.MarkedMap.{MarkedPairs, AreDistinct, HasKey, IsAbsent, IsMarked, IsUnmarked}
 use Rattle.cfd_semantics.specs.declared.inclusion.InclusionRow.{InclusionRow}
 use Rattle.cfd_semantics.specs.declared.inclusion.Inclusion.{Inclusion}
-use Rattle.cfd_semantics.specs.Orphan.{SideEntry, answers}
+use Rattle.cfd_semantics.specs.Orphan.{SideEntry, left_entry_of, answers}
 use Rattle.cfd_semantics.specs.EntrySets.{IsUnanswered, IsOrphan}
 use Rattle.cfd_semantics.specs.Dirty.{IsDirtyKey}
+use Rattle.cfd_semantics.proofs.SideLists.{side_parts}
 use Rattle.cfd_semantics.proofs.Members.{contains-here, contains-there, contains_nothing, contains_cases}
 use Rattle.cfd_semantics.proofs.InclusionLaw.{found_by_any, any_from_found, both_true}
 use Rattle.cind_index.specs.declared.side.Side.TheVariants.{Left, Right}
@@ -30,10 +31,14 @@ use Rattle.cind_index.specs.declared.key_rows.KeyRows.{KeyRows}
 use Rattle.cind_index.specs.RowsHeld.{has, has_some, lacks_answer, is_dirty}
 use Rattle.cind_index.specs.KeysHeld.{KeyedRows, is_under, held, lefts, rights, AreMarkedRight}
 use Rattle.cind_index.specs.Orphans.{AreOrphans, AreDirtyKeys, IsDirtyCount}
+use Rattle.row_store.specs.Watch.{IsWide}
+use Rattle.cind_index.specs.Entries.{ids_in}
+use Rattle.cind_index.specs.Laws.{values_there}
+use Rattle.cind_index.proofs.SideFacts.{wide_front, wide_back}
 use Rattle.cind_index.proofs.MapFacts.{equal_lists, same_list}
 use Rattle.cind_index.proofs.PairFacts.{never, clash, any_at, found_at}
 use Rattle.cind_index.proofs.RowFacts.{some_row}
-use Rattle.cind_index.proofs.KeyFacts.{Pair, same_key, key_there, value_there, with_key}
+use Rattle.cind_index.proofs.KeyFacts.{Pair, same_key, key_there, value_there, pair_there, with_key}
 
 not_true : (b : Bool) → not b ≡ true → b ≡ false
 not_true true is = absurd (cc)
@@ -229,3 +234,39 @@ no_key_answers m k t left key absent right there = never (answers nat_eq t left 
     let under = both_true (bytes_eq right.key found.0.0.items) (has found.0.1.rights right.pattern right.row) found.3 in
     let same : k.items ≡ found.0.0.items = key ∙ equal_lists left.key right.key parts.0 ∙ equal_lists right.key found.0.0.items under.0 in
     clash (bytes_eq k.items found.0.0.items) (ap (bytes_eq k.items) (sym same) ∙ same_list k.items) (absent found.1 found.0.0 (key_there m.pairs found.1 found.0 found.2)))
+
+-- what a wide tuple gives on the left
+pub own_left : (rule : Inclusion ℕ) (row : ℕ) (ids : List ℕ) (left : SideEntry ℕ) → IsWide (rule.x ++ rule.xp) ids → left_entry_of rule (row, ids) ≡ Some left → (ids_in ids rule.x ≡ left.key) × (ids_in ids rule.xp ≡ left.pattern)
+own_left rule row ids left wide is =
+    let parts = side_parts rule.x rule.xp (row, ids) left is in (
+      same_Some (ids_in ids rule.x) left.key (sym (values_there ids rule.x (wide_front rule.x rule.xp ids wide)) ∙ parts.key),
+      same_Some (ids_in ids rule.xp) left.pattern (sym (values_there ids rule.xp (wide_back rule.x rule.xp ids wide)) ∙ parts.pattern),
+    )
+
+pub row_at : (tableau : List (InclusionRow ℕ)) (k : ℕ) (t x : InclusionRow ℕ) → k < length tableau → t ≡ get_or tableau k t → slice_get tableau k ≡ Some x → t ≡ x
+row_at tableau k t x within is at = same_Some t x (ap (λ (r : InclusionRow ℕ). Some r) is ∙ sym (slice_get-get_or tableau k t within) ∙ at)
+
+-- what is answered of a left entry
+abbrev pub TellsOrphan : Bool → KeyedRows → InclusionRow ℕ → SideEntry ℕ → Type 0
+TellsOrphan b m t left = IsTrue b ↔ IsUnanswered nat_eq t (rights m) left
+
+pub other_constants : (m : KeyedRows) (t : InclusionRow ℕ) (left : SideEntry ℕ) (pattern : List ℕ) → pattern ≡ left.pattern → bytes_eq t.xp pattern ≡ false → TellsOrphan false m t left
+other_constants m t left pattern is differ = (
+  (λ no. absurd (cc)),
+  (λ unanswered. absurd (clash (bytes_eq t.xp pattern) (ap (bytes_eq t.xp) is ∙ unanswered.constants) differ)),
+)
+
+pub key_is_found : (m : KeyedRows) → AreDistinct same_key m → (k : Vec ℕ Global) (place : ℕ) (v : KeyRows) (t : InclusionRow ℕ) (left : SideEntry ℕ) (pattern : List ℕ) → HasKey same_key m k place → slice_get (values_of m.pairs) place ≡ Some v
+    → k.items ≡ left.key → pattern ≡ left.pattern → bytes_eq t.xp pattern ≡ true → TellsOrphan (not (has_some v.rights t.yp)) m t left
+key_is_found m distinct k place v t left pattern (stored, at, same) value key is constants =
+    let pair = pair_there m.pairs place stored v at value in
+    let own : stored.items ≡ left.key = sym (equal_lists k.items stored.items same) ∙ key in (
+      (λ yes. record { constants = sym (ap (bytes_eq t.xp) is) ∙ constants; alone = alone_at m distinct t left place (stored, v) pair own (not_true (has_some v.rights t.yp) yes) }),
+      (λ unanswered. not_false (has_some v.rights t.yp) (none_answers m distinct t left place (stored, v) pair own unanswered.alone)),
+    )
+
+pub key_is_absent : (m : KeyedRows) (k : Vec ℕ Global) (t : InclusionRow ℕ) (left : SideEntry ℕ) (pattern : List ℕ) → IsAbsent same_key m k → k.items ≡ left.key → pattern ≡ left.pattern → bytes_eq t.xp pattern ≡ true → TellsOrphan true m t left
+key_is_absent m k t left pattern absent key is constants = (
+  (λ yes. record { constants = sym (ap (bytes_eq t.xp) is) ∙ constants; alone = no_key_answers m k t left key absent }),
+  (λ unanswered. refl),
+)
