@@ -205,8 +205,8 @@ module _ (m : KeyedRows) (place : ℕ) (k : Vec ℕ Global) (v w : KeyRows) (at 
         (ap (λ b. bytes_eq e.key k.items && b) (changes.here e.pattern e.row) ∙ less_over (bytes_eq e.key k.items) (bytes_eq e.pattern pattern && e.row == row) (has (rows_on v side) e.pattern e.row)
         ∙ ap (λ t. (bytes_eq e.key k.items && has (rows_on v side) e.pattern e.row) && not t) (ap (λ xs. bytes_eq e.key xs && (bytes_eq e.pattern pattern && e.row == row)) is ∙ sym (entry_flip key pattern row e)))
         (λ i x apart there gone.
-            let same = (both_true (bytes_eq e.key key) (bytes_eq e.pattern pattern && e.row == row) (sym (entry_flip key pattern row e) ∙ gone)).0 in
-            ap (λ b. b && has (rows_on x.1 side) e.pattern e.row) (ap (λ xs. bytes_eq xs x.0.items) (equal_lists e.key key same) ∙ elsewhere distinct key is i x apart there));
+        let same = (both_true (bytes_eq e.key key) (bytes_eq e.pattern pattern && e.row == row) (sym (entry_flip key pattern row e) ∙ gone)).0 in
+        ap (λ b. b && has (rows_on x.1 side) e.pattern e.row) (ap (λ xs. bytes_eq xs x.0.items) (equal_lists e.key key same) ∙ elsewhere distinct key is i x apart there));
     beside = same_beside changes.beside;
   }
 

@@ -119,12 +119,16 @@ module _ (m : KeyedRows) (distinct : AreDistinct same_key m) where
   at_entry t left there unanswered =
       let found = found_at (is_under Left left) m.pairs there in
       let under = both_true (bytes_eq left.key found.0.0.items) (has found.0.1.lefts left.pattern left.row) found.3 in
-      let key = equal_lists left.key found.0.0.items under.0 in
-      (found.1, found.0, key, record {
-        at = found.2;
-        left = ap (λ p. has found.0.1.lefts p left.row) (equal_lists t.xp left.pattern unanswered.constants) ∙ under.1;
-        none = none_answers t left found.1 found.0 found.2 (sym key) unanswered.alone;
-      })
+      let key = equal_lists left.key found.0.0.items under.0 in (
+        found.1,
+        found.0,
+        key,
+        record {
+          at = found.2;
+          left = ap (λ p. has found.0.1.lefts p left.row) (equal_lists t.xp left.pattern unanswered.constants) ∙ under.1;
+          none = none_answers t left found.1 found.0 found.2 (sym key) unanswered.alone;
+        },
+      )
 
   module _ (tableau : List (InclusionRow ℕ)) (right : AreMarkedRight tableau m) where
     is_marked : (t : InclusionRow ℕ) (row i : ℕ) (x : Pair) → Contains tableau t → OrphanAt m t row i x → i < m.marked

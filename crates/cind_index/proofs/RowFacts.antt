@@ -111,8 +111,7 @@ pub appended_rows : (old new : List ℕ) (self : RowSet) (rows : treeset.BTreeSe
 appended_rows old new self rows row which is =
     let by_append = append_members old rows.keys row in
     let by_test = set_members rows.keys row in
-    let test : is_in self row ≡ is_in (More rows) row = ap (λ set. is_in set row) which in
-    (
+    let test : is_in self row ≡ is_in (More rows) row = ap (λ set. is_in set row) which in (
       (λ inside. elim (by_append.0 (subst (λ xs. Contains xs row) is inside)) [ inl first ↦ inl first | inr second ↦ inr (test ∙ by_test.1 second) ]),
       (λ either. subst (λ xs. Contains xs row) (sym is) (by_append.1 (elim either [ inl first ↦ inl first | inr second ↦ inr (by_test.0 (sym test ∙ second)) ]))),
     )

@@ -87,7 +87,9 @@ impl CindIndex {
         let _len = self.keys.len();
         let mut found = Vec::new(*self.key.allocator());
         for place in 0..self.keys.marked() {
-            self.keys.value_at(place).push_orphans(tableau_row, &mut found)?;
+            self.keys
+                .value_at(place)
+                .push_orphans(tableau_row, &mut found)?;
         }
         found.sort()?;
         found.dedup();

@@ -172,6 +172,14 @@ impl CindIndex {
         write_ids(&mut self.pattern, old, pattern_on(&self.rule, side));
         let tableau = self.rule.rows.as_slice();
         let pattern = self.pattern.as_slice();
-        take_entry(&mut self.keys, tableau, side, &self.key, pattern, row, steps);
+        take_entry(
+            &mut self.keys,
+            tableau,
+            side,
+            &self.key,
+            pattern,
+            row,
+            steps,
+        );
     }
 }

@@ -52,6 +52,6 @@ returns-clause-new g c =
       (λ key_is at. subst (λ xs. HasKeyAt c.put_entry.new.keys place xs)
           (key ∙ same_Some (ids_in ids (key_on index.rule side)) key_is (sym (values_there ids (key_on index.rule side) (wide_front (key_on index.rule side) (pattern_on index.rule side) ids wide)) ∙ at)) has.0),
       not_held index.rule side row ids index.keys wide
-      (ap (λ k. held index.keys side (record { key = k; pattern = ids_in ids (pattern_on index.rule side); row = row })) (sym key)
-      ∙ ap (λ p. held index.keys side (record { key = c.in_ok-key.key.items; pattern = p; row = row })) (sym pattern) ∙ has.1),
+          (ap (λ k. held index.keys side (record { key = k; pattern = ids_in ids (pattern_on index.rule side); row = row })) (sym key)
+          ∙ ap (λ p. held index.keys side (record { key = c.in_ok-key.key.items; pattern = p; row = row })) (sym pattern) ∙ has.1),
     )) known) c.put_entry.ensures.new

@@ -11,8 +11,7 @@ returns c =
     let t = c.args.tableau_row.now in
     let none : has_some self.rights t.yp ≡ false = sym c.if-has_answer.ensures in
     on_ok c.push_rows.result (λ step row.
-    let one = subst (λ xs. Contains c.push_rows.new.found.items row ↔ (Contains c.args.found.now.items row ⊎ IsTrue (has self.lefts xs row))) c.as_slice.ensures (step row) in
-    (
+    let one = subst (λ xs. Contains c.push_rows.new.found.items row ↔ (Contains c.args.found.now.items row ⊎ IsTrue (has self.lefts xs row))) c.as_slice.ensures (step row) in (
       (λ inside. elim (one.0 inside) [ inl was ↦ inl was | inr more ↦ inr (more, none) ]),
       (λ either. one.1 (elim either [ inl was ↦ inl was | inr both ↦ inr both.0 ])),
     )) c.push_rows.ensures
