@@ -1,0 +1,12 @@
+use Rattle.std.proofs.Common.{ap, not, ◌∙◌}
+use Rattle.cind_index.specs.Entries.{is_entry}
+use Rattle.cind_index.proofs.KeyFacts.{nothing_more, same_then_same}
+use Rattle.cind_index.proofs.keys.put_entry.Goals as goal
+
+pub returns-else-new-clause-old : goal.returns-else-new-clause-old
+returns-else-new-clause-old g c =
+    let old = c.args.keys.now in
+    let mid = c.enter_entry.new.keys in
+    same_then_same old mid c.settle-place.new.keys
+    (nothing_more c.args.side c.args.key.items c.args.pattern.now c.args.row old mid (c.in_ok-place.ensures.new ∙ ap not c.if-new.false) c.in_ok-place.ensures.ok)
+    c.settle-place.ensures.same

@@ -1,0 +1,7 @@
+pub mod Entries
+pub mod RowsHeld
+pub mod KeysHeld
+pub mod Orphans
+pub mod Index
+pub mod Laws
+pub mod Walk

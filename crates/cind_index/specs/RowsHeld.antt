@@ -1,0 +1,91 @@
+-- The rows of one side with one key, by their pattern values; and the rows of both sides with one key.
+use Rattle.std.specs.Prelude.{◌≡◌, ℕ, ◌==◌, ◌<◌, ◌&&◌, ◌||◌, not, nat_lt, Bool, true, false, List, Option, length}
+use Rattle.std.specs.List.{list_any}
+use Rattle.std.specs.Option.{option_map_or}
+use Rattle.std.specs.Ordering.{nat_cmp}
+use Rattle.std.specs.Cmp.Lexicographic.{slice_cmp}
+use Rattle.std.specs.Str.{bytes_eq}
+use Rattle.std.specs.declared.vec.Vec.{Vec}
+use Rattle.std.specs.declared.alloc.Global.{Global}
+use Rattle.std.specs.BTreeMap as tree
+use Rattle.std.specs.BTreeSet as treeset
+use Rattle.cfd_semantics.specs.declared.inclusion.InclusionRow.{InclusionRow}
+use Rattle.cind_index.specs.declared.side.Side.{Side}
+use Rattle.cind_index.specs.declared.side.Side.TheVariants.{Left, Right}
+use Rattle.cind_index.specs.declared.row_set.RowSet.{RowSet}
+use Rattle.cind_index.specs.declared.row_set.RowSet.TheVariants.{One, More}
+use Rattle.cind_index.specs.declared.side_rows.SideRows.{SideRows}
+use Rattle.cind_index.specs.declared.side_rows.SideRows.TheVariants.{Empty, Single, Several}
+use Rattle.cind_index.specs.declared.key_rows.KeyRows.{KeyRows}
+
+-- rows by their pattern values, as the code keeps them
+abbrev pub Patterns : Type 0
+Patterns = tree.BTreeMap (Vec ℕ Global) RowSet
+
+-- whether the row is in the set, and whether any is
+abbrev pub is_in : RowSet → ℕ → Bool
+is_in (One held) row = row == held
+is_in (More rows) row = treeset.contains nat_cmp rows row
+
+abbrev pub is_filled : RowSet → Bool
+is_filled (One held) = true
+is_filled (More rows) = nat_lt 0 (length rows.keys)
+
+-- the rows with these pattern values in a map
+abbrev pub rows_in : Patterns → List ℕ → Option RowSet
+rows_in patterns pattern = tree.get_by (λ (held : Vec ℕ Global). slice_cmp nat_cmp pattern held.items) patterns
+
+abbrev pub in_map : Patterns → List ℕ → ℕ → Bool
+in_map patterns pattern row = option_map_or (λ rows. is_in rows row) (rows_in patterns pattern) false
+
+-- whether the row is held with these pattern values, and whether any row is
+abbrev pub has : SideRows → List ℕ → ℕ → Bool
+has Empty pattern row = false
+has (Single held rows) pattern row = bytes_eq pattern held.items && is_in rows row
+has (Several patterns) pattern row = in_map patterns pattern row
+
+abbrev pub has_some : SideRows → List ℕ → Bool
+has_some Empty pattern = false
+has_some (Single held rows) pattern = bytes_eq pattern held.items && is_filled rows
+has_some (Several patterns) pattern = option_map_or is_filled (rows_in patterns pattern) false
+
+-- ---- changes
+
+-- the row came in with these pattern values, or went away with them, and nothing else changed
+abbrev pub HasRowMore : List ℕ → ℕ → SideRows → SideRows → Type 0
+HasRowMore pattern row old new = (ids : List ℕ) (other : ℕ) → has new ids other ≡ ((bytes_eq ids pattern && other == row) || has old ids other)
+
+abbrev pub HasRowLess : List ℕ → ℕ → SideRows → SideRows → Type 0
+HasRowLess pattern row old new = (ids : List ℕ) (other : ℕ) → has new ids other ≡ (not (bytes_eq ids pattern && other == row) && has old ids other)
+
+-- the same rows are held with the same pattern values
+abbrev pub HaveTheSame : SideRows → SideRows → Type 0
+HaveTheSame old new = (ids : List ℕ) (other : ℕ) → has new ids other ≡ has old ids other
+
+abbrev pub HasNothing : SideRows → Type 0
+HasNothing rows = (ids : List ℕ) (row : ℕ) → has rows ids row ≡ false
+
+-- ---- both sides
+
+-- the rows of a side
+abbrev pub rows_on : KeyRows → Side → SideRows
+rows_on rows Left = rows.lefts
+rows_on rows Right = rows.rights
+
+-- the side across
+abbrev pub across : Side → Side
+across Left = Right
+across Right = Left
+
+-- one side changed in a way, and the side across has what it had
+pub record ChangesOn (side : Side) (Change : SideRows → SideRows → Type 0) (old new : KeyRows) : Type 0 where
+  pub here : Change (rows_on old side) (rows_on new side)
+  pub beside : HaveTheSame (rows_on old (across side)) (rows_on new (across side))
+
+-- some left row has the constants of Xp, and no right row those of Yp
+abbrev pub lacks_answer : KeyRows → InclusionRow ℕ → Bool
+lacks_answer rows t = has_some rows.lefts t.xp && not (has_some rows.rights t.yp)
+
+-- for some row of the tableau
+abbrev pub is_dirty : List (InclusionRow ℕ) → KeyRows → Bool
+is_dirty tableau rows = list_any (lacks_answer rows) tableau

@@ -1,0 +1,124 @@
+//! The index of one inclusion: what it was made with, the rows under all keys, and the orphans.
+ghost use Rattle.std.specs.Prelude.{◌≡◌, ◌+◌, ◌<◌, ◌≤◌, ◌++◌, ◌↔◌, ℕ, Some, false, nat_eq, length, slice_get, IsTrue, IfOk};
+ghost use Rattle.std.specs.Option.{ForSome};
+ghost use Rattle.row_store.specs.Tuple.{ids_of};
+ghost use Rattle.row_store.specs.Watch.{IsWide};
+ghost use Rattle.cfd_semantics.specs.Orphan.{SideEntry, left_entry_of};
+ghost use Rattle.cfd_semantics.specs.EntrySets.{IsUnanswered};
+ghost use Rattle.cind_index.specs.KeysHeld.{lefts, rights, AreMarkedRight, HaveRoom};
+ghost use Rattle.cind_index.specs.Orphans.{AreOrphans, IsDirtyCount};
+
+use crate::ids::{has_ids, write_ids};
+use crate::keys::Keys;
+use cfd_semantics::{Inclusion, InclusionRow};
+use marked_map::MarkedMap;
+use probe_steps::Steps;
+use row_store::{RowId, Tuple};
+use std::alloc::{AllocError, Global};
+use std::sync::ledger::Ledger;
+use value_pool::ValueId;
+
+/// A row of the tableau: an id for each attribute of Xp, and for each of Yp.
+pub type IdPairRow = InclusionRow<ValueId>;
+
+/// The entries of both sides of an inclusion of a left table in a right one, which may be one table.
+#[derive(Drop)]
+pub struct CindIndex {
+    pub(crate) left: usize,
+    pub(crate) right: usize,
+    pub(crate) rule: Inclusion<ValueId>,
+    pub(crate) keys: Keys,
+    // Room for one key and for pattern values, so that an entry is taken away without memory.
+    pub(crate) key: Vec<ValueId>,
+    pub(crate) pattern: Vec<ValueId>,
+    ghost marks: { AreMarkedRight rule.rows keys },
+    ghost room: { 0 < length keys.pairs → HaveRoom rule key pattern },
+}
+
+impl CindIndex {
+    /// An index without entries, which takes no memory yet.
+    pub fn new(alloc: Global, left: usize, right: usize, rule: Inclusion<ValueId>) -> CindIndex
+        ensures left { result.left ≡ left }
+        ensures right { result.right ≡ right }
+        ensures rule { result.rule ≡ rule }
+        ensures no_left { (entry : SideEntry ℕ) → lefts result.keys entry ≡ false }
+        ensures no_right { (entry : SideEntry ℕ) → rights result.keys entry ≡ false }
+    {
+        CindIndex {
+            left,
+            right,
+            rule,
+            keys: MarkedMap::new(alloc),
+            key: Vec::new(alloc),
+            pattern: Vec::new(alloc),
+        }
+    }
+
+    /// How many rows the tableau has.
+    pub fn tableau_rows(&self) -> usize
+        ensures { result ≡ length self.now.rule.rows }
+    {
+        self.rule.rows.as_slice().len()
+    }
+
+    /// How many keys have an orphan for some row of the tableau: those that are marked.
+    pub fn dirty(&self) -> usize
+        ensures dirty { IsDirtyCount self.now.rule (lefts self.now.keys) (rights self.now.keys) result }
+        ensures marked { result ≡ self.now.keys.marked }
+    {
+        // The length is what says that no key stands twice.
+        let _len = self.keys.len();
+        self.keys.marked()
+    }
+
+    /// The orphans of a row of the tableau, by rising ids: the left rows with the constants of Xp whose key no right row with
+    /// the constants of Yp has. Only dirty keys are gone over.
+    pub fn orphans<L: Ledger>(
+        &self,
+        k: usize,
+        steps: &mut Steps<L>,
+    ) -> Result<Vec<RowId>, AllocError>
+        requires { k < length self.now.rule.rows }
+        ensures orphans { IfOk result (λ found. ForSome (slice_get self.now.rule.rows k) (AreOrphans (lefts self.now.keys) (rights self.now.keys) found.items)) }
+        ensures probes { steps.new ≤ steps.old + self.now.keys.marked }
+    {
+        let tableau_row = &self.rule.rows.as_slice()[k];
+        // The length is what says that no key stands twice.
+        let _len = self.keys.len();
+        let mut found = Vec::new(*self.key.allocator());
+        for place in 0..self.keys.marked() {
+            self.keys
+                .value_at(place)
+                .push_orphans(tableau_row, &mut found)?;
+        }
+        found.sort()?;
+        found.dedup();
+        Ok(found)
+    }
+
+    /// Whether a left row with this tuple is an orphan of a row of the tableau. Memory is for its key alone.
+    pub fn is_orphan<L: Ledger>(
+        &self,
+        k: usize,
+        tuple: &Tuple,
+        steps: &mut Steps<L>,
+    ) -> Result<bool, AllocError>
+        requires k { k < length self.now.rule.rows }
+        requires wide { IsWide (self.now.rule.x ++ self.now.rule.xp) (ids_of tuple.now) }
+        ensures orphan { IfOk result (λ is. ForSome (slice_get self.now.rule.rows k) (λ t. (row : ℕ) → ForSome (left_entry_of self.now.rule (row, ids_of tuple.now))
+            (λ left. IsTrue is ↔ IsUnanswered nat_eq t (rights self.now.keys) left))) }
+        ensures probes { steps.new ≤ steps.old + 1 }
+    {
+        let tableau_row = &self.rule.rows.as_slice()[k];
+        if !has_ids(tuple, self.rule.xp.as_slice(), tableau_row.xp.as_slice()) {
+            return Ok(false);
+        }
+        let x = self.rule.x.as_slice();
+        let mut key = Vec::with_capacity(*self.key.allocator(), x.len())?;
+        write_ids(&mut key, tuple, x);
+        match self.keys.find(&key, steps) {
+            Some(place) => Ok(!self.keys.value_at(place).has_answer(tableau_row)),
+            None => Ok(true),
+        }
+    }
+}

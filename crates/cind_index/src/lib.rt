@@ -1,0 +1,23 @@
+//! Both sides of an inclusion R1[X; Xp] in R2[Y; Yp], kept in step with the rows. It knows value ids and no texts.
+//! Contracts see two sets of entries, one a side, and how many keys have an orphan.
+//!
+//! Under a key stand the rows of both sides by their pattern values. Keys with an orphan are marked and come first, so the
+//! orphans are found by going over these alone. A change of a row costs a hash for each side that it is on, a search among
+//! the key's rows, and a look at each row of the tableau.
+#![tactic(auto)]
+
+mod ids;
+mod index;
+mod key_rows;
+mod keys;
+mod row_set;
+mod side;
+mod side_rows;
+mod sides;
+mod watch;
+
+pub use cfd_semantics::Inclusion;
+pub use index::{CindIndex, IdPairRow};
+
+#[cfg(test)]
+mod tests;
