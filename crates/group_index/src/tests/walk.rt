@@ -5,9 +5,9 @@ ghost use Rattle.std.specs.FinMap as map;
 ghost use Rattle.row_store.specs.Watches.{IsInStep};
 ghost use Rattle.group_index.specs.GroupSet.{attributes_of};
 
+use crate::GroupIndex;
 use crate::tests::edits::{change_row, delete_row, insert_row};
 use crate::tests::shapes::{SHAPES, shape};
-use crate::GroupIndex;
 use cfd_semantics::{Dependency, Row, violating};
 use probe_steps::Steps;
 use row_store::{RowId, RowStore, Tuple, Watch};
@@ -87,7 +87,10 @@ fn agrees<L: Ledger>(
         some = some || !listed.as_slice().is_empty();
         if let Some(tuple) = store.get(1) {
             let partner = index.partner(k, 1, tuple, steps)?;
-            let of_row = scanned.as_slice().iter().find(|violation| violation.row == 1);
+            let of_row = scanned
+                .as_slice()
+                .iter()
+                .find(|violation| violation.row == 1);
             if partner != of_row.and_then(|violation| violation.partner) {
                 return Ok(false);
             }
@@ -136,7 +139,10 @@ fn walks<L: Ledger>(alloc: Global, number: usize, blank: Blank) -> Result<bool, 
 #[test]
 fn walks_beside_a_scan(rt: HostRuntime) -> Result<(), Fail> {
     for number in 0..SHAPES {
-        assert!(rt; walks::<Brand>(rt.alloc(), number, Blank::new(1))?, "{number}");
+        assert!(rt;
+            walks::<Brand>(rt.alloc(), number, Blank::new(1))?,
+            "{number}"
+        );
     }
     Ok(())
 }
