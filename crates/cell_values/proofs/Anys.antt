@@ -31,7 +31,7 @@ Any-append P [] ys any = inr any
 Any-append P (x ∷ xs) ys any = elim (Any-cases P x (xs ++ ys) any) [
   | inl here ↦ inl (Any-here P x xs here)
   | inr there ↦ elim (Any-append P xs ys there) [
-      | inl left ↦ inl (Any-there P x xs left)
-      | inr right ↦ inr right
+    | inl left ↦ inl (Any-there P x xs left)
+    | inr right ↦ inr right
   ]
 ]

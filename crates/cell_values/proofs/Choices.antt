@@ -27,11 +27,11 @@ search_first p zero = inr (λ j less. absurd (omega arith))
 search_first p (suc n) = elim (search_first p n) [
   | inl found ↦ inl (record { at = found.at; within = let inside = found.within in omega arith; passes = found.passes; before = found.before })
   | inr none ↦ elim (cases_Bool (p n)) [
-      | inl here ↦ inl (record { at = n; within = omega arith; passes = here; before = none })
-      | inr not ↦ inr (λ j less. elim (cases_lt j n) [
-          | inl low ↦ none j low
-          | inr high ↦ (let same : j ≡ n = omega arith in subst (λ (k : ℕ). p k ≡ false) (sym same) not)
-      ])
+    | inl here ↦ inl (record { at = n; within = omega arith; passes = here; before = none })
+    | inr not ↦ inr (λ j less. elim (cases_lt j n) [
+      | inl low ↦ none j low
+      | inr high ↦ (let same : j ≡ n = omega arith in subst (λ (k : ℕ). p k ≡ false) (sym same) not)
+    ])
   ]
 ]
 
@@ -86,12 +86,12 @@ module _ (v : CellValues) (good : AreValues v) where
   pub counts_once : (text : List ℕ) (p q : ℕ) → p < length v.values → q < length v.values → counts_as v text p ≡ true → counts_as v text q ≡ true → p ≡ q
   counts_once text p q p_in q_in p_counts q_counts = elim (cases_lt p v.constants) [
     | inl p_low ↦ elim (cases_lt q v.constants) [
-        | inl q_low ↦ same_place p q p_in q_in (is_constant v text p p_low p_counts ∙ sym (is_constant v text q q_low q_counts))
-        | inr q_high ↦ absurd (is_other v text q q_high q_counts (subst (Contains (constants v)) (is_constant v text p p_low p_counts) (constant_there p p_low)))
+      | inl q_low ↦ same_place p q p_in q_in (is_constant v text p p_low p_counts ∙ sym (is_constant v text q q_low q_counts))
+      | inr q_high ↦ absurd (is_other v text q q_high q_counts (subst (Contains (constants v)) (is_constant v text p p_low p_counts) (constant_there p p_low)))
     ]
     | inr p_high ↦ elim (cases_lt q v.constants) [
-        | inl q_low ↦ absurd (is_other v text p p_high p_counts (subst (Contains (constants v)) (is_constant v text q q_low q_counts) (constant_there q q_low)))
-        | inr q_high ↦ (let few = good.few in omega arith)
+      | inl q_low ↦ absurd (is_other v text p p_high p_counts (subst (Contains (constants v)) (is_constant v text q q_low q_counts) (constant_there q q_low)))
+      | inr q_high ↦ (let few = good.few in omega arith)
     ]
   ]
 

@@ -79,8 +79,8 @@ module _ (truth : ℕ → Bool) (test : List ℕ → Bool) (positive : Bool) whe
   told_of_true first [] any = absurd (Any-nil (IsTrueUnder truth) any)
   told_of_true first (value ∷ values) any = elim (cases_Bool (test value)) [
     | inl passes ↦ elim (Any-cases (IsTrueUnder truth) (record { var = first; positive = positive }) (literals_where test positive (first + 1) values) (subst (LitsAt first value values) passes any)) [
-        | inl here ↦ told_here first value values passes here
-        | inr there ↦ told_next first value values (told_of_true (first + 1) values there)
+      | inl here ↦ told_here first value values passes here
+      | inr there ↦ told_next first value values (told_of_true (first + 1) values there)
     ]
     | inr fails ↦ told_next first value values (told_of_true (first + 1) values (subst (LitsAt first value values) fails any))
   ]

@@ -21,7 +21,7 @@ pub struct TableRules<'a> {
 impl<'a> Model for TableRules<'a> {
     ghost use Rattle.std.specs.Prelude.{List, map};
     ghost use Rattle.std.specs.List.{list_any};
-ghost use Rattle.cell_values.specs.TableRules.{Rule};
+    ghost use Rattle.cell_values.specs.TableRules.{Rule};
 
     ghost Value = { List Rule };
 

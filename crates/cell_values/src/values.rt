@@ -123,11 +123,7 @@ fn gather_from(
     }
 }
 
-fn gather_cells(
-    alloc: Global,
-    rules: &TableRules<'_>,
-    attr: usize,
-) -> Result<Gathered, AllocError>
+fn gather_cells(alloc: Global, rules: &TableRules<'_>, attr: usize) -> Result<Gathered, AllocError>
     ensures { IfOk result (λ found. found ≡ record { values = once_after [] (flat_map constants_of (cells_at rules.now attr)); other = list_any is_set (cells_at rules.now attr) }) }
 {
     let mut found = Gathered {

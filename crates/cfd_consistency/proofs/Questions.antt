@@ -6,10 +6,11 @@ use Rattle.std.proofs.lemmas.Bool.{eq-eqb, eqb-true}
 use Rattle.std.proofs.lemmas.List.Elements.{All-contains, Contains-get_or}
 use Rattle.std.proofs.lemmas.Option.{slice_get-get_or}
 use Rattle.std.specs.Option.{option_map_or}
-use Rattle.std.specs.Prelude.{Option, true}
+use Rattle.std.specs.Prelude.{IfSome, Option, Some, None, true}
+use Rattle.std.proofs.lemmas.List.Quantifiers.{position-Some}
 use Rattle.cfd_semantics.specs.Satisfaction.{Satisfies}
 use Rattle.std.specs.Str.{bytes_eq}
-use Rattle.schema_core.specs.Schemas.{IsValidAttr, IsValidTable}
+use Rattle.schema_core.specs.Schemas.{IsValidAttr, IsValidTable, table_place}
 use Rattle.schema_core.specs.Lookups.{attrs_at}
 use Rattle.schema_core.specs.declared.schema.Attr.{Attr}
 use Rattle.schema_core.specs.declared.schema.Table.{Table}
@@ -25,6 +26,7 @@ use Rattle.cell_values.specs.TableRules.{Rule, rule_of, rules_with, table_rules}
 use Rattle.cell_values.specs.Tuples.{IsTupleOf}
 use Rattle.cell_values.specs.Values.{occurring}
 use Rattle.cell_values.proofs.ValueOrder.{total}
+use Rattle.cfd_consistency.specs.Answer.{HasLaw}
 use Rattle.cfd_consistency.specs.Consistent.{IsConsistent, IsWitness}
 use Rattle.cfd_consistency.specs.Question.{HasAllowed, question}
 use Rattle.cfd_consistency.specs.Witness.{tuple_of}
@@ -108,3 +110,13 @@ module _ (book : Book) (good : IsBook book) (table : ℕ) (within : table < leng
   pub question_vars : var_count (question book table).cells ≡ total (occurring attrs rules)
   unfolding question
   question_vars = cells_count 0 (occurring attrs rules)
+
+-- the law for the table of a name
+law_there : (book : Book) → IsBook book → (name : List ℕ) (table : Option ℕ) → table_place book.schema name ≡ table → IfSome table (HasLaw book)
+law_there book good name None is = tt
+law_there book good name (Some table) is =
+    let d : Table = record { name = []; file = []; master = true; attrs = [] } in
+    law book good table (position-Some (λ (t : Table). bytes_eq t.name name) book.schema.tables table d is).0
+
+pub law_named : (book : Book) → IsBook book → (name : List ℕ) → IfSome (table_place book.schema name) (HasLaw book)
+law_named book good name = law_there book good name (table_place book.schema name) refl

@@ -136,9 +136,10 @@ module _ (tuple : List (List ℕ)) (rule : Rule) (x : All (λ attr. attr < lengt
   satisfied_if each row t u one other row_there t_there u_there t_sides u_sides same match =
       let own = sides_there tuple rule x a in
       let one-is : own_sides tuple rule ≡ one = is_own t one t_there t_sides in
-      let other-is : own_sides tuple rule ≡ other = is_own u other u_there u_sides in
-      (subst (λ (s : Sides (List ℕ)). bytes_eq one.a s.a ≡ true) other-is (subst (λ (s : Sides (List ℕ)). bytes_eq s.a (text_of tuple rule.a) ≡ true) one-is (bytes_same (text_of tuple rule.a))),
-      subst (λ (s : Sides (List ℕ)). matches bytes_eq row.a s.a ≡ true) one-is (each row row_there (subst (λ (s : Sides (List ℕ)). all_match bytes_eq row.x s.x ≡ true) (sym one-is) match)))
+      let other-is : own_sides tuple rule ≡ other = is_own u other u_there u_sides in (
+        subst (λ (s : Sides (List ℕ)). bytes_eq one.a s.a ≡ true) other-is (subst (λ (s : Sides (List ℕ)). bytes_eq s.a (text_of tuple rule.a) ≡ true) one-is (bytes_same (text_of tuple rule.a))),
+        subst (λ (s : Sides (List ℕ)). matches bytes_eq row.a s.a ≡ true) one-is (each row row_there (subst (λ (s : Sides (List ℕ)). all_match bytes_eq row.x s.x ≡ true) (sym one-is) match)),
+      )
 
   pub holds_if_satisfied : Satisfies bytes_eq rule (tuple ∷ []) → (row : TableauRow (List ℕ)) → Contains rule.rows row → RowHolds (text_of tuple) rule row
   holds_if_satisfied satisfied row row_there match =

@@ -150,7 +150,7 @@ module _ (values : List CellValues) (rules : List Rule) (rising : Rising values)
       elim (Contains-append_cases front (meets_at values (rule.a, row.a)) one one_there) [
         | inl left ↦ absurd (All-contains NotFree front one all left one_positive one_free)
         | inr one_right ↦ elim (Contains-append_cases front (meets_at values (rule.a, row.a)) other other_there) [
-            | inl left ↦ absurd (All-contains NotFree front other all left other_positive other_free)
-            | inr other_right ↦ meets_at_once (rule.a, row.a) right asking one other one_right other_right one_positive other_positive one_free other_free
+          | inl left ↦ absurd (All-contains NotFree front other all left other_positive other_free)
+          | inr other_right ↦ meets_at_once (rule.a, row.a) right asking one other one_right other_right one_positive other_positive one_free other_free
         ]
       ]

@@ -1,8 +1,8 @@
 //! The decider.
 
-ghost use Rattle.std.specs.Prelude.{◌≡◌, ◌≤◌, ◌↔◌, ◌<◌, None, Err, length, IfOk};
+ghost use Rattle.std.specs.Prelude.{◌≡◌, ◌≤◌, ◌↔◌, ◌<◌, None, Err, length, IfOk, IfSome};
 ghost use Rattle.schema_core.specs.Schemas.{table_place};
-ghost use Rattle.cfd_consistency.specs.Answer.{IsAnswer, IsAnswerFor};
+ghost use Rattle.cfd_consistency.specs.Answer.{HasLaw, IsAnswer, IsAnswerFor};
 
 use crate::question::{Question, attrs_at};
 use crate::witness::tuple_of;
@@ -51,6 +51,7 @@ pub fn consistent(
     requires some { 1 ≤ budget }
     requires within { budget ≤ 1000000 }
     ensures answer { IfOk result (IsAnswerFor rules.now table.now budget) }
+    ensures law { IfSome (table_place rules.now.schema table.now) (HasLaw rules.now) }
     ensures unknown { (result ≡ Err DecideFault.UnknownTable) ↔ (table_place rules.now.schema table.now ≡ None) }
 {
     let Some(number) = rules.schema().table_named(table) else {

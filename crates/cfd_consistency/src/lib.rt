@@ -10,3 +10,6 @@ mod witness;
 
 pub use decider::{Consistency, DecideFault, consistent};
 pub use question::consistency_clauses;
+
+#[cfg(test)]
+mod tests;

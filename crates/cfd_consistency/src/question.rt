@@ -1,14 +1,14 @@
 //! The question of a table: the values of its attributes, and the clauses over their variables.
 
-ghost use Rattle.std.specs.Prelude.{◌≡◌, ◌+◌, ◌<◌, ◌++◌, ◌↔◌, [], ◌∷◌, length, All, IfOk, OnOk};
+ghost use Rattle.std.specs.Prelude.{◌≡◌, ◌+◌, ◌<◌, ◌++◌, [], ◌∷◌, length, All, IfOk, OnOk};
 ghost use Rattle.std.specs.List.{flat_map};
 ghost use Rattle.schema_core.specs.Lookups.{attrs_at};
 ghost use Rattle.rule_model.specs.Books.{IsBook, book_deps};
 ghost use Rattle.case_search.specs.Answer.{HasOneFree};
 ghost use Rattle.cell_values.specs.TableRules.{rules_with};
 ghost use Rattle.cell_values.specs.Values.{AreFew, occurring};
-ghost use Rattle.cfd_consistency.specs.Consistent.{IsConsistent};
-ghost use Rattle.cfd_consistency.specs.Question.{HasAllowed, cell_of_values, cells_from, question, question_of};
+ghost use Rattle.cfd_consistency.specs.Answer.{HasLaw};
+ghost use Rattle.cfd_consistency.specs.Question.{cell_of_values, cells_from, question, question_of};
 
 use crate::clauses::clauses_of;
 use case_tree::{Clauses, VarCell};
@@ -26,7 +26,7 @@ pub fn consistency_clauses(
 ) -> Result<Clauses, AllocError>
     requires { table < length rules.now.schema.tables }
     ensures clauses { IfOk result (λ clauses. clauses ≡ question rules.now table) }
-    ensures law { HasAllowed (question rules.now table) ↔ IsConsistent rules.now table }
+    ensures law { HasLaw rules.now table }
 {
     Ok(Question::new(alloc, rules, table)?.clauses)
 }
@@ -80,11 +80,7 @@ fn cells_of(alloc: Global, values: &[CellValues]) -> Result<Vec<VarCell>, AllocE
     Ok(cells)
 }
 
-fn push_cell(
-    first: usize,
-    of_attr: &CellValues,
-    cells: &mut Vec<VarCell>,
-) -> Result<(), AllocError>
+fn push_cell(first: usize, of_attr: &CellValues, cells: &mut Vec<VarCell>) -> Result<(), AllocError>
     ensures { OnOk result (cells.new.items ≡ cells.old.items ++ cell_of_values first of_attr.now) }
 {
     let count = of_attr.values.len();

@@ -55,8 +55,7 @@ returns-in-Model c =
     ∙ ap (λ (some : List Attr). tuple_of some c.as_slice.result.now (λ var. slice_index_or c.deref.result.now var false)) attrs-is
     ∙ ap (λ (some : List CellValues). tuple_of attrs some (λ var. slice_index_or c.deref.result.now var false)) (c.as_slice.ensures ∙ c.in_ok-question.ensures.values)
     ∙ ap (λ (some : List Bool). tuple_of attrs values (λ var. slice_index_or some var false)) c.deref.ensures.value
-    in
-    (
+    in (
       subst (IsWitness book table) (sym tuple-is) (witness_of book c.new.ensures.valid table c.requires.there truth allowed),
       subst (λ (tuple : List (List ℕ)). All (λ (text : List ℕ). length text ≤ 65535) tuple) (sym tuple-is) (witness_short book c.new.ensures.valid table c.requires.there truth),
     )
