@@ -1,8 +1,11 @@
 -- Tuples of four ids are wide enough for a narrow inclusion; and steps of the walk of the tests.
-use Rattle.std.proofs.Common.{◌≡◌, ℕ, ◌+◌, ◌<◌, ◌≤◌, Bool, true, false, cond, ◌||◌, ◌&&◌, List, [], ◌∷◌, ◌++◌, length, refl, sym, ap, ◌∙◌, subst, arith}
+use Rattle.std.proofs.Common.{◌≡◌, ℕ, ◌+◌, ◌<◌, ◌≤◌, Bool, true, false, cond, List, [], ◌∷◌, ◌++◌, length, Some, refl, sym, ap, ◌∙◌, subst, arith}
 use Rattle.std.specs.Prelude.{All, ◌==◌}
 use Rattle.std.proofs.lemmas.List.Elements.{All-nil, All-append, All-weaker}
+use Rattle.std.proofs.lemmas.Option.{same_Some}
 use Rattle.row_store.specs.Watch.{IsWide}
+use Rattle.cfd_semantics.specs.Orphan.{SideEntry}
+use Rattle.cind_index.specs.KeysHeld.{held, lefts, rights}
 use Rattle.cfd_semantics.specs.declared.inclusion.Inclusion.{Inclusion}
 use Rattle.cind_index.specs.declared.side.Side.{Side}
 use Rattle.cind_index.specs.declared.side.Side.TheVariants.{Left, Right}
@@ -38,14 +41,19 @@ nothing_from_next table row ids index last e high =
 pub nothing_later : (row : ℕ) (index : CindIndex) → HoldsNothingFrom row index → HoldsNothingFrom (row + 1) index
 nothing_later row index nothing e high = nothing e (omega (arith, high))
 
-pub joined : (a b n : Bool) → a ≡ false → (a || n) ≡ n
-joined a b n is = ap (λ x. x || n) is
+-- a new index holds nothing
+pub nothing_at_first : (row : ℕ) (index : CindIndex) → ((entry : SideEntry ℕ) → lefts index.keys entry ≡ false) → ((entry : SideEntry ℕ) → rights index.keys entry ≡ false) → HoldsNothingFrom row index
+nothing_at_first row index no_left no_right e low = on e.side
+  where
+    on : (side : Side) → held index.keys side e.entry ≡ false
+    on Left = no_left e.entry
+    on Right = no_right e.entry
 
--- the old tuple's entries gave way to the new one's
-pub replaced : (held given new : Bool) → held ≡ (given || new) → cond given new held ≡ new
-replaced held true new is = refl
-replaced held false new is = is
+pub narrow_still : (old new : CindIndex) → made_of new ≡ made_of old → IsNarrow old.rule → IsNarrow new.rule
+narrow_still old new made narrow = subst (λ (m : CindMade). IsNarrow m.rule) (sym made) narrow
 
-pub taken : (held given : Bool) → held ≡ given → cond given false held ≡ false
-taken held true is = refl
-taken held false is = is
+pub wide_still : (old new : CindIndex) (table : ℕ) (ids : List ℕ) → made_of new ≡ made_of old → IsNarrow old.rule → length ids ≡ 4 → IsWide (attributes_of (made_of new) table) ids
+wide_still old new table ids made narrow four = wide_all (made_of new) table ids (narrow_still old new made narrow) four
+
+pub wide_some : (old new : CindIndex) (table : ℕ) (ids x : List ℕ) → made_of new ≡ made_of old → IsNarrow old.rule → length ids ≡ 4 → Some ids ≡ Some x → IsWide (attributes_of (made_of new) table) x
+wide_some old new table ids x made narrow four is = wide_still old new table x made narrow (subst (λ xs. length xs ≡ 4) (same_Some ids x is) four)

@@ -2,7 +2,6 @@
 //! the scan of all pairs lists over the same rows.
 ghost use Rattle.std.specs.Prelude.{◌≡◌, ◌+◌, ◌<◌, IfOk, OnOk, length};
 ghost use Rattle.row_store.specs.Tuple.{ids_of};
-ghost use Rattle.cind_index.specs.Index.{made_of};
 ghost use Rattle.cind_index.specs.Walk.{AreBelowFour, IsNarrow, HoldsNothingFrom, HoldsLast};
 
 use crate::{CindIndex, IdPairRow, Inclusion};
@@ -61,6 +60,13 @@ fn rule(alloc: Global, digits: [&[u8]; 4], rows: usize) -> Result<Inclusion<usiz
     })
 }
 
+fn tuple_of(alloc: Global, ids: [usize; 4]) -> Result<Tuple, AllocError>
+    ensures { IfOk result (λ tuple. length (ids_of tuple) ≡ 4) }
+{
+    let [a, b, c, d] = ids;
+    RcSlice::from_slice(alloc, [a, b, c, d].as_slice())
+}
+
 // The rows of a table.
 fn rows_of(alloc: Global, plain: &[Plain], table: usize) -> Result<Vec<Row<usize>>, AllocError> {
     let mut rows = Vec::new(alloc);
@@ -90,7 +96,7 @@ fn agrees_at<L: Ledger>(
         return Ok(false);
     }
     for row in lefts {
-        let tuple: Tuple = RcSlice::from_slice(alloc, row.2.as_slice())?;
+        let tuple = tuple_of(alloc, row.2)?;
         if row.0 == index.left && index.is_orphan(k, &tuple, steps)? != scanned.contains(&row.1) {
             return Ok(false);
         }
@@ -126,7 +132,7 @@ fn agrees<L: Ledger>(
     Ok(some == (index.dirty() > 0))
 }
 
-// Adds what a row gives that had nothing, and no row after it.
+// Adds what a row gives that had nothing, as no row after it has.
 fn put<L: Ledger>(
     index: &mut CindIndex,
     table: usize,
@@ -137,7 +143,7 @@ fn put<L: Ledger>(
     requires nothing { HoldsNothingFrom row index.old }
     requires narrow { IsNarrow index.old.rule }
     requires four { length (ids_of tuple.now) ≡ 4 }
-    ensures made { made_of index.new ≡ made_of index.old }
+    ensures narrow { IsNarrow index.new.rule }
     ensures held { OnOk result (HoldsLast table row (ids_of tuple.now) index.new) }
 {
     index.add(table, row, None, tuple, steps)
@@ -156,7 +162,7 @@ fn change<L: Ledger>(
     requires narrow { IsNarrow index.old.rule }
     requires four_old { length (ids_of old.now) ≡ 4 }
     requires four_new { length (ids_of new.now) ≡ 4 }
-    ensures made { made_of index.new ≡ made_of index.old }
+    ensures narrow { IsNarrow index.new.rule }
     ensures held { OnOk result (HoldsLast table row (ids_of new.now) index.new) }
 {
     index.add(table, row, Some(old), new, steps)?;
@@ -175,10 +181,31 @@ fn take<L: Ledger>(
     requires held { HoldsLast table row (ids_of old.now) index.old }
     requires narrow { IsNarrow index.old.rule }
     requires four { length (ids_of old.now) ≡ 4 }
-    ensures made { made_of index.new ≡ made_of index.old }
+    ensures narrow { IsNarrow index.new.rule }
     ensures nothing { HoldsNothingFrom row index.new }
 {
     index.remove(table, row, old, None, steps);
+}
+
+// The last row stays, or is taken away.
+fn settle<L: Ledger>(
+    index: &mut CindIndex,
+    table: usize,
+    row: RowId,
+    tuple: &Tuple,
+    stays: bool,
+    steps: &mut Steps<L>,
+)
+    requires held { HoldsLast table row (ids_of tuple.now) index.old }
+    requires narrow { IsNarrow index.old.rule }
+    requires four { length (ids_of tuple.now) ≡ 4 }
+    ensures narrow { IsNarrow index.new.rule }
+    ensures nothing { HoldsNothingFrom (row + 1) index.new }
+{
+    if stays {
+        return;
+    }
+    take(index, table, row, tuple, steps);
 }
 
 // A new row comes in, gets other ids, and may go again. Whether the lists agree with the scan each time.
@@ -192,14 +219,15 @@ fn visit<L: Ledger>(
 ) -> Result<bool, AllocError>
     requires nothing { HoldsNothingFrom row index.old }
     requires narrow { IsNarrow index.old.rule }
-    ensures made { made_of index.new ≡ made_of index.old }
+    ensures narrow { IsNarrow index.new.rule }
     ensures nothing { OnOk result (HoldsNothingFrom (row + 1) index.new) }
 {
     let table = draw % 2;
+    let stays = draw % 5 < 3;
     let one = [draw / 2 % 3, draw / 6 % 3, draw / 18 % 3, draw / 54 % 3];
     let other = [draw / 2 % 3, draw / 162 % 3, draw / 486 % 3, draw / 54 % 3];
-    let first: Tuple = RcSlice::from_slice(alloc, one.as_slice())?;
-    let second: Tuple = RcSlice::from_slice(alloc, other.as_slice())?;
+    let first = tuple_of(alloc, one)?;
+    let second = tuple_of(alloc, other)?;
     put(index, table, row, &first, steps)?;
     plain.push((table, row, one))?;
     let put_right = agrees(alloc, index, plain.as_slice(), steps)?;
@@ -207,12 +235,12 @@ fn visit<L: Ledger>(
     plain.pop();
     plain.push((table, row, other))?;
     let changed_right = agrees(alloc, index, plain.as_slice(), steps)?;
-    if draw % 5 < 3 {
-        return Ok(put_right && changed_right);
+    settle(index, table, row, &second, stays, steps);
+    if !stays {
+        plain.pop();
     }
-    take(index, table, row, &second, steps);
-    plain.pop();
-    Ok(put_right && changed_right && agrees(alloc, index, plain.as_slice(), steps)?)
+    let left_right = agrees(alloc, index, plain.as_slice(), steps)?;
+    Ok(put_right && changed_right && left_right)
 }
 
 fn next_draw(draw: usize) -> usize
