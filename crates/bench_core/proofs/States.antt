@@ -19,7 +19,3 @@ side_by_side-set R [] (y ∷ ys) n d z h at = absurd h
 side_by_side-set R (x ∷ xs) [] n d z h at = absurd h
 side_by_side-set R (x ∷ xs) (y ∷ ys) zero d z h at = (at x refl h.0, h.1)
 side_by_side-set R (x ∷ xs) (y ∷ ys) (suc n) d z h at = (h.0, side_by_side-set R xs ys n d z h.1 at)
-
--- the rows of a table by its number
-pub rows_at-there : (state : State) (n : ℕ) (table : TableState) → n < length state → table ≡ get_or state n table → table.rows ≡ rows_at state n
-rows_at-there state n table within is = rw (slice_get_read state (length state) n table refl within is) refl

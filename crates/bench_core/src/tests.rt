@@ -1,4 +1,5 @@
-//! What a bench answers to edits: a table, whose lines are made one after the other on one bench.
+//! What a bench answers to edits: a table, whose lines are made one after the other on one bench. And a walk of edits,
+//! undos and redos beside plain lists of what was shown.
 
 ghost use Rattle.std.specs.Prelude.{ℕ, IfOk};
 ghost use Rattle.schema_core.specs.Limits.{AreLimits};
@@ -10,6 +11,7 @@ use row_store::RowId;
 use rule_model::RuleBook;
 use schema_core::{Limits, List, Schema, Text, Texts, parse_schema};
 use std::alloc::{AllocError, Global};
+use std::mem;
 use std::test::Fail;
 
 const SCHEMA: &[u8] =
@@ -50,6 +52,48 @@ insert u z | 1 of 2xb\n\
 insert u z | RowsFull\n\
 delete u 1 | done 2xb\n\
 insert u z | 2 of 2xb\n";
+
+/// Each line that isn't refused adds to the past, and drops what was undone.
+const WALK: &str = "\
+undo\n\
+redo\n\
+insert t x b\n\
+insert t y c\n\
+insert t x c\n\
+undo\n\
+undo\n\
+undo\n\
+undo\n\
+redo\n\
+redo\n\
+redo\n\
+set t 1 B zzzzz\n\
+redo\n\
+undo\n\
+undo\n\
+insert t y b\n\
+redo\n\
+delete t 1\n\
+undo\n\
+set t 1 B dddd\n\
+set t 1 B dddd\n\
+fix t 2 x b\n\
+undo\n\
+delete t 2\n\
+undo\n\
+redo\n\
+insert t x b\n\
+undo\n\
+undo\n\
+undo\n\
+undo\n\
+redo\n\
+undo\n\
+undo\n\
+undo\n\
+undo\n\
+redo\n\
+redo\n";
 
 fn limits() -> Limits
     ensures { AreLimits result }
@@ -141,7 +185,8 @@ fn push_rows(alloc: Global, bench: &Bench, out: &mut String) -> Result<(), Alloc
     if bench.rules().schema().tables.as_slice().is_empty() {
         return Ok(());
     }
-    for (id, texts) in bench.rows(0) {
+    let rows = bench.rows(0)?;
+    for (id, texts) in rows.as_slice() {
         let shown = format!(in alloc; " {id}")?;
         out.push_str(shown.as_str())?;
         for text in texts.as_slice() {
@@ -187,5 +232,90 @@ fn answers(rt: HostRuntime) -> Result<(), Fail> {
         let got = answer(alloc, &mut bench, line)?;
         assert_eq!(rt; got.as_str(), want, "{line}");
     }
+    Ok(())
+}
+
+/// What was shown, as plain lists: the past with the oldest first, the present, and what was undone with the next to be
+/// done again last.
+#[derive(Drop)]
+struct PlainHistory {
+    past: Vec<String>,
+    present: String,
+    undone: Vec<String>,
+}
+
+impl PlainHistory {
+    fn accept(&mut self, next: String) -> Result<(), AllocError> {
+        self.past.push(mem::replace(&mut self.present, next))?;
+        self.undone.clear();
+        Ok(())
+    }
+
+    fn undo(&mut self) -> Result<bool, AllocError> {
+        let Some(last) = self.past.pop() else {
+            return Ok(false);
+        };
+        self.undone.push(mem::replace(&mut self.present, last))?;
+        Ok(true)
+    }
+
+    fn redo(&mut self) -> Result<bool, AllocError> {
+        let Some(next) = self.undone.pop() else {
+            return Ok(false);
+        };
+        self.past.push(mem::replace(&mut self.present, next))?;
+        Ok(true)
+    }
+}
+
+/// The rows of the first table, and its next id.
+fn shown(alloc: Global, bench: &Bench) -> Result<String, AllocError> {
+    let mut text = String::new(alloc);
+    push_rows(alloc, bench, &mut text)?;
+    if !bench.rules().schema().tables.as_slice().is_empty() {
+        let next = bench.store(0).next_id();
+        text.push_str(format!(in alloc; " next {next}")?.as_str())?;
+    }
+    Ok(text)
+}
+
+/// Makes a step of the walk on both sides, and says whether both did it or refused it.
+fn agrees(
+    alloc: Global,
+    bench: &mut Bench,
+    plain: &mut PlainHistory,
+    line: &str,
+) -> Result<bool, AllocError> {
+    if line == "undo" {
+        return Ok(bench.undo().is_ok() == plain.undo()?);
+    }
+    if line == "redo" {
+        return Ok(bench.redo().is_ok() == plain.redo()?);
+    }
+    let words = cut(alloc, line)?;
+    let Some(edit) = edit(alloc, words.as_slice())? else {
+        return Ok(false);
+    };
+    if bench.apply(&edit).is_ok() {
+        plain.accept(shown(alloc, bench)?)?;
+    }
+    Ok(true)
+}
+
+#[test]
+fn walks_beside_plain_lists(rt: HostRuntime) -> Result<(), Fail> {
+    let alloc = rt.alloc();
+    let mut bench = bench(alloc)?;
+    let mut plain = PlainHistory {
+        past: Vec::new(alloc),
+        present: shown(alloc, &bench)?,
+        undone: Vec::new(alloc),
+    };
+    for line in WALK.lines() {
+        assert!(rt; agrees(alloc, &mut bench, &mut plain, line)?, "{line}");
+        let got = shown(alloc, &bench)?;
+        assert_eq!(rt; got.as_str(), plain.present.as_str(), "{line}");
+    }
+    assert_eq!(rt; plain.undone.len(), 1);
     Ok(())
 }

@@ -4,8 +4,8 @@ use Rattle.rule_model.specs.Books.{Book}
 use Rattle.bench_core.proofs.NoRows.{has_first}
 use Rattle.bench_core.proofs.tests.push_rows.Goals as goal
 
-pub rows-id-items-requires : goal.rows-id-items-requires
-rows-id-items-requires c =
+pub rows-requires : goal.rows-requires
+rows-requires c =
     let tables : c.as_slice.result.now ≡ c.args.bench.now.rules.schema.tables = c.as_slice.ensures ∙ ap (λ (schema : Schema). schema.tables) c.schema.ensures.schema ∙ ap (λ (rules : Book). rules.schema.tables) c.rules.ensures.value in
     let some : (length c.as_slice.result.now == 0) ≡ false = sym c.is_empty.ensures ∙ c.if-is_empty.false in
-    has_first c.rules.ensures.valid c.as_slice.result.now tables some
+    has_first c.rules.ensures.valid.present c.as_slice.result.now tables some
