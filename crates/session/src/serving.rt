@@ -7,7 +7,8 @@ ghost use Rattle.bench_core.specs.Edited.{edited};
 ghost use Rattle.session.specs.Replies.{IsReply, IsEditReply};
 
 use crate::command::{Command, ServeFault};
-use crate::reply::{push_done, push_list, push_refused};
+use crate::export::push_exported;
+use crate::reply::{push_count, push_done, push_edit_refused, push_explained, push_list};
 use bench_core::{Bench, EditFault};
 use edit_log::Edit;
 use schema_core::List;
@@ -74,17 +75,15 @@ fn answer(
     ensures made_with { (bench.new.rules ≡ bench.old.rules) × (bench.new.limits ≡ bench.old.limits) }
 {
     match command {
-        Command::Edit(edit) => answer_edit(alloc, bench, edit, reply),
+        Command::Edit(edit) => answer_edit(bench, edit, reply),
         Command::List => push_list(alloc, reply, bench),
+        Command::Count => push_count(alloc, reply, bench),
+        Command::Explain { table, row } => push_explained(alloc, reply, bench, table, *row),
+        Command::Export { table } => push_exported(alloc, reply, bench, table),
     }
 }
 
-fn answer_edit(
-    alloc: Global,
-    bench: &mut Bench,
-    edit: &Edit,
-    reply: &mut Vec<u8>,
-) -> Result<(), AllocError>
+fn answer_edit(bench: &mut Bench, edit: &Edit, reply: &mut Vec<u8>) -> Result<(), AllocError>
     requires { reply.old.items ≡ [] }
     ensures ok { OnOk result (IsEditReply bench.old.state edit.now (edited bench.old.rules bench.old.limits bench.old.state edit.now) reply.new.items bench.new.state) }
     ensures memory { OnErr result ((written : Option (List ℕ)) → AnswersFront (IsReply bench.old.rules bench.old.limits) bench.old.state (Command.Edit edit.now ∷ []) bench.new.state written written) }
@@ -93,6 +92,6 @@ fn answer_edit(
     match bench.apply(edit) {
         Ok(applied) => push_done(reply, edit, applied),
         Err(EditFault::Memory) => Err(AllocError),
-        Err(fault) => push_refused(reply, &fault),
+        Err(fault) => push_edit_refused(reply, &fault),
     }
 }

@@ -27,4 +27,4 @@ returns-in-Err-clause-memory c =
     let end = c.apply.new.self.state in
     let edit = c.args.edit.now in
     let kept = λ (written : Option (List ℕ)). front-not_begun (IsReply start.rules start.limits) start.state end (Edit edit ∷ []) written (ap (λ (b : BenchModel). b.state) c.in-Err.ensures.unchanged) in
-    elim c.push_refused.result as (λ r. OnErr r ((written : Option (List ℕ)) → AnswersFront (IsReply start.rules start.limits) start.state (Edit edit ∷ []) end written written)) [ Ok made ↦ tt | Err memory ↦ kept ]
+    elim c.push_edit_refused.result as (λ r. OnErr r ((written : Option (List ℕ)) → AnswersFront (IsReply start.rules start.limits) start.state (Edit edit ∷ []) end written written)) [ Ok made ↦ tt | Err memory ↦ kept ]
