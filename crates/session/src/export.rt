@@ -37,9 +37,9 @@ fn push_rows(
     requires { number < length bench.now.rules.schema.tables }
     ensures { OnOk result (out.new.items ≡ out.old.items ++ rows_text bench.now.rules bench.now.state number) }
 {
+    let table = &bench.rules().schema().tables.as_slice()[number];
     let rows = tuples_of(alloc, bench.rows(number))?;
     let count = rows.as_slice().len();
-    let table = &bench.rules().schema().tables.as_slice()[number];
     let file = write_table(alloc, table, &rows)?;
     out.extend_from_slice(&file)?;
     push_counted(out, b"exported", count)
