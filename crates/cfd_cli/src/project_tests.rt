@@ -397,12 +397,12 @@ exported 1
 columns in another order, and a text that is quoted
 @ cust.csv
 street,zip,CC,AC,city
-"High St, 2",EH4,44,131,EDI
+\"High St, 2\",EH4,44,131,EDI
 @ s
 export cust
 = 0
 CC,AC,zip,street,city
-44,131,EH4,"High St, 2",EDI
+44,131,EH4,\"High St, 2\",EDI
 exported 1
 %%
 a line of the script that is no command
