@@ -247,9 +247,6 @@ fn rows_and_ids_that_run_out(rt: HostRuntime) -> Result<(), Fail> {
     limits.last_id = limits.last_id.min(2);
     let ended = run_with(alloc, &words, &mut shelf, &mut out, limits);
     let wanted = "inserted cust 2\nrefused RowsFull\ndeleted cust 1\nrefused IdsSpent\n";
-    assert_eq!(rt;
-        (ended, out.written()),
-        (Status::Clean, wanted.as_bytes())
-    );
+    assert_eq!(rt; (ended, out.written()), (Status::Clean, wanted.as_bytes()));
     Ok(())
 }

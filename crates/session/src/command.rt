@@ -18,14 +18,9 @@ pub enum Command {
     /// How many lines the list has.
     Count,
     /// The lines of the list that a row has.
-    Explain {
-        table: Text,
-        row: RowId,
-    },
+    Explain { table: Text, row: RowId },
     /// The rows of a table, as a table file.
-    Export {
-        table: Text,
-    },
+    Export { table: Text },
 }
 
 /// What is wrong with a line of a script.

@@ -90,7 +90,10 @@ fn scripts(rt: HostRuntime) -> Result<(), Fail> {
         (b"list\n\n\xff\ninsert t\n", "line 3: NotUtf8"),
         (b"list\rlist\n", "line 1: BadLine"),
         (b"set t 1 a 'x'\ncount", "set t 1 a <x>; count; "),
-        (b"set set 999999999999 set''", "set set 999999999999 set <>; "),
+        (
+            b"set set 999999999999 set''",
+            "set set 999999999999 set <>; ",
+        ),
         (b"delete t 12\nexplain t 3\n", "delete t 12; explain t 3; "),
         (b"export t\nexport export", "export t; export export; "),
         (b"set t 0 a 'x'", "line 1: BadLine"),

@@ -23,32 +23,32 @@ number_of n = number (unsigned n)
 -- the line by its parts; the tableau row counts from 1
 abbrev pub line_data : Book → Line → Data
 line_data rules (Single dep k row) = object_of (
-  (codes "attr", string (dep_attr rules dep))
-  ∷ (codes "kind", string (codes "single"))
-  ∷ (codes "row", number_of row)
-  ∷ (codes "rule", string (dep_name rules dep))
-  ∷ (codes "table", string (dep_table rules dep))
-  ∷ (codes "tableau", number_of (k + 1))
-  ∷ []
-)
+    (codes "attr", string (dep_attr rules dep))
+    ∷ (codes "kind", string (codes "single"))
+    ∷ (codes "row", number_of row)
+    ∷ (codes "rule", string (dep_name rules dep))
+    ∷ (codes "table", string (dep_table rules dep))
+    ∷ (codes "tableau", number_of (k + 1))
+    ∷ []
+    )
 line_data rules (Pair dep k row partner) = object_of (
-  (codes "attr", string (dep_attr rules dep))
-  ∷ (codes "kind", string (codes "pair"))
-  ∷ (codes "partner", number_of partner)
-  ∷ (codes "row", number_of row)
-  ∷ (codes "rule", string (dep_name rules dep))
-  ∷ (codes "table", string (dep_table rules dep))
-  ∷ (codes "tableau", number_of (k + 1))
-  ∷ []
-)
+    (codes "attr", string (dep_attr rules dep))
+    ∷ (codes "kind", string (codes "pair"))
+    ∷ (codes "partner", number_of partner)
+    ∷ (codes "row", number_of row)
+    ∷ (codes "rule", string (dep_name rules dep))
+    ∷ (codes "table", string (dep_table rules dep))
+    ∷ (codes "tableau", number_of (k + 1))
+    ∷ []
+    )
 line_data rules (Orphan cind k row) = object_of (
-  (codes "kind", string (codes "orphan"))
-  ∷ (codes "row", number_of row)
-  ∷ (codes "rule", string (cind_name rules cind))
-  ∷ (codes "table", string (cind_table rules cind))
-  ∷ (codes "tableau", number_of (k + 1))
-  ∷ []
-)
+    (codes "kind", string (codes "orphan"))
+    ∷ (codes "row", number_of row)
+    ∷ (codes "rule", string (cind_name rules cind))
+    ∷ (codes "table", string (cind_table rules cind))
+    ∷ (codes "tableau", number_of (k + 1))
+    ∷ []
+    )
 
 abbrev pub lines_data : Book → List Line → Data
 lines_data rules lines = array (items_of (map (line_data rules) lines))
