@@ -6,12 +6,11 @@
 mod bench;
 mod checks;
 mod edit;
-mod edits;
-mod rows;
 mod sizes;
+mod tables;
 
 pub use bench::Bench;
-pub use edit::{Applied, EditFault, LoadFault};
+pub use edit::{Applied, EditFault, LoadFault, RedoFault, UndoFault};
 
 #[cfg(test)]
 mod tests;
