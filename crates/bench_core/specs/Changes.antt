@@ -1,11 +1,13 @@
 -- The history of stored tables: what stood before the past changes, and what the undone ones lead to.
-use Rattle.std.specs.Prelude.{◌≡◌, ℕ, zero, suc, ◌+◌, ◌<◌, ⊤, List, [], ◌∷◌, Option, None, Some}
-use Rattle.std.specs.Option.{IsSomeAnd, ForSome}
+use Rattle.std.specs.Prelude.{◌≡◌, ℕ, zero, suc, ◌+◌, ◌<◌, ⊤, ◌||◌, is_some, IsTrue, List, [], ◌∷◌, Option, None, Some}
+use Rattle.std.specs.Option.{IsSomeAnd, ForSome, option_map_or}
 use Rattle.std.specs.List.{slice_get}
 use Rattle.std.specs.FinMap as finmap
 use Rattle.row_store.specs.Store.{Rows}
 use Rattle.row_store.specs.Tuple.{ids_if}
 use Rattle.edit_log.specs.declared.change.Change.{Change}
+use Rattle.bench_core.specs.declared.edit.Applied.{Applied}
+use Rattle.bench_core.specs.declared.edit.Applied.TheVariants.{Inserted, Changed}
 use Rattle.bench_core.specs.State.{State}
 use Rattle.bench_core.specs.History.{History}
 use Rattle.bench_core.specs.Stored.{Stored, state_of, HaveTexts}
@@ -95,7 +97,12 @@ abbrev pub CanBeMade : List Change → List Stored → Type 0
 CanBeMade [] tables = ⊤
 CanBeMade (change ∷ later) tables = IsSomeAnd (slice_get tables change.table) (CanMake change) × CanBeMade later (made_again change tables)
 
--- each id of a change has a text
-pub record ChangeHasTexts (texts : List (List ℕ)) (change : Change) : Type 0 where
+-- a change has a tuple before or after, and each of its ids has a text
+pub record IsChange (texts : List (List ℕ)) (change : Change) : Type 0 where
+  pub there : IsTrue (is_some change.old || is_some change.new)
   pub old : ForSome (ids_if change.old) (HaveTexts texts)
   pub new : ForSome (ids_if change.new) (HaveTexts texts)
+
+-- what is told of a change: the id of a row that it inserts
+abbrev pub told_of : Change → Applied
+told_of change = option_map_or (λ old. Changed) change.old (Inserted change.row)

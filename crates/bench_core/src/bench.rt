@@ -13,7 +13,7 @@ ghost use Rattle.bench_core.specs.declared.edit.RedoFault.TheVariants as redo_fa
 ghost use Rattle.bench_core.specs.declared.edit.UndoFault.TheVariants as undo_fault;
 
 use crate::edit::{Applied, EditFault, LoadFault, RedoFault, UndoFault};
-use crate::tables::{Tables, load_tables};
+use crate::project::Project;
 use edit_log::Edit;
 use row_store::{RowId, RowStore};
 use rule_model::RuleBook;
@@ -27,22 +27,17 @@ use value_pool::Pool;
 /// that were undone. A state is, for each table of the schema, the rows by rising ids and the next id.
 #[derive(Drop)]
 pub struct Bench {
-    rules: RuleBook,
-    limits: Limits,
-    tables: Tables,
+    project: Project,
 }
 
 impl Model for Bench {
-    ghost use Rattle.std.specs.Prelude.{map};
-    ghost use Rattle.bench_core.specs.Stored.{stored};
-    ghost use Rattle.bench_core.specs.Changes.{history_of};
-    ghost use Rattle.bench_core.specs.Bench.{BenchModel, IsHeld};
+    ghost use Rattle.bench_core.specs.Bench.{BenchModel, IsHeld, history};
 
     ghost Value = { BenchModel };
 
-    ghost view = { λ b. record { rules = b.rules; limits = b.limits; texts = b.tables.pool; history = history_of b.tables.pool b.tables.log.past b.tables.log.undone (map stored b.tables.stores.items) } };
+    ghost view = { λ b. record { rules = b.project.rules; limits = b.project.limits; texts = b.project.pool; history = history b.project } };
 
-    ghost invariant = { λ b. IsHeld b.rules b.limits b.tables.pool b.tables.log (map stored b.tables.stores.items) b.tables.counts.weights.items b.tables.counts.rows b.tables.counts.cells };
+    ghost invariant = { λ b. IsHeld b.project };
 }
 
 impl Bench {
@@ -59,12 +54,8 @@ impl Bench {
         ensures fresh { IfOk result (λ bench. HasNoPast bench.history × HasNothingUndone bench.history) }
         ensures made_with { IfOk result (λ bench. (bench.rules ≡ rules) × (bench.limits ≡ limits)) }
     {
-        let tables = load_tables(alloc, &rules, &limits, tables)?;
-        Ok(Bench {
-            rules,
-            limits,
-            tables,
-        })
+        let project = Project::load(alloc, rules, tables, limits)?;
+        Ok(Bench { project })
     }
 
     /// Makes the edit, or says why not. What was undone is forgotten.
@@ -74,7 +65,7 @@ impl Bench {
         ensures made_with { (self.new.rules ≡ self.old.rules) × (self.new.limits ≡ self.old.limits) }
         ensures unchanged { OnErr result (self.new.history ≡ self.old.history) }
     {
-        self.tables.edit(&self.rules, &self.limits, edit)
+        self.project.edit(edit)
     }
 
     /// Goes back to the state before the last edit, its next ids included.
@@ -84,7 +75,7 @@ impl Bench {
         ensures made_with { (self.new.rules ≡ self.old.rules) × (self.new.limits ≡ self.old.limits) }
         ensures unchanged { OnErr result (self.new.history ≡ self.old.history) }
     {
-        self.tables.undo(&self.rules, &self.limits)
+        self.project.undo()
     }
 
     /// Makes the edit again that was undone last.
@@ -94,21 +85,21 @@ impl Bench {
         ensures made_with { (self.new.rules ≡ self.old.rules) × (self.new.limits ≡ self.old.limits) }
         ensures unchanged { OnErr result (self.new.history ≡ self.old.history) }
     {
-        self.tables.redo(&self.rules, &self.limits)
+        self.project.redo()
     }
 
     pub fn rules(&self) -> &RuleBook
         ensures value { result.now ≡ self.now.rules }
         ensures valid { IsHistory self.now.rules self.now.limits self.now.history }
     {
-        &self.rules
+        &self.project.rules
     }
 
     /// The texts that the value ids of all stored tuples name.
     pub fn pool(&self) -> &Pool
         ensures { result.now ≡ self.now.texts }
     {
-        &self.tables.pool
+        &self.project.pool
     }
 
     /// The rows of a table as they are stored.
@@ -117,7 +108,7 @@ impl Bench {
         ensures state { slice_get self.now.history.present table ≡ Some (table_state self.now.texts (stored result.now)) }
         ensures texts { RowsHaveTexts self.now.texts result.now.rows }
     {
-        &self.tables.stores[table]
+        &self.project.stores[table]
     }
 
     /// The rows of a table with their texts, by rising ids.
@@ -126,6 +117,6 @@ impl Bench {
         ensures rows { IfOk result (λ rows. rows ≡ rows_at self.now.history.present table) }
         ensures valid { IsHistory self.now.rules self.now.limits self.now.history }
     {
-        self.tables.rows(table)
+        self.project.rows(table)
     }
 }

@@ -4,10 +4,14 @@
 #![tactic(auto)]
 
 mod bench;
+mod changes;
 mod checks;
 mod edit;
+mod loading;
+mod project;
 mod sizes;
-mod tables;
+mod target;
+mod tuples;
 
 pub use bench::Bench;
 pub use edit::{Applied, EditFault, LoadFault, RedoFault, UndoFault};
