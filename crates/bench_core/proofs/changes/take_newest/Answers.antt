@@ -1,4 +1,4 @@
-use Rattle.std.proofs.Common.{◌≡◌, ◌-◌, arith}
+use Rattle.std.proofs.Common.{◌≡◌, ◌+◌, ◌-◌, arith}
 use Rattle.row_store.proofs.RowsKept.{below_newest}
 use Rattle.bench_core.proofs.Holding.{given-none}
 use Rattle.bench_core.proofs.changes.take_newest.Goals as goal

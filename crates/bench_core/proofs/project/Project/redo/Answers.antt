@@ -8,7 +8,7 @@ use Rattle.bench_core.specs.History.{IsRedone}
 use Rattle.bench_core.specs.Stored.{Stored, stored}
 use Rattle.bench_core.specs.Changes.{CanMake, after_change, history_of, states_after}
 use Rattle.bench_core.specs.Bench.{Holds, tables_of, history}
-use Rattle.bench_core.proofs.Holding.{no-first, no-undone, some-first, not-nothing-to-redo, first-can, first-is, bench-forward, held-forward, history-was-redone, same-stored, stored-at, stored-set, stored-same, there-within, of-table, id-left, n-in_weights, n-rows-fit, n-cells-fit, n-counted}
+use Rattle.bench_core.proofs.Holding.{no-first, no-undone, some-first, not-nothing-to-redo, first-can, first-is, bench-forward, held-forward, history-was-redone, on-err, same-stored, stored-at, stored-set, stored-same, there-within, of-table, id-left, n-in_weights, n-rows-fit, n-cells-fit, n-counted}
 use Rattle.bench_core.proofs.project.Project.redo.Goals as goal
 
 pub returns-in_default-clause-nothing : goal.returns-in_default-clause-nothing
@@ -40,7 +40,7 @@ returns-in_err-ready_insert-clause-nothing c =
 
 pub returns-in_err-ready_insert-clause-unchanged : goal.returns-in_err-ready_insert-clause-unchanged
 returns-in_err-ready_insert-clause-unchanged c =
-    ap (history_of c.args.self.now.pool c.args.self.now.log.past c.args.self.now.log.undone) (stored-same c.args.self.now.stores.items c.in-Some.change.now.table c.index_mut-store.result.now c.ready_insert.new.self c.index_mut-store.ensures.value (same-stored c.ready_insert.new.self c.index_mut-store.result.now c.ready_insert.ensures.rows c.ready_insert.ensures.next))
+    on-err c.from_residual-in_err-ready_insert.result _ (ap (history_of c.args.self.now.pool c.args.self.now.log.past c.args.self.now.log.undone) (stored-same c.args.self.now.stores.items c.in-Some.change.now.table c.index_mut-store.result.now c.ready_insert.new.self c.index_mut-store.ensures.value (same-stored c.ready_insert.new.self c.index_mut-store.result.now c.ready_insert.ensures.rows c.ready_insert.ensures.next)))
 
 pub make-requires-clause-id_left : goal.make-requires-clause-id_left
 make-requires-clause-id_left c =
