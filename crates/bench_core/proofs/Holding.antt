@@ -19,7 +19,10 @@ use Rattle.bench_core.specs.declared.edit.RedoFault.{RedoFault}
 use Rattle.bench_core.specs.declared.edit.UndoFault.TheVariants as undo_fault
 use Rattle.bench_core.specs.declared.edit.RedoFault.TheVariants as redo_fault
 use Rattle.bench_core.specs.State.{TableState, State, IsTableState}
-use Rattle.bench_core.specs.History.{History, accepted, IsUndone, IsRedone}
+use Rattle.edit_log.specs.declared.edit.Edit.{Edit}
+use Rattle.bench_core.specs.Edited.{edited}
+use Rattle.bench_core.specs.declared.edit.Applied.{Applied}
+use Rattle.bench_core.specs.History.{History, accepted, history_edited, IsUndone, IsRedone}
 use Rattle.bench_core.specs.Stored.{Stored, stored, table_state, state_of, RowsHaveTexts}
 use Rattle.bench_core.specs.Changes.{before_change, after_change, at_table, taken_back, made_again, states_before, states_after, history_of, HasMade, CanMake, IsGiven, CanGive, WereMade, CanBeMade, IsChange}
 use Rattle.bench_core.specs.Bench.{IsBench, IsHistory, AreCounts, Holds}
@@ -300,6 +303,28 @@ held-named {rules} {limits} {log} {tables} {weights} {rows} {cells} old new kept
   past-named = changes-kept old new kept log.past held.past-named;
   undone-named = changes-kept old new kept log.undone held.undone-named;
 }
+
+-- a log with the same changes
+pub held-log : {rules : Book} {limits : Limits} {texts : List (List ℕ)} {log : Trail} {tables : List Stored} {weights : List ℕ} {rows cells : ℕ} (after : Trail) → after.past ≡ log.past → after.undone ≡ log.undone → Holds rules limits texts log tables weights rows cells → Holds rules limits texts after tables weights rows cells
+held-log {rules} {limits} {texts} {log} {tables} {weights} {rows} {cells} after past undone held = record {
+  history = subst (λ changes. IsHistory rules limits (history_of texts changes after.undone tables)) (sym past) (subst (λ changes. IsHistory rules limits (history_of texts log.past changes tables)) (sym undone) held.history);
+  counts = held.counts;
+  past = subst (λ changes. WereMade changes tables) (sym past) held.past;
+  undone = subst (λ changes. CanBeMade changes tables) (sym undone) held.undone;
+  named = held.named;
+  past-named = All-same (IsChange texts) after.past log.past past held.past-named;
+  undone-named = All-same (IsChange texts) after.undone log.undone undone held.undone-named;
+}
+
+-- what is set at a place stands there
+pub set-there : {X : Type 0} (P : X → Type 0) (xs : List X) (n : ℕ) (x : X) → n < length xs → P x → IsSomeAnd (slice_get (slice_set xs n x) n) P
+set-there P [] n x within holds = absurd (omega arith)
+set-there P (y ∷ ys) zero x within holds = holds
+set-there P (y ∷ ys) (suc n) x within holds = set-there P ys n x (omega arith) holds
+
+-- an edit of the present state is one of the history
+pub history-edited-is : (rules : Book) (limits : Limits) (past : History) (edit : Edit) (state : State) (told : Applied) → edited rules limits past.present edit ≡ Ok (state, told) → history_edited rules limits past edit ≡ Ok (accepted past state, told)
+history-edited-is rules limits past edit state told is = rw is refl
 
 -- ---- the numbers of a table that changes
 
