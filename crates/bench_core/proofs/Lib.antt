@@ -1,3 +1,4 @@
+pub mod Filled
 pub mod Planning
 pub mod Holding
 pub mod Planned
