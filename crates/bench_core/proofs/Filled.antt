@@ -1,5 +1,5 @@
 -- A table that is loaded row by row, and tables one after another.
-use Rattle.std.proofs.Common.{◌≡◌, ℕ, ◌+◌, ◌<◌, List, [], ◌∷◌, ◌++◌, map, length, get_or, All, Some, refl, sym, ap, subst, ◌∙◌, arith}
+use Rattle.std.proofs.Common.{◌≡◌, ℕ, ◌+◌, ◌<◌, List, [], ◌∷◌, ◌++◌, map, length, get_or, All, Some, refl, sym, ap, subst, ◌∙◌, arith, nat_cmp}
 use Rattle.std.specs.List.{enumerate_from, slice_get}
 use Rattle.std.proofs.lemmas.List.{map-append, length-map}
 use Rattle.std.proofs.lemmas.List.FromFn.{length-enumerate_from, get_or-enumerate_from}
@@ -30,14 +30,18 @@ pub record IsFilled (texts : List (List ℕ)) (rows : Rows) (next : ℕ) (so_far
   pub next-is : next ≡ length so_far + 1
   pub named : RowsHaveTexts texts rows
 
-entries-none : finmap.entries (finmap.empty {X = List ℕ}) ≡ []
-entries-none = ?
+no-length : {X : Type 0} (xs : List X) → length xs ≡ 0 → xs ≡ []
+no-length [] none = refl
+no-length (x ∷ xs) none = absurd (omega arith)
+
+entries-none : (rows : Rows) → rows ≡ finmap.empty → finmap.entries rows ≡ []
+entries-none rows is = no-length (finmap.entries rows) (sym (finmap.len-entries rows) ∙ ap finmap.len is ∙ finmap.len-empty nat_cmp (List ℕ))
 
 pub filled-none : (texts : List (List ℕ)) (rows : Rows) (next : ℕ) → rows ≡ finmap.empty → next ≡ 1 → IsFilled texts rows next []
 filled-none texts rows next is next-is = record {
-  rows-are = ap (λ (rows : Rows). map (row_of texts) (finmap.entries rows)) is ∙ ap (map (row_of texts)) entries-none;
+  rows-are = ap (map (row_of texts)) (entries-none rows is);
   next-is = next-is;
-  named = subst (λ (rows : Rows). RowsHaveTexts texts rows) (sym is) (All-same (λ (row : StoredRow). HaveTexts texts row.1) (finmap.entries finmap.empty) [] entries-none (All-nil (λ (row : StoredRow). HaveTexts texts row.1)));
+  named = All-same (λ (row : StoredRow). HaveTexts texts row.1) (finmap.entries rows) [] (entries-none rows is) (All-nil (λ (row : StoredRow). HaveTexts texts row.1));
 }
 
 below : (so_far : Tuples) (next : ℕ) → next ≡ length so_far + 1 → All (λ (row : Row). row.0 < next) (enumerate_from 1 so_far)
@@ -113,11 +117,3 @@ rows_at-is state n table is = rw is refl
 -- a row of the table has texts for its ids
 pub row-named : (texts : List (List ℕ)) (rows : List StoredRow) (n : ℕ) (row : StoredRow) → All (λ (row : StoredRow). HaveTexts texts row.1) rows → n < length rows → row ≡ get_or rows n row → HaveTexts texts row.1
 row-named texts rows n row have within is = subst (λ (row : StoredRow). HaveTexts texts row.1) (sym is) (All-get_or (λ (row : StoredRow). HaveTexts texts row.1) rows n row within have)
-
--- the rows so far with one more
-pub texts-pushed : {X : Type 0} (texts : List (List ℕ)) (seen : X → StoredRow) (so_far : List X) (x : X) (rows : List Row) (values : List (List ℕ)) → rows ≡ map (row_of texts) (map seen so_far) → values ≡ (row_of texts (seen x)).1
-    → rows ++ ((seen x).0, values) ∷ [] ≡ map (row_of texts) (map seen (so_far ++ x ∷ []))
-texts-pushed texts seen so_far x rows values are is =
-    (λ i. are i ++ ((seen x).0, is i) ∷ [])
-    ∙ sym (map-append (row_of texts) (map seen so_far) (seen x ∷ []))
-    ∙ sym (ap (map (row_of texts)) (map-append seen so_far (x ∷ [])))
