@@ -1,3 +1,11 @@
+pub mod Filled
+pub mod Planning
+pub mod Holding
+pub mod Planned
+pub mod Recounts
+pub mod Named
+pub mod Walks
+pub mod Entries
 pub mod RowsById
 pub mod Domains
 pub mod Numbers

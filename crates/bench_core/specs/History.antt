@@ -1,6 +1,11 @@
 -- The history of a bench, for undo and redo: the states that it left, the one that it has, and those that were undone.
-use Rattle.std.specs.Prelude.{◌≡◌, List, [], ◌∷◌, ◌++◌}
+use Rattle.std.specs.Prelude.{◌≡◌, List, [], ◌∷◌, ◌++◌, Ok}
+use Rattle.schema_core.specs.declared.limits.Limits.{Limits}
+use Rattle.rule_model.specs.Books.{Book}
+use Rattle.edit_log.specs.declared.edit.Edit.{Edit}
 use Rattle.bench_core.specs.State.{State}
+use Rattle.bench_core.specs.Edited.{Step, ◌>>=◌, edited}
+use Rattle.bench_core.specs.declared.edit.Applied.{Applied}
 
 pub record History : Type 0 where
   -- the oldest first
@@ -12,6 +17,12 @@ pub record History : Type 0 where
 -- an accepted edit leads to this state, and what was undone is forgotten
 abbrev pub accepted : History → State → History
 accepted history state = record { past = history.past ++ history.present ∷ []; present = state; undone = [] }
+
+-- the history after an edit of its present state, and what is told; or the first refusal
+abbrev pub history_edited : Book → Limits → History → Edit → Step (History × Applied)
+history_edited rules limits history edit = do
+  after ← edited rules limits history.present edit
+  Ok (accepted history after.0, after.1)
 
 -- the last past state is present again, and the one that was present is the next to be done again
 pub record IsUndone (before after : History) : Type 0 where

@@ -3,6 +3,8 @@
 ghost use Rattle.std.specs.Prelude.{◌≡◌};
 ghost use Rattle.bench_core.specs.declared.edit.EditFault.TheVariants as edit_fault;
 ghost use Rattle.bench_core.specs.declared.edit.LoadFault.TheVariants as load_fault;
+ghost use Rattle.bench_core.specs.declared.edit.RedoFault.TheVariants as redo_fault;
+ghost use Rattle.bench_core.specs.declared.edit.UndoFault.TheVariants as undo_fault;
 
 use row_store::RowId;
 use schema_core::Text;
@@ -52,6 +54,24 @@ pub enum LoadFault {
     Memory,
 }
 
+/// Why nothing is undone.
+#[derive(Debug, Drop, Error, PartialEq, Eq)]
+pub enum UndoFault {
+    #[error("there is nothing to undo")]
+    NothingToUndo,
+    #[error("out of memory")]
+    Memory,
+}
+
+/// Why nothing is redone.
+#[derive(Debug, Drop, Error, PartialEq, Eq)]
+pub enum RedoFault {
+    #[error("there is nothing to redo")]
+    NothingToRedo,
+    #[error("out of memory")]
+    Memory,
+}
+
 impl From<AllocError> for EditFault {
     ghost from_gives = { λ _ e. e ≡ edit_fault.Memory };
 
@@ -65,5 +85,21 @@ impl From<AllocError> for LoadFault {
 
     fn from(_e: AllocError) -> LoadFault {
         LoadFault::Memory
+    }
+}
+
+impl From<AllocError> for UndoFault {
+    ghost from_gives = { λ _ e. e ≡ undo_fault.Memory };
+
+    fn from(_e: AllocError) -> UndoFault {
+        UndoFault::Memory
+    }
+}
+
+impl From<AllocError> for RedoFault {
+    ghost from_gives = { λ _ e. e ≡ redo_fault.Memory };
+
+    fn from(_e: AllocError) -> RedoFault {
+        RedoFault::Memory
     }
 }

@@ -4,14 +4,17 @@
 #![tactic(auto)]
 
 mod bench;
+mod changes;
 mod checks;
 mod edit;
-mod edits;
-mod rows;
+mod loading;
+mod project;
 mod sizes;
+mod target;
+mod tuples;
 
 pub use bench::Bench;
-pub use edit::{Applied, EditFault, LoadFault};
+pub use edit::{Applied, EditFault, LoadFault, RedoFault, UndoFault};
 
 #[cfg(test)]
 mod tests;

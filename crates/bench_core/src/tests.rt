@@ -141,7 +141,8 @@ fn push_rows(alloc: Global, bench: &Bench, out: &mut String) -> Result<(), Alloc
     if bench.rules().schema().tables.as_slice().is_empty() {
         return Ok(());
     }
-    for (id, texts) in bench.rows(0) {
+    let rows = bench.rows(0)?;
+    for (id, texts) in rows.as_slice() {
         let shown = format!(in alloc; " {id}")?;
         out.push_str(shown.as_str())?;
         for text in texts.as_slice() {

@@ -1,0 +1,61 @@
+use Rattle.std.proofs.Common.{◌≡◌, ◌<◌, length, Ok, IsSomeAnd, ap, sym, subst, ◌∙◌}
+use Rattle.std.proofs.lemmas.List.{length-map}
+use Rattle.std.specs.List.{slice_get, slice_set}
+use Rattle.bench_core.specs.History.{accepted}
+use Rattle.bench_core.specs.Stored.{state_of}
+use Rattle.bench_core.specs.Changes.{CanMake, history_of, made_again, told_of}
+use Rattle.bench_core.specs.Bench.{Holds, IsBench, tables_of, history}
+use Rattle.bench_core.proofs.Holding.{on-err, same-stored, stored-same, held-log, set-there, there-within, history-edited-is}
+use Rattle.bench_core.proofs.project.Project.edit_table.Goals as goal
+
+pub returns-in_err-ready_insert-clause-held : goal.returns-in_err-ready_insert-clause-held
+returns-in_err-ready_insert-clause-held c =
+    let same = stored-same c.planned.new.self.stores.items c.args.number c.index_mut.result.now c.ready_insert.new.self c.index_mut.ensures.value (same-stored c.ready_insert.new.self c.index_mut.result.now c.ready_insert.ensures.rows c.ready_insert.ensures.next) in
+    subst (λ tables. Holds c.planned.new.self.rules c.planned.new.self.limits c.planned.new.self.pool c.planned.new.self.log tables c.planned.new.self.counts.weights.items c.planned.new.self.counts.rows c.planned.new.self.counts.cells) (sym same) c.in_ok-change.ensures.held
+
+pub returns-in_err-ready_insert-clause-unchanged : goal.returns-in_err-ready_insert-clause-unchanged
+returns-in_err-ready_insert-clause-unchanged c =
+    let same = stored-same c.planned.new.self.stores.items c.args.number c.index_mut.result.now c.ready_insert.new.self c.index_mut.ensures.value (same-stored c.ready_insert.new.self c.index_mut.result.now c.ready_insert.ensures.rows c.ready_insert.ensures.next) in
+    on-err c.from_residual-in_err-ready_insert.result _ (ap (history_of c.planned.new.self.pool c.planned.new.self.log.past c.planned.new.self.log.undone) same ∙ c.in_ok-change.ensures.history)
+
+pub returns-in_err-ready-clause-held : goal.returns-in_err-ready-clause-held
+returns-in_err-ready-clause-held c =
+    let same = stored-same c.planned.new.self.stores.items c.args.number c.index_mut.result.now c.ready_insert.new.self c.index_mut.ensures.value (same-stored c.ready_insert.new.self c.index_mut.result.now c.ready_insert.ensures.rows c.ready_insert.ensures.next) in
+    subst (λ tables. Holds c.planned.new.self.rules c.planned.new.self.limits c.planned.new.self.pool c.ready.new.self tables c.planned.new.self.counts.weights.items c.planned.new.self.counts.rows c.planned.new.self.counts.cells) (sym same) (held-log c.ready.new.self c.ready.ensures.past c.ready.ensures.undone c.in_ok-change.ensures.held)
+
+pub returns-in_err-ready-clause-unchanged : goal.returns-in_err-ready-clause-unchanged
+returns-in_err-ready-clause-unchanged c =
+    let same = stored-same c.planned.new.self.stores.items c.args.number c.index_mut.result.now c.ready_insert.new.self c.index_mut.ensures.value (same-stored c.ready_insert.new.self c.index_mut.result.now c.ready_insert.ensures.rows c.ready_insert.ensures.next) in
+    on-err c.from_residual-in_err-ready.result _ ((λ i. history_of c.planned.new.self.pool (c.ready.ensures.past i) (c.ready.ensures.undone i) (same i)) ∙ c.in_ok-change.ensures.history)
+
+pub done-requires-clause-held : goal.done-requires-clause-held
+done-requires-clause-held c =
+    let same = stored-same c.planned.new.self.stores.items c.args.number c.index_mut.result.now c.ready_insert.new.self c.index_mut.ensures.value (same-stored c.ready_insert.new.self c.index_mut.result.now c.ready_insert.ensures.rows c.ready_insert.ensures.next) in
+    subst (λ tables. Holds c.planned.new.self.rules c.planned.new.self.limits c.planned.new.self.pool c.ready.new.self tables c.planned.new.self.counts.weights.items c.planned.new.self.counts.rows c.planned.new.self.counts.cells) (sym same) (held-log c.ready.new.self c.ready.ensures.past c.ready.ensures.undone c.in_ok-change.ensures.held)
+
+pub done-requires-clause-can : goal.done-requires-clause-can
+done-requires-clause-can c =
+    let same = stored-same c.planned.new.self.stores.items c.args.number c.index_mut.result.now c.ready_insert.new.self c.index_mut.ensures.value (same-stored c.ready_insert.new.self c.index_mut.result.now c.ready_insert.ensures.rows c.ready_insert.ensures.next) in
+    subst (λ tables. IsSomeAnd (slice_get tables c.in_ok-change.change.table) (CanMake c.in_ok-change.change)) (sym same) c.in_ok-change.ensures.can
+
+pub done-requires-clause-within : goal.done-requires-clause-within
+done-requires-clause-within c =
+    let same = stored-same c.planned.new.self.stores.items c.args.number c.index_mut.result.now c.ready_insert.new.self c.index_mut.ensures.value (same-stored c.ready_insert.new.self c.index_mut.result.now c.ready_insert.ensures.rows c.ready_insert.ensures.next) in
+    subst (λ tables. IsBench c.planned.new.self.rules c.planned.new.self.limits (state_of c.planned.new.self.pool (made_again c.in_ok-change.change tables))) (sym same) c.in_ok-change.ensures.within
+
+pub done-requires-clause-room : goal.done-requires-clause-room
+done-requires-clause-room c =
+    let number = c.in_ok-change.ensures.number in
+    let place : c.in_ok-change.change.table < length c.planned.new.self.stores.items = rw length-map at (there-within (CanMake c.in_ok-change.change) (tables_of c.planned.new.self) c.in_ok-change.change.table c.in_ok-change.ensures.can) in
+    let inside : c.args.number < length c.planned.new.self.stores.items = rw number at place in
+    subst (λ n. IsSomeAnd (slice_get (slice_set c.planned.new.self.stores.items c.args.number c.ready_insert.new.self) n) (λ store. 0 < store.spare)) (sym number)
+    (set-there (λ store. 0 < store.spare) c.planned.new.self.stores.items c.args.number c.ready_insert.new.self inside c.in_ok-ready_insert.ensures.ready)
+
+pub returns-clause-edited : goal.returns-clause-edited
+returns-clause-edited c =
+    let same = stored-same c.planned.new.self.stores.items c.args.number c.index_mut.result.now c.ready_insert.new.self c.index_mut.ensures.value (same-stored c.ready_insert.new.self c.index_mut.result.now c.ready_insert.ensures.rows c.ready_insert.ensures.next) in
+    let before = (λ i. history_of c.planned.new.self.pool (c.ready.ensures.past i) (c.ready.ensures.undone i) (same i)) ∙ c.in_ok-change.ensures.history in
+    let after = c.done.ensures.history ∙ (λ i. accepted (before i) (state_of c.planned.new.self.pool (made_again c.in_ok-change.change (same i)))) in
+    let told = c.done.ensures.told in
+    history-edited-is c.args.self.now.rules c.args.self.now.limits (history c.args.self.now) c.args.edit.now (state_of c.planned.new.self.pool (made_again c.in_ok-change.change (tables_of c.planned.new.self))) (told_of c.in_ok-change.change) c.in_ok-change.ensures.edited
+    ∙ (λ i. Ok (sym after i, sym told i))

@@ -1,0 +1,79 @@
+//! A change of one row: made to the store of its table, and taken back.
+
+ghost use Rattle.std.specs.Prelude.{◌≡◌, ◌+◌, ◌^◌, ◌<◌, ◌||◌, None, Some, IsTrue, is_some};
+ghost use Rattle.row_store.specs.Tuple.{ids_if};
+ghost use Rattle.bench_core.specs.Stored.{stored};
+ghost use Rattle.bench_core.specs.Changes.{CanMake, HasMade, after_change, before_change};
+
+use edit_log::Change;
+use row_store::{RowStore, Tuple};
+
+/// Makes the change. `new` is its new tuple.
+pub(crate) fn make(store: &mut RowStore, change: &Change, new: Option<Tuple>)
+    requires room { 0 < store.old.spare }
+    requires id_left { change.now.row + 1 < 2 ^ 64 }
+    requires there { IsTrue (is_some change.now.old || is_some change.now.new) }
+    requires can { CanMake change.now (stored store.old) }
+    requires same { ids_if new ≡ ids_if change.now.new }
+    ensures { stored store.new ≡ after_change change.now (stored store.old) }
+{
+    match new {
+        None => {
+            store.take(change.row);
+        }
+        Some(tuple) => put_new(store, change, tuple),
+    }
+}
+
+fn put_new(store: &mut RowStore, change: &Change, tuple: Tuple)
+    requires room { 0 < store.old.spare }
+    requires id_left { change.now.row + 1 < 2 ^ 64 }
+    requires can { CanMake change.now (stored store.old) }
+    requires same { ids_if change.now.new ≡ ids_if (Some tuple) }
+    ensures { stored store.new ≡ after_change change.now (stored store.old) }
+{
+    if change.old.is_some() {
+        store.replace(change.row, tuple);
+    } else {
+        store.put(tuple);
+    }
+}
+
+/// Takes the change back. `old` is its old tuple.
+pub(crate) fn take_back(store: &mut RowStore, change: &Change, old: Option<Tuple>)
+    requires room { 0 < store.old.spare }
+    requires there { IsTrue (is_some change.now.old || is_some change.now.new) }
+    requires made { HasMade change.now (stored store.old) }
+    requires same { ids_if old ≡ ids_if change.now.old }
+    ensures { stored store.new ≡ before_change change.now (stored store.old) }
+{
+    match old {
+        None => take_newest(store, change),
+        Some(tuple) => put_old(store, change, tuple),
+    }
+}
+
+/// Takes a row away that was inserted. Its id is the next one again.
+fn take_newest(store: &mut RowStore, change: &Change)
+    requires there { IsTrue (is_some change.now.old || is_some change.now.new) }
+    requires made { HasMade change.now (stored store.old) }
+    requires inserted { ids_if change.now.old ≡ None }
+    ensures { stored store.new ≡ before_change change.now (stored store.old) }
+{
+    let newest = store.next_id() - 1;
+    store.take(newest);
+    store.set_next(newest);
+}
+
+fn put_old(store: &mut RowStore, change: &Change, tuple: Tuple)
+    requires room { 0 < store.old.spare }
+    requires made { HasMade change.now (stored store.old) }
+    requires same { ids_if change.now.old ≡ ids_if (Some tuple) }
+    ensures { stored store.new ≡ before_change change.now (stored store.old) }
+{
+    if change.new.is_some() {
+        store.replace(change.row, tuple);
+    } else {
+        store.put_back(change.row, tuple);
+    }
+}

@@ -1,0 +1,218 @@
+//! What a bench holds: rules, limits, stored tables, and the log of their changes.
+
+ghost use Rattle.std.specs.Prelude.{◌≡◌, ◌↔◌, ◌<◌, Err, Some, length, map, slice_get, IsSomeAnd, IfOk, OnErr, OnOk};
+ghost use Rattle.schema_core.specs.Schemas.{table_place};
+ghost use Rattle.schema_core.specs.Faults.{GivesUnlessMemory};
+ghost use Rattle.row_store.specs.Tuple.{ids_if};
+ghost use Rattle.edit_log.specs.Trail.{first_of, last_of};
+ghost use Rattle.edit_log.specs.Log.{MovesBack, MovesForward};
+ghost use Rattle.bench_core.specs.State.{rows_at};
+ghost use Rattle.bench_core.specs.Edited.{edited, name_of_table, refusal_of};
+ghost use Rattle.bench_core.specs.History.{HasNoPast, HasNothingUndone, IsRedone, IsUndone, accepted, history_edited};
+ghost use Rattle.bench_core.specs.Stored.{state_of};
+ghost use Rattle.bench_core.specs.Changes.{CanMake, IsChange, made_again, told_of};
+ghost use Rattle.bench_core.specs.Bench.{AtTable, IsBench, IsHeld, history, present_of, tables_of};
+ghost use Rattle.bench_core.specs.declared.edit.RedoFault.TheVariants as redo_fault;
+ghost use Rattle.bench_core.specs.declared.edit.UndoFault.TheVariants as undo_fault;
+
+use crate::changes::{make, take_back};
+use crate::edit::{Applied, EditFault, RedoFault, UndoFault};
+use crate::sizes::Counts;
+use crate::target::Target;
+use crate::tuples::{shared, texts_of};
+use edit_log::{Change, Edit, Log};
+use row_store::{RowId, RowStore, Tuple};
+use rule_model::RuleBook;
+use schema_core::{Limits, List, Text, Texts};
+use std::alloc::AllocError;
+use value_pool::Pool;
+
+/// Rules and limits, the texts of all tables, the rows of each table by value ids, the changes that were made and undone,
+/// and how much there is.
+#[derive(Drop)]
+pub struct Project {
+    pub rules: RuleBook,
+    pub limits: Limits,
+    pub pool: Pool,
+    pub stores: Vec<RowStore>,
+    pub log: Log,
+    pub counts: Counts,
+}
+
+fn name_of_table(edit: &Edit) -> &Text
+    ensures { result.now ≡ name_of_table edit.now }
+{
+    match edit {
+        Edit::Insert { table, .. }
+        | Edit::Set { table, .. }
+        | Edit::Delete { table, .. }
+        | Edit::Fix { table, .. } => table,
+    }
+}
+
+fn told_of(change: &Change) -> Applied
+    ensures { result ≡ told_of change.now }
+{
+    match &change.old {
+        None => Applied::Inserted(change.row),
+        Some(_) => Applied::Changed,
+    }
+}
+
+/// Moves the last past change to the undone ones.
+fn step_back(log: &mut Log)
+    ensures { MovesBack (last_of log.old.past) log.old log.new }
+{
+    log.back();
+}
+
+/// Moves the next undone change to the past ones.
+fn step_forward(log: &mut Log)
+    ensures { MovesForward (first_of log.old.undone) log.old log.new }
+{
+    log.forward();
+}
+
+impl Project {
+    /// Makes the edit, or says why not.
+    pub(crate) fn edit(&mut self, edit: &Edit) -> Result<Applied, EditFault>
+        requires held { IsHeld self.old }
+        ensures held { IsHeld self.new }
+        ensures edited { GivesUnlessMemory refusal_of (history_edited self.old.rules self.old.limits (history self.old) edit.now) (λ told. (history self.new, told)) result }
+        ensures made_with { (self.new.rules ≡ self.old.rules) × (self.new.limits ≡ self.old.limits) }
+        ensures unchanged { OnErr result (history self.new ≡ history self.old) }
+    {
+        match self
+            .rules
+            .schema()
+            .table_named(name_of_table(edit).as_str())
+        {
+            None => Err(EditFault::UnknownTable),
+            Some(number) => self.edit_table(number, edit),
+        }
+    }
+
+    /// Makes the edit to the numbered table, which is the one that it names. All that may want memory comes first.
+    fn edit_table(&mut self, number: usize, edit: &Edit) -> Result<Applied, EditFault>
+        requires held { IsHeld self.old }
+        requires named { table_place self.old.rules.schema (name_of_table edit.now) ≡ Some number }
+        ensures held { IsHeld self.new }
+        ensures edited { GivesUnlessMemory refusal_of (history_edited self.old.rules self.old.limits (history self.old) edit.now) (λ told. (history self.new, told)) result }
+        ensures made_with { (self.new.rules ≡ self.old.rules) × (self.new.limits ≡ self.old.limits) }
+        ensures unchanged { OnErr result (history self.new ≡ history self.old) }
+    {
+        let change = self.planned(number, edit)?;
+        let new = shared(&change.new)?;
+        self.stores[number].ready_insert()?;
+        self.log.ready()?;
+        Ok(self.done(change, new))
+    }
+
+    /// The change that the edit makes to the numbered table, which is the one that it names. Only the pool is changed.
+    fn planned(&mut self, number: usize, edit: &Edit) -> Result<Change, EditFault>
+        requires held { IsHeld self.old }
+        requires named { table_place self.old.rules.schema (name_of_table edit.now) ≡ Some number }
+        ensures edited { GivesUnlessMemory refusal_of (edited self.old.rules self.old.limits (present_of self.old) edit.now) (λ change. (state_of self.new.pool (made_again change (tables_of self.new)), told_of change)) result }
+        ensures held { IsHeld self.new }
+        ensures history { history self.new ≡ history self.old }
+        ensures made_with { (self.new.rules ≡ self.old.rules) × (self.new.limits ≡ self.old.limits) }
+        ensures number { IfOk result (λ change. change.table ≡ number) }
+        ensures can { IfOk result (λ change. AtTable self.new change (CanMake change)) }
+        ensures is { IfOk result (IsChange self.new.pool) }
+        ensures within { IfOk result (λ change. IsBench self.new.rules self.new.limits (state_of self.new.pool (made_again change (tables_of self.new)))) }
+    {
+        let target = Target {
+            alloc: *self.stores.allocator(),
+            limits: &self.limits,
+            room: self.counts.has_room(&self.limits, number, 1),
+            number,
+            table: &self.rules.schema().tables.as_slice()[number],
+            store: &self.stores[number],
+        };
+        target.change(&mut self.pool, edit)
+    }
+
+    /// Makes a change for which there is room, and forgets what was undone. `new` is its new tuple.
+    fn done(&mut self, change: Change, new: Option<Tuple>) -> Applied
+        requires held { IsHeld self.old }
+        requires can { AtTable self.old change (CanMake change) }
+        requires is { IsChange self.old.pool change }
+        requires within { IsBench self.old.rules self.old.limits (state_of self.old.pool (made_again change (tables_of self.old))) }
+        requires same { ids_if new ≡ ids_if change.new }
+        requires room { IsSomeAnd (slice_get self.old.stores.items change.table) (λ store. 0 < store.spare) }
+        requires log { 0 < self.old.log.spare }
+        ensures held { IsHeld self.new }
+        ensures history { history self.new ≡ accepted (history self.old) (state_of self.old.pool (made_again change (tables_of self.old))) }
+        ensures made_with { (self.new.rules ≡ self.old.rules) × (self.new.limits ≡ self.old.limits) }
+        ensures told { result ≡ told_of change }
+    {
+        let told = told_of(&change);
+        let store = &mut self.stores[change.table];
+        let before = store.len() as u64;
+        make(store, &change, new);
+        let after = store.len() as u64;
+        self.counts.recount(change.table, before, after);
+        self.log.push_ready(change);
+        told
+    }
+
+    /// Takes the last past change back.
+    pub(crate) fn undo(&mut self) -> Result<(), UndoFault>
+        requires held { IsHeld self.old }
+        ensures held { IsHeld self.new }
+        ensures undone { OnOk result (IsUndone (history self.old) (history self.new)) }
+        ensures nothing { result ≡ Err undo_fault.NothingToUndo ↔ HasNoPast (history self.old) }
+        ensures made_with { (self.new.rules ≡ self.old.rules) × (self.new.limits ≡ self.old.limits) }
+        ensures unchanged { OnErr result (history self.new ≡ history self.old) }
+    {
+        let Some(change) = self.log.last() else {
+            return Err(UndoFault::NothingToUndo);
+        };
+        let old = shared(&change.old)?;
+        let store = &mut self.stores[change.table];
+        store.ready_insert()?;
+        let before = store.len() as u64;
+        take_back(store, change, old);
+        let after = store.len() as u64;
+        self.counts.recount(change.table, before, after);
+        step_back(&mut self.log);
+        Ok(())
+    }
+
+    /// Makes the next undone change again.
+    pub(crate) fn redo(&mut self) -> Result<(), RedoFault>
+        requires held { IsHeld self.old }
+        ensures held { IsHeld self.new }
+        ensures redone { OnOk result (IsRedone (history self.old) (history self.new)) }
+        ensures nothing { result ≡ Err redo_fault.NothingToRedo ↔ HasNothingUndone (history self.old) }
+        ensures made_with { (self.new.rules ≡ self.old.rules) × (self.new.limits ≡ self.old.limits) }
+        ensures unchanged { OnErr result (history self.new ≡ history self.old) }
+    {
+        let Some(change) = self.log.next() else {
+            return Err(RedoFault::NothingToRedo);
+        };
+        let new = shared(&change.new)?;
+        let store = &mut self.stores[change.table];
+        store.ready_insert()?;
+        let before = store.len() as u64;
+        make(store, change, new);
+        let after = store.len() as u64;
+        self.counts.recount(change.table, before, after);
+        step_forward(&mut self.log);
+        Ok(())
+    }
+
+    /// The rows of a table with their texts, by rising ids.
+    pub(crate) fn rows(&self, table: usize) -> Result<List<(RowId, Texts)>, AllocError>
+        requires held { IsHeld self.now }
+        requires table { table < length self.now.stores.items }
+        ensures { IfOk result (λ rows. rows ≡ rows_at (present_of self.now) table) }
+    {
+        let alloc = *self.stores.allocator();
+        let mut rows = List::new(alloc);
+        for (id, tuple) in self.stores[table].rows() {
+            rows.push((id, texts_of(alloc, &self.pool, tuple)?))?;
+        }
+        Ok(rows)
+    }
+}
