@@ -299,8 +299,9 @@ list
 explain customer 2
 set customer 2 street 'High St'
 count
-set customer 2 street 'Mid St'
+undo
 delete customer 2
+redo
 insert customer 'UK', 'EH4', 'New St'
 explain customer 2
 export customer
@@ -312,8 +313,9 @@ pair zip_street.1 street customer 2 1
 explained 1
 set customer 2 street
 count 0
-set customer 2 street
+undone
 deleted customer 2
+refused NothingToRedo
 inserted customer 4
 refused UnknownRow
 country,zip,street
@@ -321,6 +323,47 @@ UK,EH4,High St
 US,EH4,Low St
 UK,EH4,New St
 exported 3
+%%
+undone one by one, until there is nothing to undo
+@ cust.csv
+CC,AC,zip,street,city
+44,1,Z,a,c
+@ s
+set cust 1 city 'd'
+set cust 1 street 'a'
+undo
+undo
+undo
+list
+= 0
+set cust 1 city
+set cust 1 street
+undone
+undone
+refused NothingToUndo
+listed 0
+%%
+an undone insertion gives its id back, and a change forgets what was undone
+@ s
+insert cust '44', '1', 'Z', 'a', 'c'
+undo
+insert cust '44', '1', 'Z', 'a', 'c'
+redo
+delete cust 1
+insert cust '44', '1', 'Z', 'a', 'c'
+undo
+redo
+count
+= 0
+inserted cust 1
+undone
+inserted cust 1
+refused NothingToRedo
+deleted cust 1
+inserted cust 2
+undone
+redone
+count 0
 %%
 orphans before and after their partner is taken away
 @ p
@@ -341,6 +384,10 @@ e3,e1
 list
 delete emp 1
 list
+undo
+list
+set emp 1 id 'e7'
+list
 = 1
 orphan c1.1 emp 1
 listed 1
@@ -348,6 +395,14 @@ deleted emp 1
 orphan c1.1 emp 2
 orphan c1.1 emp 3
 listed 2
+undone
+orphan c1.1 emp 1
+listed 1
+set emp 1 id
+orphan c1.1 emp 1
+orphan c1.1 emp 2
+orphan c1.1 emp 3
+listed 3
 %%
 commands that are refused, each for its first cause
 @ p
@@ -377,6 +432,7 @@ insert cust 'x'
 explain cust 9
 explain nope 1
 export nope
+redo
 list
 export area
 = 0
@@ -389,6 +445,7 @@ refused WrongWidth
 refused UnknownRow
 refused UnknownTable
 refused UnknownTable
+refused NothingToRedo
 listed 0
 code
 131

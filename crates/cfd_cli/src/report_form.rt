@@ -4,6 +4,7 @@ ghost use Rattle.schema_core.specs.Limits.{AreLimits};
 ghost use Rattle.violation_report.specs.Listing.{listing};
 ghost use Rattle.violation_report.specs.Report.{report_text};
 ghost use Rattle.cfd_cli.specs.Output.{Ends, Output, UsesDevices, Writes};
+ghost use Rattle.cfd_cli.specs.Project.{read_of};
 ghost use Rattle.cfd_cli.specs.ReportForm.{report_of, report_outputs, report_task};
 ghost use Rattle.cfd_cli.specs.Transcripts.{found_status};
 
@@ -39,7 +40,7 @@ pub fn report_project<S: Shelf, O: Sink>(
 
 /// Answers the script with no one listening, and tells the list of its last state.
 fn report<O: Sink>(alloc: Global, project: Project, out: &mut O) -> Status
-    ensures { Ends (report_outputs project) result (O.told out.old) (O.told out.new) }
+    ensures { Ends (report_outputs (read_of project)) result (O.told out.old) (O.told out.new) }
 {
     let Project {
         mut bench,
@@ -53,7 +54,7 @@ fn report<O: Sink>(alloc: Global, project: Project, out: &mut O) -> Status
 
 /// Tells the list of the bench.
 fn tell<O: Sink>(alloc: Global, bench: &Bench, out: &mut O) -> Status
-    ensures { Ends (report_of bench.now.rules bench.now.state) result (O.told out.old) (O.told out.new) }
+    ensures { Ends (report_of bench.now.rules bench.now.history.present) result (O.told out.old) (O.told out.new) }
 {
     match report_of(alloc, bench) {
         Ok((text, status)) => end_with(out, &text, status),
@@ -62,8 +63,8 @@ fn tell<O: Sink>(alloc: Global, bench: &Bench, out: &mut O) -> Status
 }
 
 fn report_of(alloc: Global, bench: &Bench) -> Result<(Vec<u8>, Status), AllocError>
-    ensures text { IfOk result (λ report. report.0.items ≡ report_text bench.now.rules (listing bench.now.rules bench.now.state)) }
-    ensures status { IfOk result (λ report. report.1 ≡ found_status (listing bench.now.rules bench.now.state)) }
+    ensures text { IfOk result (λ report. report.0.items ≡ report_text bench.now.rules (listing bench.now.rules bench.now.history.present)) }
+    ensures status { IfOk result (λ report. report.1 ≡ found_status (listing bench.now.rules bench.now.history.present)) }
 {
     let lines = list(alloc, bench)?;
     let text = json_report(alloc, bench.rules(), &lines)?;

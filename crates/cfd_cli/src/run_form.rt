@@ -2,6 +2,7 @@
 ghost use Rattle.schema_core.specs.Limits.{AreLimits};
 ghost use Rattle.violation_report.specs.Listing.{listing};
 ghost use Rattle.cfd_cli.specs.Output.{Ends, Output, UsesDevices, Writes};
+ghost use Rattle.cfd_cli.specs.Project.{read_of};
 ghost use Rattle.cfd_cli.specs.RunForm.{run_outputs, run_task};
 ghost use Rattle.cfd_cli.specs.Transcripts.{HasStatus};
 
@@ -36,7 +37,7 @@ pub fn run_project<S: Shelf, O: Sink>(
 
 /// Answers the script, and tells whether its last state has a violation.
 fn answer<O: Sink>(alloc: Global, project: Project, out: &mut O) -> Status
-    ensures { Ends (run_outputs project) result (O.told out.old) (O.told out.new) }
+    ensures { Ends (run_outputs (read_of project)) result (O.told out.old) (O.told out.new) }
 {
     let Project {
         mut bench,
@@ -50,7 +51,7 @@ fn answer<O: Sink>(alloc: Global, project: Project, out: &mut O) -> Status
 }
 
 fn status_of(alloc: Global, bench: &Bench) -> Status
-    ensures { HasStatus (listing bench.now.rules bench.now.state) result }
+    ensures { HasStatus (listing bench.now.rules bench.now.history.present) result }
 {
     match list(alloc, bench) {
         Ok(lines) if lines.as_slice().is_empty() => Status::Clean,

@@ -1,5 +1,5 @@
--- What is written for a command, and the state that it leaves. Each line of a reply ends with a line feed.
-use Rattle.std.specs.Prelude.{◌≡◌, ℕ, List, [], ◌++◌, length, Option, None, Some, Result, Ok, Err, codes, decimal}
+-- What is written for a command, and the history that it leaves. Each line of a reply ends with a line feed.
+use Rattle.std.specs.Prelude.{◌≡◌, ◌⊎◌, ℕ, List, [], ◌++◌, length, Option, None, Some, Result, Ok, Err, codes, decimal}
 use Rattle.std.specs.List.{flat_map}
 use Rattle.schema_core.specs.Lookups.{attrs_at}
 use Rattle.schema_core.specs.Schemas.{table_place}
@@ -9,7 +9,8 @@ use Rattle.csv_tables.specs.WrittenFiles.{table_text}
 use Rattle.rule_model.specs.Books.{Book}
 use Rattle.edit_log.specs.declared.edit.Edit.{Edit}
 use Rattle.edit_log.specs.declared.edit.Edit.TheVariants.{Insert, Set, Delete, Fix}
-use Rattle.bench_core.specs.Edited.{edited, name_of_table}
+use Rattle.bench_core.specs.Edited.{name_of_table}
+use Rattle.bench_core.specs.History.{History, HasNoPast, HasNothingUndone, IsRedone, IsUndone, history_edited}
 use Rattle.bench_core.specs.State.{State, rows_at}
 use Rattle.bench_core.specs.declared.edit.Applied.{Applied}
 use Rattle.bench_core.specs.declared.edit.Applied.TheVariants.{Inserted, Changed}
@@ -101,18 +102,30 @@ export_text rules state table = exported_text rules state (table_place rules.sch
 -- ---- replies
 
 -- this is written, and nothing changes
-abbrev pub Tells : List ℕ → State → List ℕ → State → Type 0
+abbrev pub Tells : List ℕ → History → List ℕ → History → Type 0
 Tells text before bytes after = (bytes ≡ text) × (after ≡ before)
 
 -- an edit is done and told, or refused for its first cause, and then nothing changes
-abbrev pub IsEditReply : State → Edit → Result (State × Applied) EditFault → List ℕ → State → Type 0
+abbrev pub IsEditReply : History → Edit → Result (History × Applied) EditFault → List ℕ → History → Type 0
 IsEditReply before edit (Ok done) bytes after = (bytes ≡ done_text edit done.1) × (after ≡ done.0)
 IsEditReply before edit (Err fault) bytes after = Tells (refused_text (fault_text fault)) before bytes after
 
--- these bytes are written for the command in the state before it, and this is the state after it
-abbrev pub IsReply : Book → Limits → State → Command → List ℕ → State → Type 0
-IsReply rules limits before (command.Edit edit) bytes after = IsEditReply before edit (edited rules limits before edit) bytes after
-IsReply rules limits before command.List bytes after = Tells (list_text rules before) before bytes after
-IsReply rules limits before command.Count bytes after = Tells (count_text rules before) before bytes after
-IsReply rules limits before (command.Explain table row) bytes after = Tells (explain_text rules before table row) before bytes after
-IsReply rules limits before (command.Export table) bytes after = Tells (export_text rules before table) before bytes after
+-- the last change is taken back, or there is none and nothing changes
+abbrev pub IsUndoReply : History → List ℕ → History → Type 0
+IsUndoReply before bytes after =
+    ((bytes ≡ codes "undone\n") × IsUndone before after) ⊎ (HasNoPast before × Tells (refused_text (codes "NothingToUndo")) before bytes after)
+
+-- the change that was taken back last is made again, or there is none and nothing changes
+abbrev pub IsRedoReply : History → List ℕ → History → Type 0
+IsRedoReply before bytes after =
+    ((bytes ≡ codes "redone\n") × IsRedone before after) ⊎ (HasNothingUndone before × Tells (refused_text (codes "NothingToRedo")) before bytes after)
+
+-- these bytes are written for the command in the history before it, and this is the history after it
+abbrev pub IsReply : Book → Limits → History → Command → List ℕ → History → Type 0
+IsReply rules limits before (command.Edit edit) bytes after = IsEditReply before edit (history_edited rules limits before edit) bytes after
+IsReply rules limits before command.Undo bytes after = IsUndoReply before bytes after
+IsReply rules limits before command.Redo bytes after = IsRedoReply before bytes after
+IsReply rules limits before command.List bytes after = Tells (list_text rules before.present) before bytes after
+IsReply rules limits before command.Count bytes after = Tells (count_text rules before.present) before bytes after
+IsReply rules limits before (command.Explain table row) bytes after = Tells (explain_text rules before.present table row) before bytes after
+IsReply rules limits before (command.Export table) bytes after = Tells (export_text rules before.present table) before bytes after

@@ -3,6 +3,8 @@
 --     insert TABLE LIST1(TEXT)
 --     set TABLE ID ATTR TEXT
 --     delete TABLE ID
+--     undo
+--     redo
 --     list
 --     count
 --     explain TABLE ID
@@ -77,6 +79,8 @@ command_for word rest =
     if bytes_eq word (codes "insert") then insert_at rest
     else if bytes_eq word (codes "set") then set_at rest
     else if bytes_eq word (codes "delete") then delete_at rest
+    else if bytes_eq word (codes "undo") then Some (command.Undo, rest)
+    else if bytes_eq word (codes "redo") then Some (command.Redo, rest)
     else question_for word rest
 
 unfoldable pub command_at : Reader Command

@@ -13,6 +13,10 @@ use thiserror::Error;
 #[derive(Debug, Drop)]
 pub enum Command {
     Edit(Edit),
+    /// Takes the last change back.
+    Undo,
+    /// Makes the change again that was taken back last.
+    Redo,
     /// Every violation that the rows have now.
     List,
     /// How many lines the list has.

@@ -20,7 +20,7 @@ pub fn push_exported(
     bench: &Bench,
     table: &Text,
 ) -> Result<(), AllocError>
-    ensures { OnOk result (out.new.items ≡ out.old.items ++ export_text bench.now.rules bench.now.state table.now) }
+    ensures { OnOk result (out.new.items ≡ out.old.items ++ export_text bench.now.rules bench.now.history.present table.now) }
 {
     match bench.rules().schema().table_named(table.as_str()) {
         Some(number) => push_rows(alloc, out, bench, number),
@@ -35,10 +35,11 @@ fn push_rows(
     number: usize,
 ) -> Result<(), AllocError>
     requires { number < length bench.now.rules.schema.tables }
-    ensures { OnOk result (out.new.items ≡ out.old.items ++ rows_text bench.now.rules bench.now.state number) }
+    ensures { OnOk result (out.new.items ≡ out.old.items ++ rows_text bench.now.rules bench.now.history.present number) }
 {
     let table = &bench.rules().schema().tables.as_slice()[number];
-    let rows = tuples_of(alloc, bench.rows(number))?;
+    let stored = bench.rows(number)?;
+    let rows = tuples_of(alloc, stored.as_slice())?;
     let count = rows.as_slice().len();
     let file = write_table(alloc, table, &rows)?;
     out.extend_from_slice(&file)?;

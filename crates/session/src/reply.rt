@@ -144,7 +144,7 @@ fn push_lines(
 
 /// Tells the list of the bench.
 pub fn push_list(alloc: Global, out: &mut Vec<u8>, bench: &Bench) -> Result<(), AllocError>
-    ensures { OnOk result (out.new.items ≡ out.old.items ++ list_text bench.now.rules bench.now.state) }
+    ensures { OnOk result (out.new.items ≡ out.old.items ++ list_text bench.now.rules bench.now.history.present) }
 {
     let lines = list(alloc, bench)?;
     push_lines(bench.rules(), b"listed", lines.as_slice(), out)
@@ -152,7 +152,7 @@ pub fn push_list(alloc: Global, out: &mut Vec<u8>, bench: &Bench) -> Result<(), 
 
 /// Tells how many lines the list has.
 pub fn push_count(alloc: Global, out: &mut Vec<u8>, bench: &Bench) -> Result<(), AllocError>
-    ensures { OnOk result (out.new.items ≡ out.old.items ++ count_text bench.now.rules bench.now.state) }
+    ensures { OnOk result (out.new.items ≡ out.old.items ++ count_text bench.now.rules bench.now.history.present) }
 {
     push_counted(out, b"count", count(alloc, bench)?)
 }
@@ -165,7 +165,7 @@ pub fn push_explained(
     table: &Text,
     row: RowId,
 ) -> Result<(), AllocError>
-    ensures { OnOk result (out.new.items ≡ out.old.items ++ explain_text bench.now.rules bench.now.state table.now row) }
+    ensures { OnOk result (out.new.items ≡ out.old.items ++ explain_text bench.now.rules bench.now.history.present table.now row) }
 {
     match explain(alloc, bench, table.as_str(), row) {
         Ok(lines) => push_lines(bench.rules(), b"explained", lines.as_slice(), out),

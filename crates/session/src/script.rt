@@ -121,6 +121,10 @@ fn command_for(alloc: Global, word: &Text, tokens: &mut Tokens) -> Result<Comman
         set_at(tokens)
     } else if word.is("delete") {
         delete_at(tokens)
+    } else if word.is("undo") {
+        Ok(Command::Undo)
+    } else if word.is("redo") {
+        Ok(Command::Redo)
     } else {
         question_for(word, tokens)
     }

@@ -41,6 +41,8 @@ fn show_edit(text: &mut String, edit: &Edit) -> Result<(), AllocError> {
 fn show_command(text: &mut String, command: &Command) -> Result<(), AllocError> {
     match command {
         Command::Edit(edit) => show_edit(text, edit)?,
+        Command::Undo => text.push_str("undo")?,
+        Command::Redo => text.push_str("redo")?,
         Command::List => text.push_str("list")?,
         Command::Count => text.push_str("count")?,
         Command::Explain { table, row } => show_row(text, "explain", table, *row)?,
@@ -67,7 +69,7 @@ fn shown(rt: &(impl Abort + AllocGlobal), most: u64, script: &[u8]) -> Result<St
 
 #[test]
 fn scripts(rt: HostRuntime) -> Result<(), Fail> {
-    let cases: [(&[u8], &str); 38] = [
+    let cases: [(&[u8], &str); 40] = [
         (b"", ""),
         (b"\n \t\r\n\t# insert\n", ""),
         (b"list", "list; "),
@@ -96,6 +98,8 @@ fn scripts(rt: HostRuntime) -> Result<(), Fail> {
         ),
         (b"delete t 12\nexplain t 3\n", "delete t 12; explain t 3; "),
         (b"export t\nexport export", "export t; export export; "),
+        (b"undo\nredo", "undo; redo; "),
+        (b"undo 1", "line 1: BadLine"),
         (b"set t 0 a 'x'", "line 1: BadLine"),
         (b"set t 01 a 'x'", "line 1: BadLine"),
         (b"set t 1 a", "line 1: BadLine"),

@@ -9,7 +9,7 @@ use std::alloc::{AllocError, Global};
 
 /// The number of lines of the list.
 pub fn count(alloc: Global, bench: &Bench) -> Result<usize, AllocError>
-    ensures { IfOk result (λ lines. lines ≡ length (listing bench.now.rules bench.now.state)) }
+    ensures { IfOk result (λ lines. lines ≡ length (listing bench.now.rules bench.now.history.present)) }
 {
     Ok(list(alloc, bench)?.as_slice().len())
 }

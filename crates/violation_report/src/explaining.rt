@@ -44,13 +44,13 @@ pub fn explain(
     table: &str,
     row: RowId,
 ) -> Result<List<Line>, ExplainFault>
-    ensures lines { IsUnlessMemory explain_tells (explanation bench.now.rules bench.now.state table.now row) result }
+    ensures lines { IsUnlessMemory explain_tells (explanation bench.now.rules bench.now.history.present table.now row) result }
     ensures in_range { IfOk result (All (IsLineOf bench.now.rules)) }
 {
     let Some(number) = bench.rules().schema().table_named(table) else {
         return Err(ExplainFault::UnknownTable);
     };
-    if !has_row(bench.rows(number), row) {
+    if !has_row(bench.rows(number)?.as_slice(), row) {
         return Err(ExplainFault::UnknownRow);
     }
     let lines = list(alloc, bench)?;

@@ -8,4 +8,4 @@ use Rattle.cfd_cli.proofs.report_form.tell.Goals as goal
 pub end_with-requires : goal.end_with-requires
 end_with-requires g c =
     let bench = c.args.bench.now in
-    subst IsWhole (sym c.in-Ok.ensures.status) (found_is_whole (listing bench.rules bench.state))
+    subst IsWhole (sym c.in-Ok.ensures.status) (found_is_whole (listing bench.rules bench.history.present))

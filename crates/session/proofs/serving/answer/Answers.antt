@@ -7,6 +7,6 @@ use Rattle.session.proofs.serving.answer.Goals as goal
 pub returns-in-Explain-clause-memory : goal.returns-in-Explain-clause-memory
 returns-in-Explain-clause-memory c =
     let bench = c.args.bench.now in
-    let Kept = (written : Option (List ℕ)) → AnswersFront (IsReply bench.rules bench.limits) bench.state (c.args.command.now ∷ []) bench.state written written in
-    let kept : Kept = λ written. front-not_begun (IsReply bench.rules bench.limits) bench.state bench.state (c.args.command.now ∷ []) written refl in
+    let Kept = (written : Option (List ℕ)) → AnswersFront (IsReply bench.rules bench.limits) bench.history (c.args.command.now ∷ []) bench.history written written in
+    let kept : Kept = λ written. front-not_begun (IsReply bench.rules bench.limits) bench.history bench.history (c.args.command.now ∷ []) written refl in
     elim c.push_explained.result as (λ r. OnErr r Kept) [ Ok made ↦ tt | Err memory ↦ kept ]
