@@ -8,7 +8,9 @@ ghost use Rattle.session.specs.Replies.{IsEditReply, IsRedoReply, IsReply, IsUnd
 
 use crate::command::{Command, ServeFault};
 use crate::export::push_exported;
-use crate::reply::{push_count, push_done, push_edit_refused, push_explained, push_list, push_refused};
+use crate::reply::{
+    push_count, push_done, push_edit_refused, push_explained, push_list, push_refused,
+};
 use bench_core::{Bench, EditFault, RedoFault, UndoFault};
 use edit_log::Edit;
 use schema_core::List;
