@@ -45,7 +45,8 @@ fn list_dep(
     requires { dep.now.table < length bench.now.history.present }
     ensures { OnOk result (lines.new ≡ lines.old ++ map (λ found. dep_line (number, found)) (dep_violations bench.now.history.present dep.now)) }
 {
-    let found = violations(alloc, &dep.rule, bench.rows(dep.table)?.as_slice())?;
+    let rows = bench.rows(dep.table)?;
+    let found = violations(alloc, &dep.rule, rows.as_slice())?;
     for (k, violation) in found.as_slice() {
         lines.push(dep_line(number, *k, violation))?;
     }
@@ -87,12 +88,9 @@ fn list_cind(
     requires right { cind.now.right < length bench.now.history.present }
     ensures { OnOk result (lines.new ≡ lines.old ++ map (λ found. cind_line (number, found)) (cind_orphans bench.now.history.present cind.now)) }
 {
-    let found = orphans(
-        alloc,
-        &cind.rule,
-        bench.rows(cind.left)?.as_slice(),
-        bench.rows(cind.right)?.as_slice(),
-    )?;
+    let left = bench.rows(cind.left)?;
+    let right = bench.rows(cind.right)?;
+    let found = orphans(alloc, &cind.rule, left.as_slice(), right.as_slice())?;
     for (k, row) in found.as_slice() {
         lines.push(Line::Orphan {
             cind: number,
