@@ -15,8 +15,8 @@ use std::alloc::{AllocError, Global};
 /// The violations of all dependencies in the order of the rules, then the orphans of all inclusion dependencies; of
 /// one rule, by tableau row; of one tableau row, by row.
 pub fn list(alloc: Global, bench: &Bench) -> Result<List<Line>, AllocError>
-    ensures list { IfOk result (λ lines. lines ≡ listing bench.now.rules bench.now.state) }
-    ensures law { IfOk result (λ lines. lines ≡ [] ↔ IsSatisfied bench.now.rules bench.now.state) }
+    ensures list { IfOk result (λ lines. lines ≡ listing bench.now.rules bench.now.history.present) }
+    ensures law { IfOk result (λ lines. lines ≡ [] ↔ IsSatisfied bench.now.rules bench.now.history.present) }
     ensures in_range { IfOk result (All (IsLineOf bench.now.rules)) }
 {
     let mut lines = List::new(alloc);
@@ -27,7 +27,7 @@ pub fn list(alloc: Global, bench: &Bench) -> Result<List<Line>, AllocError>
 
 fn list_deps(alloc: Global, bench: &Bench, lines: &mut List<Line>) -> Result<(), AllocError>
     requires { lines.old ≡ [] }
-    ensures { OnOk result (lines.new ≡ dep_lines bench.now.rules bench.now.state) }
+    ensures { OnOk result (lines.new ≡ dep_lines bench.now.rules bench.now.history.present) }
 {
     for (number, dep) in bench.rules().deps().as_slice().iter().enumerate() {
         list_dep(alloc, bench, number, dep, lines)?;
@@ -42,10 +42,11 @@ fn list_dep(
     dep: &Dep,
     lines: &mut List<Line>,
 ) -> Result<(), AllocError>
-    requires { dep.now.table < length bench.now.state }
-    ensures { OnOk result (lines.new ≡ lines.old ++ map (λ found. dep_line (number, found)) (dep_violations bench.now.state dep.now)) }
+    requires { dep.now.table < length bench.now.history.present }
+    ensures { OnOk result (lines.new ≡ lines.old ++ map (λ found. dep_line (number, found)) (dep_violations bench.now.history.present dep.now)) }
 {
-    let found = violations(alloc, &dep.rule, bench.rows(dep.table))?;
+    let rows = bench.rows(dep.table)?;
+    let found = violations(alloc, &dep.rule, rows.as_slice())?;
     for (k, violation) in found.as_slice() {
         lines.push(dep_line(number, *k, violation))?;
     }
@@ -68,7 +69,7 @@ fn dep_line(dep: usize, k: usize, violation: &Violation) -> Line
 }
 
 fn list_cinds(alloc: Global, bench: &Bench, lines: &mut List<Line>) -> Result<(), AllocError>
-    ensures { OnOk result (lines.new ≡ lines.old ++ cind_lines bench.now.rules bench.now.state) }
+    ensures { OnOk result (lines.new ≡ lines.old ++ cind_lines bench.now.rules bench.now.history.present) }
 {
     for (number, cind) in bench.rules().cinds().as_slice().iter().enumerate() {
         list_cind(alloc, bench, number, cind, lines)?;
@@ -83,16 +84,13 @@ fn list_cind(
     cind: &Cind,
     lines: &mut List<Line>,
 ) -> Result<(), AllocError>
-    requires left { cind.now.left < length bench.now.state }
-    requires right { cind.now.right < length bench.now.state }
-    ensures { OnOk result (lines.new ≡ lines.old ++ map (λ found. cind_line (number, found)) (cind_orphans bench.now.state cind.now)) }
+    requires left { cind.now.left < length bench.now.history.present }
+    requires right { cind.now.right < length bench.now.history.present }
+    ensures { OnOk result (lines.new ≡ lines.old ++ map (λ found. cind_line (number, found)) (cind_orphans bench.now.history.present cind.now)) }
 {
-    let found = orphans(
-        alloc,
-        &cind.rule,
-        bench.rows(cind.left),
-        bench.rows(cind.right),
-    )?;
+    let left = bench.rows(cind.left)?;
+    let right = bench.rows(cind.right)?;
+    let found = orphans(alloc, &cind.rule, left.as_slice(), right.as_slice())?;
     for (k, row) in found.as_slice() {
         lines.push(Line::Orphan {
             cind: number,

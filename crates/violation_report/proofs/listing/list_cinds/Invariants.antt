@@ -5,4 +5,4 @@ use Rattle.violation_report.specs.Listing.{cind_line, cind_orphans}
 use Rattle.violation_report.proofs.listing.list_cinds.Given as goal
 
 abbrev pub invariant-loop-number : goal.invariant-loop-number
-invariant-loop-number l = l.lines ≡ l.initial.lines ++ map cind_line (numbered (cind_orphans l.bench.state) (take l.number (book_cinds l.bench.rules)))
+invariant-loop-number l = l.lines ≡ l.initial.lines ++ map cind_line (numbered (cind_orphans l.bench.history.present) (take l.number (book_cinds l.bench.rules)))

@@ -5,4 +5,4 @@ use Rattle.violation_report.specs.Listing.{dep_line, dep_violations}
 use Rattle.violation_report.proofs.listing.list_deps.Given as goal
 
 abbrev pub invariant-loop-number : goal.invariant-loop-number
-invariant-loop-number l = l.lines ≡ map dep_line (numbered (dep_violations l.bench.state) (take l.number (book_deps l.bench.rules)))
+invariant-loop-number l = l.lines ≡ map dep_line (numbered (dep_violations l.bench.history.present) (take l.number (book_deps l.bench.rules)))
