@@ -4,4 +4,5 @@ pub mod FetchingSteps
 pub mod FullTables
 pub mod Outputs
 pub mod PlainWords
+pub mod Reports
 pub mod TableLoop

@@ -2,10 +2,11 @@
 use Rattle.std.specs.Prelude.{ℕ, List, Option, None, Some, Ok, codes}
 use Rattle.schema_core.specs.declared.limits.Limits.{Limits}
 use Rattle.cfd_cli.specs.declared.form.Form.{Form}
-use Rattle.cfd_cli.specs.declared.form.Form.TheVariants.{Run}
+use Rattle.cfd_cli.specs.declared.form.Form.TheVariants.{Report, Run}
 use Rattle.cfd_cli.specs.declared.status.Status.TheVariants.{Usage}
 use Rattle.cfd_cli.specs.Fetching.{given}
 use Rattle.cfd_cli.specs.Output.{Only, Task}
+use Rattle.cfd_cli.specs.ReportForm.{report_task}
 use Rattle.cfd_cli.specs.RunForm.{run_task}
 use Rattle.cfd_cli.specs.Words.{form_of}
 
@@ -25,6 +26,7 @@ usage_task = record {
 abbrev pub form_task : Limits → Option Form → Task
 form_task limits None = usage_task
 form_task limits (Some (Run project)) = run_task limits project
+form_task limits (Some (Report project)) = report_task limits project
 
 -- what the words ask for
 abbrev pub task_of : Limits → List (List ℕ) → Task

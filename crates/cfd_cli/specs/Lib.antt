@@ -3,6 +3,7 @@ pub mod Forms
 pub mod Output
 pub mod Project
 pub mod Refusals
+pub mod ReportForm
 pub mod RunForm
 pub mod Statuses
 pub mod Transcripts

@@ -11,6 +11,7 @@ use Rattle.rule_parser.specs.RuleFiles as rule_file
 use Rattle.csv_tables.specs.TableFiles.{table_of}
 use Rattle.csv_tables.specs.declared.fault.TableFault.{TableFault}
 use Rattle.bench_core.specs.Bench.{BenchModel}
+use Rattle.bench_core.specs.History.{History}
 use Rattle.bench_core.specs.Loading.{Tuples, loaded}
 use Rattle.bench_core.specs.State.{State}
 use Rattle.session.specs.Scripts.{script_of}
@@ -21,6 +22,28 @@ use Rattle.cfd_cli.specs.declared.refusal.Cause.TheVariants as cause
 use Rattle.cfd_cli.specs.Fetching.{Fetching, OrRefusal, ◌>>=◌, about, file, given}
 
 -- ---- what is read, or why its file is refused
+
+-- rules, limits and tables
+pub record Tables : Type 0 where
+  pub rules : Book
+  pub limits : Limits
+  pub history : History
+
+-- a project that was read: its tables, and the commands of its script
+pub record ProjectRead : Type 0 where
+  pub tables : Tables
+  pub commands : List Command
+
+-- what a bench holds, whatever ids it has for its texts
+abbrev pub tables_of : BenchModel → Tables
+tables_of bench = record { rules = bench.rules; limits = bench.limits; history = bench.history }
+
+abbrev pub read_of : Project → ProjectRead
+read_of project = record { tables = tables_of project.bench; commands = project.commands }
+
+-- nothing was changed yet
+abbrev pub begins_with : State → History
+begins_with state = record { past = []; present = state; undone = [] }
 
 -- what bytes spell, or the line and what is wrong there as the cause of a refusal
 abbrev pub spelled : {X C : Type 0} → (ℕ → C → Cause) → Reading X C → Result X Cause
@@ -36,9 +59,9 @@ tabled (Err fault) = Err (cause.Table fault)
 abbrev pub file_of : Schema → ℕ → List ℕ
 file_of schema table = option_map_or (λ (t : Table). t.file) (slice_get schema.tables table) []
 
--- the bench of tables as they are loaded, or the file of the first table with which they are too many
-abbrev pub bench_of : Book → Limits → Result State ℕ → OrRefusal BenchModel
-bench_of rules limits (Ok state) = Ok (record { rules = rules; limits = limits; state = state })
+-- the tables as they are loaded, or the file of the first with which they are too many
+abbrev pub bench_of : Book → Limits → Result State ℕ → OrRefusal Tables
+bench_of rules limits (Ok state) = Ok (record { rules = rules; limits = limits; history = begins_with state })
 bench_of rules limits (Err table) = Err (record { what = file_of rules.schema table; cause = cause.RowsFull })
 
 -- ---- the files, in their order
@@ -64,8 +87,8 @@ abbrev pub fetch_tables : Limits → List Table → Fetching (List Tuples)
 fetch_tables limits [] = given (Ok [])
 fetch_tables limits (table ∷ tables) = fetch_table limits table >>= λ rows. fetch_tables limits tables >>= λ others. given (Ok (rows ∷ others))
 
--- the bench of all tables
-unfoldable pub fetch_bench : Limits → Book → Fetching BenchModel
+-- all tables, with their rules
+unfoldable pub fetch_bench : Limits → Book → Fetching Tables
 fetch_bench limits rules =
     fetch_tables limits rules.schema.tables >>= λ tables. given (bench_of rules limits (loaded rules limits tables))
 
@@ -78,10 +101,10 @@ abbrev pub fetch_commands : Limits → Schema → Fetching (List Command)
 fetch_commands limits schema = fetch_commands_from limits schema.script
 
 -- the whole project
-unfoldable pub fetch_project : Limits → List ℕ → Fetching Project
+unfoldable pub fetch_project : Limits → List ℕ → Fetching ProjectRead
 fetch_project limits name =
     fetch_schema limits name >>= λ schema.
     fetch_rules limits schema >>= λ rules.
-    fetch_bench limits rules >>= λ bench.
-    fetch_commands limits bench.rules.schema >>= λ commands.
-    given (Ok (record { bench = bench; commands = commands }))
+    fetch_bench limits rules >>= λ tables.
+    fetch_commands limits tables.rules.schema >>= λ commands.
+    given (Ok (record { tables = tables; commands = commands }))

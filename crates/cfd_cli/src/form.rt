@@ -2,7 +2,7 @@
 ghost use Rattle.std.specs.Prelude.{◌≡◌, IfOk, IsOk};
 ghost use Rattle.cfd_cli.specs.Words.{HasForm, form_of, is_plain};
 
-use crate::run_form;
+use crate::words::read_project;
 use schema_core::Text;
 use std::alloc::{AllocError, Global};
 
@@ -11,6 +11,8 @@ use std::alloc::{AllocError, Global};
 pub enum Form {
     /// `run PROJECT`
     Run { project: Text },
+    /// `report PROJECT`
+    Report { project: Text },
 }
 
 /// The form of the words, where they have one. Words without a form take no memory.
@@ -20,7 +22,12 @@ pub fn form_of(alloc: Global, words: &[Text]) -> Result<Option<Form>, AllocError
 {
     match words {
         [name, project] if name.is("run") && is_plain(project) => {
-            Ok(Some(run_form::read_words(alloc, name, project)?))
+            let project = read_project(alloc, name, project)?;
+            Ok(Some(Form::Run { project }))
+        }
+        [name, project] if name.is("report") && is_plain(project) => {
+            let project = read_project(alloc, name, project)?;
+            Ok(Some(Form::Report { project }))
         }
         _ => Ok(None),
     }

@@ -7,6 +7,7 @@ ghost use Rattle.cfd_cli.specs.Words.{HasForm};
 
 use crate::ending::end_with;
 use crate::form::{Form, form_of};
+use crate::report_form::report_project;
 use crate::run_form::run_project;
 use crate::status::Status;
 use schema_core::{Limits, Texts};
@@ -47,6 +48,7 @@ pub fn run_with<S: Shelf, O: Sink>(
     match form_of(alloc, words.as_slice()) {
         Ok(None) => end_with(out, USAGE.as_bytes(), Status::Usage),
         Ok(Some(Form::Run { project })) => run_project(alloc, &project, shelf, out, &limits),
+        Ok(Some(Form::Report { project })) => report_project(alloc, &project, shelf, out, &limits),
         Err(AllocError) => Status::Memory,
     }
 }

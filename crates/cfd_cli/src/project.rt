@@ -7,7 +7,7 @@ ghost use Rattle.schema_core.specs.SchemaFiles as schema_file;
 ghost use Rattle.rule_parser.specs.RuleFiles as rule_file;
 ghost use Rattle.session.specs.Scripts.{script_of};
 ghost use Rattle.cfd_cli.specs.Fetching.{Fetches, Reads, about};
-ghost use Rattle.cfd_cli.specs.Project.{fetch_bench, fetch_commands, fetch_project, fetch_rules, fetch_schema, spelled};
+ghost use Rattle.cfd_cli.specs.Project.{fetch_bench, fetch_commands, fetch_project, fetch_rules, fetch_schema, read_of, spelled, tables_of};
 
 use crate::fetching::{Stop, fetch_file, refused};
 use crate::refusal::Cause;
@@ -37,7 +37,7 @@ pub fn fetch_project<S: Shelf>(
     left: &mut u64,
 ) -> Result<Project, Stop>
     requires { AreLimits limits.now }
-    ensures { Fetches (fetch_project limits.now name.now) (λ project. project) 67 result (S.told shelf.old) (S.told shelf.new) left.old left.new }
+    ensures { Fetches (fetch_project limits.now name.now) read_of 67 result (S.told shelf.old) (S.told shelf.new) left.old left.new }
 {
     let schema = fetch_schema(alloc, shelf, name, limits, left)?;
     let rules = fetch_rules(alloc, shelf, schema, limits, left)?;
@@ -90,7 +90,7 @@ fn fetch_bench<S: Shelf>(
     left: &mut u64,
 ) -> Result<Bench, Stop>
     requires { AreLimits limits.now }
-    ensures { Fetches (fetch_bench limits.now rules) (λ bench. bench) 64 result (S.told shelf.old) (S.told shelf.new) left.old left.new }
+    ensures { Fetches (fetch_bench limits.now rules) tables_of 64 result (S.told shelf.old) (S.told shelf.new) left.old left.new }
 {
     let tables = fetch_tables(alloc, shelf, rules.schema().tables.as_slice(), limits, left)?;
     load(alloc, rules, tables, limits)

@@ -278,10 +278,243 @@ CC,AC,zip,street,city
 = 3
 refused 'cust.csv' NotInDomain CC record 2
 %%
+texts that are changed, rows that are taken away, and what is told of them
+@ p
+table customer 'cust.csv'
+attr country
+attr zip
+attr street
+rules 'r'
+script 's'
+@ r
+cfd zip_street customer: [country, zip] -> [street]
+row 'UK', _ || _
+@ cust.csv
+country,zip,street
+UK,EH4,High St
+UK,EH4,Mid St
+US,EH4,Low St
+@ s
+list
+explain customer 2
+set customer 2 street 'High St'
+count
+undo
+delete customer 2
+redo
+insert customer 'UK', 'EH4', 'New St'
+explain customer 2
+export customer
+= 1
+pair zip_street.1 street customer 1 2
+pair zip_street.1 street customer 2 1
+listed 2
+pair zip_street.1 street customer 2 1
+explained 1
+set customer 2 street
+count 0
+undone
+deleted customer 2
+refused NothingToRedo
+inserted customer 4
+refused UnknownRow
+country,zip,street
+UK,EH4,High St
+US,EH4,Low St
+UK,EH4,New St
+exported 3
+%%
+undone one by one, until there is nothing to undo
+@ cust.csv
+CC,AC,zip,street,city
+44,1,Z,a,c
+@ s
+set cust 1 city 'd'
+set cust 1 street 'a'
+undo
+undo
+undo
+list
+= 0
+set cust 1 city
+set cust 1 street
+undone
+undone
+refused NothingToUndo
+listed 0
+%%
+an undone insertion gives its id back, and a change forgets what was undone
+@ s
+insert cust '44', '1', 'Z', 'a', 'c'
+undo
+insert cust '44', '1', 'Z', 'a', 'c'
+redo
+delete cust 1
+insert cust '44', '1', 'Z', 'a', 'c'
+undo
+redo
+count
+= 0
+inserted cust 1
+undone
+inserted cust 1
+refused NothingToRedo
+deleted cust 1
+inserted cust 2
+undone
+redone
+count 0
+%%
+orphans before and after their partner is taken away
+@ p
+table emp 'emp.csv'
+attr id
+attr boss
+rules 'r'
+script 's'
+@ r
+cind c1 emp[boss; ] in emp[id; ]
+row ||
+@ emp.csv
+id,boss
+e1,e9
+e2,e1
+e3,e1
+@ s
+list
+delete emp 1
+list
+undo
+list
+set emp 1 id 'e7'
+list
+= 1
+orphan c1.1 emp 1
+listed 1
+deleted emp 1
+orphan c1.1 emp 2
+orphan c1.1 emp 3
+listed 2
+undone
+orphan c1.1 emp 1
+listed 1
+set emp 1 id
+orphan c1.1 emp 1
+orphan c1.1 emp 2
+orphan c1.1 emp 3
+listed 3
+%%
+commands that are refused, each for its first cause
+@ p
+table cust 'cust.csv'
+attr CC in '01', '44'
+attr AC
+attr zip
+attr street
+attr city
+master area 'area.csv'
+attr code
+rules 'r'
+script 's'
+@ cust.csv
+CC,AC,zip,street,city
+44,131,EH4,High St,EDI
+@ area.csv
+code
+131
+@ s
+set nope 1 CC '01'
+set area 9 code 'x'
+set cust 9 CC '99'
+set cust 1 nope 'x'
+set cust 1 CC '99'
+insert cust 'x'
+explain cust 9
+explain nope 1
+export nope
+redo
+list
+export area
+= 0
+refused UnknownTable
+refused UnknownRow
+refused UnknownRow
+refused UnknownAttr
+refused NotInDomain CC
+refused WrongWidth
+refused UnknownRow
+refused UnknownTable
+refused UnknownTable
+refused NothingToRedo
+listed 0
+code
+131
+exported 1
+%%
+columns in another order, and a text that is quoted
+@ cust.csv
+street,zip,CC,AC,city
+\"High St, 2\",EH4,44,131,EDI
+@ s
+export cust
+= 0
+CC,AC,zip,street,city
+44,131,EH4,\"High St, 2\",EDI
+exported 1
+%%
 a line of the script that is no command
 @ s
 list
 list all
+= 3
+refused 's' BadLine line 2
+";
+
+// The same for the words `report p`.
+const REPORTS: &str = "
+a row that breaks a constant by itself
+@ cust.csv
+CC,AC,zip,street,city
+01,131,A1,s,EDI
+01,131,A2,s,GLA
+@ s
+list
+= 1
+{\"count\":1,\"lines\":[{\"attr\":\"city\",\"kind\":\"single\",\"row\":2,\"rule\":\"f2\",\"table\":\"cust\",\"tableau\":1}]}
+%%
+the state that the script leads to
+@ cust.csv
+CC,AC,zip,street,city
+01,131,A1,s,EDI
+01,131,A2,s,GLA
+@ s
+set cust 2 city 'EDI'
+= 0
+{\"count\":0,\"lines\":[]}
+%%
+a pair and an orphan
+@ p
+table emp 'emp.csv'
+attr id
+attr boss
+rules 'r'
+@ r
+cind c1 emp[boss; ] in emp[id; ]
+row ||
+cfd d1 emp: [id] -> [boss]
+row 'e2' || 'e1'
+row _ || _
+@ emp.csv
+id,boss
+e1,e1
+e1,e9
+= 1
+{\"count\":3,\"lines\":[{\"attr\":\"boss\",\"kind\":\"pair\",\"partner\":2,\"row\":1,\"rule\":\"d1\",\"table\":\"emp\",\"tableau\":2},{\"attr\":\"boss\",\"kind\":\"pair\",\"partner\":1,\"row\":2,\"rule\":\"d1\",\"table\":\"emp\",\"tableau\":2},{\"kind\":\"orphan\",\"row\":2,\"rule\":\"c1\",\"table\":\"emp\",\"tableau\":1}]}
+%%
+a script that is refused
+@ s
+count
+counts
 = 3
 refused 's' BadLine line 2
 ";
@@ -301,12 +534,17 @@ fn shelf_of(alloc: Global, inputs: &str) -> Result<MemoryShelf, AllocError> {
     Ok(shelf)
 }
 
-fn check<R: Abort + AllocGlobal>(rt: &R, inputs: &str, wanted: &str) -> Result<(), AllocError> {
+fn check<R: Abort + AllocGlobal>(
+    rt: &R,
+    form: &str,
+    inputs: &str,
+    wanted: &str,
+) -> Result<(), AllocError> {
     let alloc = rt.alloc();
     let mut shelf = shelf_of(alloc, inputs)?;
     let mut out = MemorySink::with_room(alloc, 10_000, Vec::new(alloc))?;
     let mut words = List::new(alloc);
-    words.push(Text::new(alloc, "run")?)?;
+    words.push(Text::new(alloc, form)?)?;
     words.push(Text::new(alloc, "p")?)?;
     let ended = run(alloc, &words, &mut shelf, &mut out);
     let mut text = format!(in alloc; "{}\n", ended.number())?.into_bytes();
@@ -315,11 +553,20 @@ fn check<R: Abort + AllocGlobal>(rt: &R, inputs: &str, wanted: &str) -> Result<(
     Ok(())
 }
 
-#[test]
-fn projects(rt: HostRuntime) -> Result<(), Fail> {
-    for case in PROJECTS.split("%%\n") {
+fn check_all<R: Abort + AllocGlobal>(rt: &R, form: &str, cases: &str) -> Result<(), Fail> {
+    for case in cases.split("%%\n") {
         let (inputs, wanted) = case.split_once("\n= ").ok_or("a case without an answer")?;
-        check(&rt, inputs, wanted)?;
+        check(rt, form, inputs, wanted)?;
     }
     Ok(())
+}
+
+#[test]
+fn projects(rt: HostRuntime) -> Result<(), Fail> {
+    check_all(&rt, "run", PROJECTS)
+}
+
+#[test]
+fn reports(rt: HostRuntime) -> Result<(), Fail> {
+    check_all(&rt, "report", REPORTS)
 }

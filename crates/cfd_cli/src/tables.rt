@@ -6,7 +6,7 @@ ghost use Rattle.schema_core.specs.Rows.{IsRowOf};
 ghost use Rattle.bench_core.specs.Loading.{AreTables, loaded};
 ghost use Rattle.csv_tables.specs.TableFiles.{table_of};
 ghost use Rattle.cfd_cli.specs.Fetching.{Fetches, Reads, about};
-ghost use Rattle.cfd_cli.specs.Project.{bench_of, fetch_table, fetch_tables, tabled};
+ghost use Rattle.cfd_cli.specs.Project.{bench_of, fetch_table, fetch_tables, tabled, tables_of};
 
 use crate::fetching::{Stop, fetch_file, refused};
 use crate::refusal::Cause;
@@ -74,7 +74,7 @@ pub fn load(
 ) -> Result<Bench, Stop>
     requires limits { AreLimits limits.now }
     requires tables { AreTables rules.schema limits.now.cell_bytes tables }
-    ensures { Reads (bench_of rules limits.now (loaded rules limits.now tables)) (λ bench. bench) result }
+    ensures { Reads (bench_of rules limits.now (loaded rules limits.now tables)) tables_of result }
 {
     let names = file_names(alloc, rules.schema())?;
     match Bench::load(alloc, rules, tables, *limits) {

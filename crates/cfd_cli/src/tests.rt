@@ -64,6 +64,9 @@ fn words_without_a_form(rt: HostRuntime) -> Result<(), Fail> {
         "-h",
         "--version",
         "runs p",
+        "report",
+        "report p q",
+        "report -p",
     ] {
         expect(&rt, line, &[("p", "")], Status::Usage, USAGE)?;
     }
@@ -219,5 +222,31 @@ fn limits_of_a_call(rt: HostRuntime) -> Result<(), Fail> {
     expect_within(&rt, (1000, 1000), 1, 9, Status::Clean, full)?;
     let both = "inserted cust 1\ninserted cust 2\n";
     expect_within(&rt, (1000, 1000), 2, 2, Status::Clean, both)?;
+    Ok(())
+}
+
+const TURNS: &str =
+    "insert cust '44', '1', 'Z', 'a', 'c'\ninsert cust '44', '1', 'Z', 'a', 'c'\ndelete cust 1\ninsert cust '44', '1', 'Z', 'a', 'c'\n";
+
+// Two rows at most, and no id above 2: a row that goes makes room, and its id isn't given again.
+#[test]
+fn rows_and_ids_that_run_out(rt: HostRuntime) -> Result<(), Fail> {
+    let alloc = rt.alloc();
+    let words = words_of(alloc, "run p")?;
+    let table = format!(in alloc; "{HEAD}44,1,Z,a,c\n")?;
+    let files = [
+        ("p", P),
+        ("r", R),
+        ("cust.csv", table.as_str()),
+        ("s", TURNS),
+    ];
+    let mut shelf = shelf_of(alloc, &files, Vec::new(alloc))?;
+    let mut out = MemorySink::with_room(alloc, ROOM, Vec::new(alloc))?;
+    let mut limits = Limits::standard();
+    limits.rows = limits.rows.min(2);
+    limits.last_id = limits.last_id.min(2);
+    let ended = run_with(alloc, &words, &mut shelf, &mut out, limits);
+    let wanted = "inserted cust 2\nrefused RowsFull\ndeleted cust 1\nrefused IdsSpent\n";
+    assert_eq!(rt; (ended, out.written()), (Status::Clean, wanted.as_bytes()));
     Ok(())
 }

@@ -1,26 +1,44 @@
 -- Script files: the commands that one spells, or its first faulty line with the first cause. Each line stands alone:
 --
 --     insert TABLE LIST1(TEXT)
+--     set TABLE ID ATTR TEXT
+--     delete TABLE ID
+--     undo
+--     redo
 --     list
+--     count
+--     explain TABLE ID
+--     export TABLE
 --
--- TABLE is a name, and TEXT a text of any length.
-use Rattle.std.specs.Prelude.{ℕ, List, [], ◌∷◌, ◌++◌, length, Some, None, Ok, if◌then◌else◌, nat_lt, codes}
+-- TABLE and ATTR are names, ID is a number from 1, and TEXT a text of any length.
+use Rattle.std.specs.Prelude.{ℕ, List, [], ◌∷◌, ◌++◌, length, Some, None, Ok, if◌then◌else◌, nat_le, nat_lt, codes}
 use Rattle.std.specs.Str.{bytes_eq}
 use Rattle.schema_core.specs.Faults as Fault
 use Rattle.schema_core.specs.FileLines.{read_line}
 use Rattle.schema_core.specs.Groups.{read_lines}
-use Rattle.schema_core.specs.Phrases.{◌>>=◌, name_at, text_at}
+use Rattle.schema_core.specs.Phrases.{◌>>=◌, name_at, number_at, only_if, text_at}
 use Rattle.schema_core.specs.TokenLists.{Reader, list1_at, none_after}
 use Rattle.schema_core.specs.declared.line.Line.{Line}
 use Rattle.schema_core.specs.declared.limits.Limits.{Limits}
 use Rattle.schema_core.specs.declared.limits.Limit.TheVariants as limit
-use Rattle.edit_log.specs.declared.edit.Edit.TheVariants.{Insert}
+use Rattle.edit_log.specs.declared.edit.Edit.TheVariants.{Insert, Set, Delete}
 use Rattle.session.specs.declared.command.Command.{Command}
 use Rattle.session.specs.declared.command.Command.TheVariants as command
 use Rattle.session.specs.declared.command.ScriptCause.{ScriptCause}
 use Rattle.session.specs.declared.command.ScriptCause.TheVariants as cause
 
 -- ---- one line
+
+-- ID
+abbrev pub id_at : Reader ℕ
+id_at tokens = number_at tokens >>= only_if (λ id. nat_le 1 id)
+
+-- TABLE ID
+abbrev pub row_at : Reader (List ℕ × ℕ)
+row_at tokens = do
+  table ← name_at tokens
+  id ← id_at table.1
+  Some ((table.0, id.0), id.1)
 
 -- TABLE LIST1(TEXT)
 abbrev pub insert_at : Reader Command
@@ -29,12 +47,41 @@ insert_at tokens = do
   values ← list1_at text_at table.1
   Some (command.Edit (Insert table.0 values.0), values.1)
 
+-- TABLE ID ATTR TEXT
+abbrev pub set_at : Reader Command
+set_at tokens = do
+  row ← row_at tokens
+  attr ← name_at row.1
+  value ← text_at attr.1
+  Some (command.Edit (Set row.0.0 row.0.1 attr.0 value.0), value.1)
+
+abbrev pub delete_at : Reader Command
+delete_at tokens = row_at tokens >>= λ row. Some (command.Edit (Delete row.0.0 row.0.1), row.1)
+
+abbrev pub explain_at : Reader Command
+explain_at tokens = row_at tokens >>= λ row. Some (command.Explain row.0.0 row.0.1, row.1)
+
+abbrev pub export_at : Reader Command
+export_at tokens = name_at tokens >>= λ table. Some (command.Export table.0, table.1)
+
+-- what stands behind the first word of a command that tells something
+unfoldable pub question_for : List ℕ → Reader Command
+question_for word rest =
+    if bytes_eq word (codes "list") then Some (command.List, rest)
+    else if bytes_eq word (codes "count") then Some (command.Count, rest)
+    else if bytes_eq word (codes "explain") then explain_at rest
+    else if bytes_eq word (codes "export") then export_at rest
+    else None
+
 -- what stands behind the first word of a command
-abbrev pub command_for : List ℕ → Reader Command
+unfoldable pub command_for : List ℕ → Reader Command
 command_for word rest =
     if bytes_eq word (codes "insert") then insert_at rest
-    else (if bytes_eq word (codes "list") then Some (command.List, rest)
-    else None)
+    else if bytes_eq word (codes "set") then set_at rest
+    else if bytes_eq word (codes "delete") then delete_at rest
+    else if bytes_eq word (codes "undo") then Some (command.Undo, rest)
+    else if bytes_eq word (codes "redo") then Some (command.Redo, rest)
+    else question_for word rest
 
 unfoldable pub command_at : Reader Command
 command_at tokens = name_at tokens >>= λ word. command_for word.0 word.1

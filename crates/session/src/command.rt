@@ -4,7 +4,8 @@ ghost use Rattle.std.specs.Prelude.{◌≡◌};
 ghost use Rattle.session.specs.declared.command.ServeFault.TheVariants as serve_fault;
 
 use edit_log::Edit;
-use schema_core::{Limit, LineFault};
+use row_store::RowId;
+use schema_core::{Limit, LineFault, Text};
 use std::alloc::AllocError;
 use thiserror::Error;
 
@@ -12,8 +13,18 @@ use thiserror::Error;
 #[derive(Debug, Drop)]
 pub enum Command {
     Edit(Edit),
+    /// Takes the last change back.
+    Undo,
+    /// Makes the change again that was taken back last.
+    Redo,
     /// Every violation that the rows have now.
     List,
+    /// How many lines the list has.
+    Count,
+    /// The lines of the list that a row has.
+    Explain { table: Text, row: RowId },
+    /// The rows of a table, as a table file.
+    Export { table: Text },
 }
 
 /// What is wrong with a line of a script.

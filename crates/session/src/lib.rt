@@ -3,6 +3,7 @@
 #![tactic(auto)]
 
 pub mod command;
+mod export;
 mod reply;
 pub mod script;
 pub mod serving;

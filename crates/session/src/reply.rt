@@ -4,14 +4,15 @@ ghost use Rattle.std.specs.Prelude.{◌≡◌, ◌++◌, codes, decimal, All, On
 ghost use Rattle.std.specs.List.{flat_map};
 ghost use Rattle.bench_core.specs.Edited.{name_of_table};
 ghost use Rattle.violation_report.specs.Text.{IsLineOf, line_text};
-ghost use Rattle.session.specs.Replies.{changed_text, done_text, fault_text, refused_text, list_text, listed_text};
+ghost use Rattle.session.specs.Replies.{changed_text, count_text, counted_text, done_text, explain_text, fault_text, lines_text, list_text, refused_text};
 
 use bench_core::{Applied, Bench, EditFault};
 use edit_log::Edit;
+use row_store::RowId;
 use rule_model::RuleBook;
 use schema_core::{Text, push_number};
 use std::alloc::{AllocError, Global};
-use violation_report::{Line, list, push_line};
+use violation_report::{ExplainFault, Line, count, explain, list, push_line};
 
 /// A word, and the row that it is said of.
 fn push_row(out: &mut Vec<u8>, word: &[u8], table: &Text, row: u64) -> Result<(), AllocError>
@@ -89,24 +90,35 @@ fn push_fault(out: &mut Vec<u8>, fault: &EditFault) -> Result<(), AllocError>
     }
 }
 
+/// Tells that a command is refused.
+pub fn push_refused(out: &mut Vec<u8>, cause: &[u8]) -> Result<(), AllocError>
+    ensures { OnOk result (out.new.items ≡ out.old.items ++ refused_text cause.now) }
+{
+    out.extend_from_slice(b"refused ")?;
+    out.extend_from_slice(cause)?;
+    out.extend_from_slice(b"\n")
+}
+
 /// Tells an edit that was refused.
-pub fn push_refused(out: &mut Vec<u8>, fault: &EditFault) -> Result<(), AllocError>
-    ensures { OnOk result (out.new.items ≡ out.old.items ++ refused_text fault.now) }
+pub fn push_edit_refused(out: &mut Vec<u8>, fault: &EditFault) -> Result<(), AllocError>
+    ensures { OnOk result (out.new.items ≡ out.old.items ++ refused_text (fault_text fault.now)) }
 {
     out.extend_from_slice(b"refused ")?;
     push_fault(out, fault)?;
     out.extend_from_slice(b"\n")
 }
 
-fn push_listed(out: &mut Vec<u8>, count: usize) -> Result<(), AllocError>
-    ensures { OnOk result (out.new.items ≡ out.old.items ++ listed_text count) }
+/// A word and a number.
+pub fn push_counted(out: &mut Vec<u8>, word: &[u8], count: usize) -> Result<(), AllocError>
+    ensures { OnOk result (out.new.items ≡ out.old.items ++ counted_text word.now count) }
 {
-    out.extend_from_slice(b"listed ")?;
+    out.extend_from_slice(word)?;
+    out.push(b' ')?;
     push_number(out, count as u64)?;
     out.extend_from_slice(b"\n")
 }
 
-fn push_lines(rules: &RuleBook, lines: &[Line], out: &mut Vec<u8>) -> Result<(), AllocError>
+fn push_each(rules: &RuleBook, lines: &[Line], out: &mut Vec<u8>) -> Result<(), AllocError>
     requires { All (IsLineOf rules.now) lines.now }
     ensures { OnOk result (out.new.items ≡ out.old.items ++ flat_map (line_text rules.now) lines.now) }
 {
@@ -116,11 +128,49 @@ fn push_lines(rules: &RuleBook, lines: &[Line], out: &mut Vec<u8>) -> Result<(),
     Ok(())
 }
 
+/// The lines, then how many they are.
+fn push_lines(
+    rules: &RuleBook,
+    word: &[u8],
+    lines: &[Line],
+    out: &mut Vec<u8>,
+) -> Result<(), AllocError>
+    requires { All (IsLineOf rules.now) lines.now }
+    ensures { OnOk result (out.new.items ≡ out.old.items ++ lines_text rules.now word.now lines.now) }
+{
+    push_each(rules, lines, out)?;
+    push_counted(out, word, lines.len())
+}
+
 /// Tells the list of the bench.
 pub fn push_list(alloc: Global, out: &mut Vec<u8>, bench: &Bench) -> Result<(), AllocError>
-    ensures { OnOk result (out.new.items ≡ out.old.items ++ list_text bench.now.rules bench.now.state) }
+    ensures { OnOk result (out.new.items ≡ out.old.items ++ list_text bench.now.rules bench.now.history.present) }
 {
     let lines = list(alloc, bench)?;
-    push_lines(bench.rules(), lines.as_slice(), out)?;
-    push_listed(out, lines.as_slice().len())
+    push_lines(bench.rules(), b"listed", lines.as_slice(), out)
+}
+
+/// Tells how many lines the list has.
+pub fn push_count(alloc: Global, out: &mut Vec<u8>, bench: &Bench) -> Result<(), AllocError>
+    ensures { OnOk result (out.new.items ≡ out.old.items ++ count_text bench.now.rules bench.now.history.present) }
+{
+    push_counted(out, b"count", count(alloc, bench)?)
+}
+
+/// Tells the lines of a row.
+pub fn push_explained(
+    alloc: Global,
+    out: &mut Vec<u8>,
+    bench: &Bench,
+    table: &Text,
+    row: RowId,
+) -> Result<(), AllocError>
+    ensures { OnOk result (out.new.items ≡ out.old.items ++ explain_text bench.now.rules bench.now.history.present table.now row) }
+{
+    match explain(alloc, bench, table.as_str(), row) {
+        Ok(lines) => push_lines(bench.rules(), b"explained", lines.as_slice(), out),
+        Err(ExplainFault::UnknownTable) => push_refused(out, b"UnknownTable"),
+        Err(ExplainFault::UnknownRow) => push_refused(out, b"UnknownRow"),
+        Err(ExplainFault::Memory) => Err(AllocError),
+    }
 }

@@ -4,11 +4,12 @@ ghost use Rattle.std.specs.Prelude.{⊤, ◌≡◌, ◌≤◌, length, IfOk};
 ghost use Rattle.schema_core.specs.Faults.{IsUnlessMemory, line_tells};
 ghost use Rattle.schema_core.specs.Phrases.{Reads};
 ghost use Rattle.schema_core.specs.declared.limits.Limits.{Limits as AllLimits};
-ghost use Rattle.session.specs.Scripts.{insert_at, command_for, command_at, script_causes, with_line, script_of};
+ghost use Rattle.session.specs.Scripts.{id_at, row_at, insert_at, set_at, delete_at, explain_at, export_at, question_for, command_for, command_at, script_causes, with_line, script_of};
 ghost use Rattle.session.specs.declared.command.Command.{Command as AnyCommand};
 
 use crate::command::{Command, ScriptCause, ScriptFault};
 use edit_log::Edit;
+use row_store::RowId;
 use schema_core::{
     Gather, Limit, Limits, Line, LineCause, List, Phrase, Quoted, Text, Tokens, Unread, read_lines,
 };
@@ -29,6 +30,25 @@ impl LineCause for ScriptCause {
 /// A command by its first word.
 struct CommandLine;
 
+fn id_at(tokens: &mut Tokens) -> Result<RowId, Unread>
+    ensures { Reads id_at tokens.old tokens.new result }
+{
+    let id = tokens.number()?;
+    if id == 0 {
+        return Err(Unread::Absent);
+    }
+    Ok(id)
+}
+
+/// A table and the id of a row.
+fn row_at(tokens: &mut Tokens) -> Result<(Text, RowId), Unread>
+    ensures { Reads row_at tokens.old tokens.new result }
+{
+    let table = tokens.name()?;
+    let id = id_at(tokens)?;
+    Ok((table, id))
+}
+
 /// A table and the texts of a row.
 fn insert_at(alloc: Global, tokens: &mut Tokens) -> Result<Command, Unread>
     ensures { Reads insert_at tokens.old tokens.new result }
@@ -38,15 +58,75 @@ fn insert_at(alloc: Global, tokens: &mut Tokens) -> Result<Command, Unread>
     Ok(Command::Edit(Edit::Insert { table, values }))
 }
 
+/// A row, an attribute and its text.
+fn set_at(tokens: &mut Tokens) -> Result<Command, Unread>
+    ensures { Reads set_at tokens.old tokens.new result }
+{
+    let (table, row) = row_at(tokens)?;
+    let attr = tokens.name()?;
+    let value = tokens.text()?;
+    Ok(Command::Edit(Edit::Set {
+        table,
+        row,
+        attr,
+        value,
+    }))
+}
+
+fn delete_at(tokens: &mut Tokens) -> Result<Command, Unread>
+    ensures { Reads delete_at tokens.old tokens.new result }
+{
+    let (table, row) = row_at(tokens)?;
+    Ok(Command::Edit(Edit::Delete { table, row }))
+}
+
+fn explain_at(tokens: &mut Tokens) -> Result<Command, Unread>
+    ensures { Reads explain_at tokens.old tokens.new result }
+{
+    let (table, row) = row_at(tokens)?;
+    Ok(Command::Explain { table, row })
+}
+
+fn export_at(tokens: &mut Tokens) -> Result<Command, Unread>
+    ensures { Reads export_at tokens.old tokens.new result }
+{
+    let table = tokens.name()?;
+    Ok(Command::Export { table })
+}
+
+#[tactic(auto, unfolding(crate::specs::Scripts::question_for))]
+fn question_for(word: &Text, tokens: &mut Tokens) -> Result<Command, Unread>
+    ensures { Reads (question_for word.now) tokens.old tokens.new result }
+{
+    if word.is("list") {
+        Ok(Command::List)
+    } else if word.is("count") {
+        Ok(Command::Count)
+    } else if word.is("explain") {
+        explain_at(tokens)
+    } else if word.is("export") {
+        export_at(tokens)
+    } else {
+        Err(Unread::Absent)
+    }
+}
+
+#[tactic(auto, unfolding(crate::specs::Scripts::command_for))]
 fn command_for(alloc: Global, word: &Text, tokens: &mut Tokens) -> Result<Command, Unread>
     ensures { Reads (command_for word.now) tokens.old tokens.new result }
 {
     if word.is("insert") {
         insert_at(alloc, tokens)
-    } else if word.is("list") {
-        Ok(Command::List)
+    } else if word.is("set") {
+        set_at(tokens)
+    } else if word.is("delete") {
+        delete_at(tokens)
+    } else if word.is("undo") {
+        Ok(Command::Undo)
+    } else if word.is("redo") {
+        Ok(Command::Redo)
     } else {
-        Err(Unread::Absent)
+        question_for(word, tokens)
     }
 }
 

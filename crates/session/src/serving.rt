@@ -3,12 +3,15 @@
 ghost use Rattle.std.specs.Prelude.{◌≡◌, ◌≤◌, ℕ, List, [], ◌∷◌, Option, Err, OnOk, OnErr};
 ghost use Rattle.shelf_io.specs.Rising.{Rose};
 ghost use Rattle.shelf_io.specs.Transcript.{Answers, AnswersFront};
-ghost use Rattle.bench_core.specs.Edited.{edited};
-ghost use Rattle.session.specs.Replies.{IsReply, IsEditReply};
+ghost use Rattle.bench_core.specs.History.{history_edited};
+ghost use Rattle.session.specs.Replies.{IsEditReply, IsRedoReply, IsReply, IsUndoReply};
 
 use crate::command::{Command, ServeFault};
-use crate::reply::{push_done, push_list, push_refused};
-use bench_core::{Bench, EditFault};
+use crate::export::push_exported;
+use crate::reply::{
+    push_count, push_done, push_edit_refused, push_explained, push_list, push_refused,
+};
+use bench_core::{Bench, EditFault, RedoFault, UndoFault};
 use edit_log::Edit;
 use schema_core::List;
 use shelf_io::{PutFailed, Sink, write_out};
@@ -22,10 +25,10 @@ pub fn serve<O: Sink>(
     commands: &List<Command>,
     out: &mut O,
 ) -> Result<(), ServeFault>
-    ensures ok { OnOk result (Answers (IsReply bench.old.rules bench.old.limits) bench.old.state commands.now bench.new.state (O.told out.old).written (O.told out.new).written) }
+    ensures ok { OnOk result (Answers (IsReply bench.old.rules bench.old.limits) bench.old.history commands.now bench.new.history (O.told out.old).written (O.told out.new).written) }
 
     // After a fault some of the commands were answered, the last reply perhaps not to its end.
-    ensures fault { OnErr result (AnswersFront (IsReply bench.old.rules bench.old.limits) bench.old.state commands.now bench.new.state (O.told out.old).written (O.told out.new).written) }
+    ensures fault { OnErr result (AnswersFront (IsReply bench.old.rules bench.old.limits) bench.old.history commands.now bench.new.history (O.told out.old).written (O.told out.new).written) }
     ensures made_with { (bench.new.rules ≡ bench.old.rules) × (bench.new.limits ≡ bench.old.limits) }
     ensures write_fault { result ≡ Err ServeFault.WriteFault → Rose (O.told out.old).faults (O.told out.new).faults }
     ensures faults { (O.told out.old).faults ≤ (O.told out.new).faults }
@@ -45,8 +48,8 @@ fn answer_one<O: Sink>(
     reply: &mut Vec<u8>,
     out: &mut O,
 ) -> Result<(), ServeFault>
-    ensures ok { OnOk result (Answers (IsReply bench.old.rules bench.old.limits) bench.old.state (command.now ∷ []) bench.new.state (O.told out.old).written (O.told out.new).written) }
-    ensures fault { OnErr result (AnswersFront (IsReply bench.old.rules bench.old.limits) bench.old.state (command.now ∷ []) bench.new.state (O.told out.old).written (O.told out.new).written) }
+    ensures ok { OnOk result (Answers (IsReply bench.old.rules bench.old.limits) bench.old.history (command.now ∷ []) bench.new.history (O.told out.old).written (O.told out.new).written) }
+    ensures fault { OnErr result (AnswersFront (IsReply bench.old.rules bench.old.limits) bench.old.history (command.now ∷ []) bench.new.history (O.told out.old).written (O.told out.new).written) }
     ensures made_with { (bench.new.rules ≡ bench.old.rules) × (bench.new.limits ≡ bench.old.limits) }
     ensures write_fault { result ≡ Err ServeFault.WriteFault → Rose (O.told out.old).faults (O.told out.new).faults }
     ensures faults { (O.told out.old).faults ≤ (O.told out.new).faults }
@@ -67,32 +70,58 @@ fn answer(
     reply: &mut Vec<u8>,
 ) -> Result<(), AllocError>
     requires { reply.old.items ≡ [] }
-    ensures ok { OnOk result (IsReply bench.old.rules bench.old.limits bench.old.state command.now reply.new.items bench.new.state) }
+    ensures ok { OnOk result (IsReply bench.old.rules bench.old.limits bench.old.history command.now reply.new.items bench.new.history) }
 
     // The bench is as before the command or as after it, and the sink wasn't touched.
-    ensures memory { OnErr result ((written : Option (List ℕ)) → AnswersFront (IsReply bench.old.rules bench.old.limits) bench.old.state (command.now ∷ []) bench.new.state written written) }
+    ensures memory { OnErr result ((written : Option (List ℕ)) → AnswersFront (IsReply bench.old.rules bench.old.limits) bench.old.history (command.now ∷ []) bench.new.history written written) }
     ensures made_with { (bench.new.rules ≡ bench.old.rules) × (bench.new.limits ≡ bench.old.limits) }
 {
     match command {
-        Command::Edit(edit) => answer_edit(alloc, bench, edit, reply),
+        Command::Edit(edit) => answer_edit(bench, edit, reply),
+        Command::Undo => answer_undo(bench, reply),
+        Command::Redo => answer_redo(bench, reply),
         Command::List => push_list(alloc, reply, bench),
+        Command::Count => push_count(alloc, reply, bench),
+        Command::Explain { table, row } => push_explained(alloc, reply, bench, table, *row),
+        Command::Export { table } => push_exported(alloc, reply, bench, table),
     }
 }
 
-fn answer_edit(
-    alloc: Global,
-    bench: &mut Bench,
-    edit: &Edit,
-    reply: &mut Vec<u8>,
-) -> Result<(), AllocError>
+fn answer_edit(bench: &mut Bench, edit: &Edit, reply: &mut Vec<u8>) -> Result<(), AllocError>
     requires { reply.old.items ≡ [] }
-    ensures ok { OnOk result (IsEditReply bench.old.state edit.now (edited bench.old.rules bench.old.limits bench.old.state edit.now) reply.new.items bench.new.state) }
-    ensures memory { OnErr result ((written : Option (List ℕ)) → AnswersFront (IsReply bench.old.rules bench.old.limits) bench.old.state (Command.Edit edit.now ∷ []) bench.new.state written written) }
+    ensures ok { OnOk result (IsEditReply bench.old.history edit.now (history_edited bench.old.rules bench.old.limits bench.old.history edit.now) reply.new.items bench.new.history) }
+    ensures memory { OnErr result ((written : Option (List ℕ)) → AnswersFront (IsReply bench.old.rules bench.old.limits) bench.old.history (Command.Edit edit.now ∷ []) bench.new.history written written) }
     ensures made_with { (bench.new.rules ≡ bench.old.rules) × (bench.new.limits ≡ bench.old.limits) }
 {
     match bench.apply(edit) {
         Ok(applied) => push_done(reply, edit, applied),
         Err(EditFault::Memory) => Err(AllocError),
-        Err(fault) => push_refused(reply, &fault),
+        Err(fault) => push_edit_refused(reply, &fault),
+    }
+}
+
+fn answer_undo(bench: &mut Bench, reply: &mut Vec<u8>) -> Result<(), AllocError>
+    requires { reply.old.items ≡ [] }
+    ensures ok { OnOk result (IsUndoReply bench.old.history reply.new.items bench.new.history) }
+    ensures memory { OnErr result ((written : Option (List ℕ)) → AnswersFront (IsReply bench.old.rules bench.old.limits) bench.old.history (Command.Undo ∷ []) bench.new.history written written) }
+    ensures made_with { (bench.new.rules ≡ bench.old.rules) × (bench.new.limits ≡ bench.old.limits) }
+{
+    match bench.undo() {
+        Ok(()) => reply.extend_from_slice(b"undone\n"),
+        Err(UndoFault::NothingToUndo) => push_refused(reply, b"NothingToUndo"),
+        Err(UndoFault::Memory) => Err(AllocError),
+    }
+}
+
+fn answer_redo(bench: &mut Bench, reply: &mut Vec<u8>) -> Result<(), AllocError>
+    requires { reply.old.items ≡ [] }
+    ensures ok { OnOk result (IsRedoReply bench.old.history reply.new.items bench.new.history) }
+    ensures memory { OnErr result ((written : Option (List ℕ)) → AnswersFront (IsReply bench.old.rules bench.old.limits) bench.old.history (Command.Redo ∷ []) bench.new.history written written) }
+    ensures made_with { (bench.new.rules ≡ bench.old.rules) × (bench.new.limits ≡ bench.old.limits) }
+{
+    match bench.redo() {
+        Ok(()) => reply.extend_from_slice(b"redone\n"),
+        Err(RedoFault::NothingToRedo) => push_refused(reply, b"NothingToRedo"),
+        Err(RedoFault::Memory) => Err(AllocError),
     }
 }

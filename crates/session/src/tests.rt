@@ -1,15 +1,20 @@
 //! Scripts as their commands, or as the first fault.
 use super::*;
 use edit_log::Edit;
-use schema_core::Limits;
+use row_store::RowId;
+use schema_core::{Limits, Text};
 use std::alloc::AllocError;
 use std::process::Abort;
 use std::test::Fail;
 
-fn show_command(text: &mut String, command: &Command) -> Result<(), AllocError> {
-    match command {
-        Command::List => text.push_str("list")?,
-        Command::Edit(Edit::Insert { table, values }) => {
+// A word, and the row that it is said of.
+fn show_row(text: &mut String, word: &str, table: &Text, row: RowId) -> Result<(), AllocError> {
+    write!(text, "{word} {} {row}", table.as_str())
+}
+
+fn show_edit(text: &mut String, edit: &Edit) -> Result<(), AllocError> {
+    match edit {
+        Edit::Insert { table, values } => {
             text.push_str("insert ")?;
             text.push_str(table.as_str())?;
             for value in values.as_slice() {
@@ -17,8 +22,31 @@ fn show_command(text: &mut String, command: &Command) -> Result<(), AllocError> 
                 text.push_str(value.as_str())?;
                 text.push_str(">")?;
             }
+            Ok(())
         }
-        Command::Edit(_) => text.push_str("another edit")?,
+        Edit::Set {
+            table,
+            row,
+            attr,
+            value,
+        } => {
+            show_row(text, "set", table, *row)?;
+            write!(text, " {} <{}>", attr.as_str(), value.as_str())
+        }
+        Edit::Delete { table, row } => show_row(text, "delete", table, *row),
+        Edit::Fix { .. } => text.push_str("fix"),
+    }
+}
+
+fn show_command(text: &mut String, command: &Command) -> Result<(), AllocError> {
+    match command {
+        Command::Edit(edit) => show_edit(text, edit)?,
+        Command::Undo => text.push_str("undo")?,
+        Command::Redo => text.push_str("redo")?,
+        Command::List => text.push_str("list")?,
+        Command::Count => text.push_str("count")?,
+        Command::Explain { table, row } => show_row(text, "explain", table, *row)?,
+        Command::Export { table } => write!(text, "export {}", table.as_str())?,
     }
     text.push_str("; ")
 }
@@ -41,7 +69,7 @@ fn shown(rt: &(impl Abort + AllocGlobal), most: u64, script: &[u8]) -> Result<St
 
 #[test]
 fn scripts(rt: HostRuntime) -> Result<(), Fail> {
-    let cases: [(&[u8], &str); 21] = [
+    let cases: [(&[u8], &str); 40] = [
         (b"", ""),
         (b"\n \t\r\n\t# insert\n", ""),
         (b"list", "list; "),
@@ -63,6 +91,28 @@ fn scripts(rt: HostRuntime) -> Result<(), Fail> {
         (b"list\n\ninsert t\n\xff\n", "line 3: BadLine"),
         (b"list\n\n\xff\ninsert t\n", "line 3: NotUtf8"),
         (b"list\rlist\n", "line 1: BadLine"),
+        (b"set t 1 a 'x'\ncount", "set t 1 a <x>; count; "),
+        (
+            b"set set 999999999999 set''",
+            "set set 999999999999 set <>; ",
+        ),
+        (b"delete t 12\nexplain t 3\n", "delete t 12; explain t 3; "),
+        (b"export t\nexport export", "export t; export export; "),
+        (b"undo\nredo", "undo; redo; "),
+        (b"undo 1", "line 1: BadLine"),
+        (b"set t 0 a 'x'", "line 1: BadLine"),
+        (b"set t 01 a 'x'", "line 1: BadLine"),
+        (b"set t 1 a", "line 1: BadLine"),
+        (b"set t 1 'a' 'x'", "line 1: BadLine"),
+        (b"set t 1 a 'x', 'y'", "line 1: BadLine"),
+        (b"set t 1000000000000 a 'x'", "line 1: BadLine"),
+        (b"delete t", "line 1: BadLine"),
+        (b"delete t 0", "line 1: BadLine"),
+        (b"delete t 1 2", "line 1: BadLine"),
+        (b"count t", "line 1: BadLine"),
+        (b"explain t", "line 1: BadLine"),
+        (b"export 't'", "line 1: BadLine"),
+        (b"fix t 1 [a]", "line 1: BadLine"),
     ];
     for (script, wanted) in cases {
         assert_eq!(rt; shown(&rt, 9, script)?.as_str(), wanted, "{script:?}");

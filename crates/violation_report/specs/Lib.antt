@@ -1,2 +1,4 @@
 pub mod Listing
 pub mod Text
+pub mod Explained
+pub mod Report

@@ -2,9 +2,15 @@
 //! definition `listing`, and it is empty exactly where the rows satisfy all dependencies and inclusion dependencies.
 #![tactic(auto)]
 
+mod counting;
+mod explaining;
+mod json;
 mod line;
 mod listing;
 
+pub use counting::count;
+pub use explaining::{ExplainFault, explain};
+pub use json::json_report;
 pub use line::{Line, line_text, push_line};
 pub use listing::list;
 

@@ -161,14 +161,14 @@ fn push_orphan(
 
 // What a line tells of its dependency: the rule, the tableau row's number from 1, the right attribute and the table.
 #[derive(Drop)]
-struct DepHead<'a> {
-    rule: &'a str,
-    number: usize,
-    attr: &'a str,
-    table: &'a str,
+pub(crate) struct DepHead<'a> {
+    pub rule: &'a str,
+    pub number: usize,
+    pub attr: &'a str,
+    pub table: &'a str,
 }
 
-fn dep_head(rules: &RuleBook, dep: usize, k: usize) -> DepHead<'_>
+pub(crate) fn dep_head(rules: &RuleBook, dep: usize, k: usize) -> DepHead<'_>
     requires { HasDepRow rules.now dep k }
     ensures rule { result.rule.now ≡ dep_name rules.now dep }
     ensures number { result.number ≡ k + 1 }
@@ -189,13 +189,13 @@ fn dep_head(rules: &RuleBook, dep: usize, k: usize) -> DepHead<'_>
 
 // The same of an inclusion dependency, with its left table.
 #[derive(Drop)]
-struct CindHead<'a> {
-    rule: &'a str,
-    number: usize,
-    table: &'a str,
+pub(crate) struct CindHead<'a> {
+    pub rule: &'a str,
+    pub number: usize,
+    pub table: &'a str,
 }
 
-fn cind_head(rules: &RuleBook, cind: usize, k: usize) -> CindHead<'_>
+pub(crate) fn cind_head(rules: &RuleBook, cind: usize, k: usize) -> CindHead<'_>
     requires { HasCindRow rules.now cind k }
     ensures rule { result.rule.now ≡ cind_name rules.now cind }
     ensures number { result.number ≡ k + 1 }

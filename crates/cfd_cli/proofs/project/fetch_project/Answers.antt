@@ -3,28 +3,27 @@ use Rattle.std.proofs.lemmas.Result.{err_from_is_err_and}
 use Rattle.schema_core.specs.declared.limits.Limits.{Limits}
 use Rattle.schema_core.specs.declared.schema.Schema.{Schema}
 use Rattle.rule_model.specs.Books.{Book}
-use Rattle.bench_core.specs.Bench.{BenchModel}
 use Rattle.session.specs.declared.command.Command.{Command}
 use Rattle.cfd_cli.specs.declared.project.Project.{Project}
 use Rattle.cfd_cli.specs.Fetching.{Fetching, ◌>>=◌, given}
-use Rattle.cfd_cli.specs.Project.{fetch_bench, fetch_commands, fetch_project, fetch_rules, fetch_schema}
+use Rattle.cfd_cli.specs.Project.{ProjectRead, Tables, fetch_bench, fetch_commands, fetch_project, fetch_rules, fetch_schema, read_of, tables_of}
 use Rattle.cfd_cli.proofs.FetchingSteps.{fetches-given, fetches-next, fetches-same, fetches-stopped}
 use Rattle.cfd_cli.proofs.project.fetch_project.Goals as goal
 
 -- what follows each step
 
-project_with : BenchModel → List Command → Fetching Project
-project_with bench commands = given (Ok (record { bench = bench; commands = commands }))
+project_with : Tables → List Command → Fetching ProjectRead
+project_with tables commands = given (Ok (record { tables = tables; commands = commands }))
 
-with_commands : Limits → BenchModel → Fetching Project
-with_commands limits bench = fetch_commands limits bench.rules.schema >>= λ commands. given (Ok (record { bench = bench; commands = commands }))
+with_commands : Limits → Tables → Fetching ProjectRead
+with_commands limits tables = fetch_commands limits tables.rules.schema >>= λ commands. given (Ok (record { tables = tables; commands = commands }))
 
-with_bench : Limits → Book → Fetching Project
-with_bench limits rules = fetch_bench limits rules >>= λ bench. fetch_commands limits bench.rules.schema >>= λ commands. given (Ok (record { bench = bench; commands = commands }))
+with_bench : Limits → Book → Fetching ProjectRead
+with_bench limits rules = fetch_bench limits rules >>= λ tables. fetch_commands limits tables.rules.schema >>= λ commands. given (Ok (record { tables = tables; commands = commands }))
 
-with_rules : Limits → Schema → Fetching Project
+with_rules : Limits → Schema → Fetching ProjectRead
 with_rules limits schema =
-    fetch_rules limits schema >>= λ rules. fetch_bench limits rules >>= λ bench. fetch_commands limits bench.rules.schema >>= λ commands. given (Ok (record { bench = bench; commands = commands }))
+    fetch_rules limits schema >>= λ rules. fetch_bench limits rules >>= λ tables. fetch_commands limits tables.rules.schema >>= λ commands. given (Ok (record { tables = tables; commands = commands }))
 
 pub returns-in_err-commands : goal.returns-in_err-commands
 unfolding fetch_project with_commands with_bench with_rules project_with
@@ -34,10 +33,10 @@ returns-in_err-commands g c =
     let same : c.from_residual-in_err-commands.result ≡ Err c.in_err-commands.field-0.0 = rw (p.1, p.2) refl in
     let schema = c.schema.ensures.schema ∙ ap (λ (r : Book). r.schema) c.rules.ensures.value in
     let commands = fetches-same (ap (fetch_commands limits) schema) c.in_err-commands.ensures in
-    fetches-next (fetch_schema limits c.args.name.now) (with_rules limits) (λ x. x) (λ x. x) 1 66 c.in_ok-schema.schema c.from_residual-in_err-commands.result _ _ _ _ _ _ c.in_ok-schema.ensures.schema
-    (fetches-next (fetch_rules limits c.in_ok-schema.schema) (with_bench limits) (λ x. x) (λ x. x) 1 65 c.in_ok-rules.rules c.from_residual-in_err-commands.result _ _ _ _ _ _ c.in_ok-rules.ensures
-    (fetches-next (fetch_bench limits c.in_ok-rules.rules) (with_commands limits) (λ x. x) (λ x. x) 64 1 c.in_ok-bench.bench c.from_residual-in_err-commands.result _ _ _ _ _ _ c.in_ok-bench.ensures
-    (fetches-stopped (fetch_commands limits c.in_ok-bench.bench.rules.schema) (project_with c.in_ok-bench.bench) (λ x. x) (λ x. x) 1 0 c.in_err-commands.field-0.0 c.from_residual-in_err-commands.result _ _ _ _ same commands)))
+    fetches-next (fetch_schema limits c.args.name.now) (with_rules limits) (λ x. x) read_of 1 66 c.in_ok-schema.schema c.from_residual-in_err-commands.result _ _ _ _ _ _ c.in_ok-schema.ensures.schema
+    (fetches-next (fetch_rules limits c.in_ok-schema.schema) (with_bench limits) (λ x. x) read_of 1 65 c.in_ok-rules.rules c.from_residual-in_err-commands.result _ _ _ _ _ _ c.in_ok-rules.ensures
+    (fetches-next (fetch_bench limits c.in_ok-rules.rules) (with_commands limits) tables_of read_of 64 1 c.in_ok-bench.bench c.from_residual-in_err-commands.result _ _ _ _ _ _ c.in_ok-bench.ensures
+    (fetches-stopped (fetch_commands limits c.in_ok-bench.bench.rules.schema) (project_with (tables_of c.in_ok-bench.bench)) (λ x. x) read_of 1 0 c.in_err-commands.field-0.0 c.from_residual-in_err-commands.result _ _ _ _ same commands)))
 
 pub returns : goal.returns
 unfolding fetch_project with_commands with_bench with_rules project_with
@@ -47,8 +46,8 @@ returns g c =
     let project : Project = record { bench = bench; commands = c.in_ok-commands.commands } in
     let schema = c.schema.ensures.schema ∙ ap (λ (r : Book). r.schema) c.rules.ensures.value in
     let commands = fetches-same (ap (fetch_commands limits) schema) c.in_ok-commands.ensures in
-    fetches-next (fetch_schema limits c.args.name.now) (with_rules limits) (λ x. x) (λ x. x) 1 66 c.in_ok-schema.schema (Ok project) _ _ _ _ _ _ c.in_ok-schema.ensures.schema
-    (fetches-next (fetch_rules limits c.in_ok-schema.schema) (with_bench limits) (λ x. x) (λ x. x) 1 65 c.in_ok-rules.rules (Ok project) _ _ _ _ _ _ c.in_ok-rules.ensures
-    (fetches-next (fetch_bench limits c.in_ok-rules.rules) (with_commands limits) (λ x. x) (λ x. x) 64 1 bench (Ok project) _ _ _ _ _ _ c.in_ok-bench.ensures
-    (fetches-next (fetch_commands limits bench.rules.schema) (project_with bench) (λ x. x) (λ x. x) 1 0 c.in_ok-commands.commands (Ok project) _ _ _ _ _ _ commands
-    (fetches-given (Ok project) (λ x. x) (Ok project) _ _ (record { gives = refl; no_fault = λ fault. absurd fault })))))
+    fetches-next (fetch_schema limits c.args.name.now) (with_rules limits) (λ x. x) read_of 1 66 c.in_ok-schema.schema (Ok project) _ _ _ _ _ _ c.in_ok-schema.ensures.schema
+    (fetches-next (fetch_rules limits c.in_ok-schema.schema) (with_bench limits) (λ x. x) read_of 1 65 c.in_ok-rules.rules (Ok project) _ _ _ _ _ _ c.in_ok-rules.ensures
+    (fetches-next (fetch_bench limits c.in_ok-rules.rules) (with_commands limits) tables_of read_of 64 1 bench (Ok project) _ _ _ _ _ _ c.in_ok-bench.ensures
+    (fetches-next (fetch_commands limits bench.rules.schema) (project_with (tables_of bench)) (λ x. x) read_of 1 0 c.in_ok-commands.commands (Ok project) _ _ _ _ _ _ commands
+    (fetches-given (Ok (read_of project)) read_of (Ok project) _ _ (record { gives = refl; no_fault = λ fault. absurd fault })))))

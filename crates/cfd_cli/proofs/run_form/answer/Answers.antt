@@ -1,5 +1,6 @@
 use Rattle.std.proofs.Common.{Err, ap, subst}
 use Rattle.rule_model.specs.Books.{Book}
+use Rattle.bench_core.specs.History.{History}
 use Rattle.violation_report.specs.Listing.{listing}
 use Rattle.session.specs.Replies.{IsReply}
 use Rattle.session.proofs.EachHasReply.{reply_of}
@@ -11,16 +12,16 @@ pub returns-in-Ok : goal.returns-in-Ok
 returns-in-Ok g c =
     let bench = c.args.project.bench in
     let last = c.serve.new.bench in
-    let status = subst (λ (rules : Book). HasStatus (listing rules last.state) c.status_of.result) c.serve.ensures.made_with.0 c.status_of.ensures in
-    ends-answered (IsReply bench.rules bench.limits) (listing bench.rules) bench.state c.args.project.commands last.state c.status_of.result (g.O.Sink.told c.args.out.now) (g.O.Sink.told c.serve.new.out) c.in-Ok.ensures.ok status
+    let status = subst (λ (rules : Book). HasStatus (listing rules last.history.present) c.status_of.result) c.serve.ensures.made_with.0 c.status_of.ensures in
+    ends-answered (IsReply bench.rules bench.limits) (λ (history : History). listing bench.rules history.present) bench.history c.args.project.commands last.history c.status_of.result (g.O.Sink.told c.args.out.now) (g.O.Sink.told c.serve.new.out) c.in-Ok.ensures.ok status
 
 pub returns-in-Err-WriteFault : goal.returns-in-Err-WriteFault
 returns-in-Err-WriteFault g c =
     let bench = c.args.project.bench in
-    ends-write_fault (IsReply bench.rules bench.limits) (listing bench.rules) bench.state c.args.project.commands (reply_of bench.rules bench.limits) c.serve.new.bench.state (g.O.Sink.told c.args.out.now) (g.O.Sink.told c.serve.new.out)
+    ends-write_fault (IsReply bench.rules bench.limits) (λ (history : History). listing bench.rules history.present) bench.history c.args.project.commands (reply_of bench.rules bench.limits) c.serve.new.bench.history (g.O.Sink.told c.args.out.now) (g.O.Sink.told c.serve.new.out)
     c.in-Err-WriteFault.ensures.fault (c.in-Err-WriteFault.ensures.write_fault (ap Err c.in-Err-WriteFault.field-0-is))
 
 pub returns : goal.returns
 returns g c =
     let bench = c.args.project.bench in
-    ends-memory (IsReply bench.rules bench.limits) (listing bench.rules) bench.state c.args.project.commands (reply_of bench.rules bench.limits) c.serve.new.bench.state (g.O.Sink.told c.args.out.now) (g.O.Sink.told c.serve.new.out) c.in-Err-Memory.ensures.fault
+    ends-memory (IsReply bench.rules bench.limits) (λ (history : History). listing bench.rules history.present) bench.history c.args.project.commands (reply_of bench.rules bench.limits) c.serve.new.bench.history (g.O.Sink.told c.args.out.now) (g.O.Sink.told c.serve.new.out) c.in-Err-Memory.ensures.fault

@@ -1,11 +1,12 @@
 use Rattle.cfd_cli.specs.RunForm.{run_task}
+use Rattle.cfd_cli.specs.Project.{read_of}
 use Rattle.cfd_cli.proofs.Outputs.{output-found, output-stopped}
 use Rattle.cfd_cli.proofs.run_form.run_project.Goals as goal
 
 pub returns-in-Ok-clause-written : goal.returns-in-Ok-clause-written
 returns-in-Ok-clause-written g c =
     let limits = c.args.limits.now in
-    output-found limits (run_task limits c.args.project.now) (g.S.Shelf.told c.args.shelf.now).holding c.in-Ok.project c.in-Ok.ensures.gives
+    output-found limits (run_task limits c.args.project.now) (g.S.Shelf.told c.args.shelf.now).holding (read_of c.in-Ok.project) c.in-Ok.ensures.gives
     c.answer.result (g.O.Sink.told c.args.out.now).written (g.O.Sink.told c.answer.new.out).written c.answer.ensures.writes
 
 pub returns-in-Err-clause-written : goal.returns-in-Err-clause-written

@@ -1,8 +1,7 @@
-use Rattle.std.proofs.Common.{Ok, Err, ℕ, List, [], ◌∷◌, Option, Result, refl, ap, sym, subst, OnErr}
+use Rattle.std.proofs.Common.{Ok, Err, ℕ, List, [], ◌∷◌, Option, Result, refl, sym, subst, OnErr}
 use Rattle.shelf_io.specs.Transcript.{AnswersFront}
 use Rattle.shelf_io.proofs.Transcripts.{front-not_begun, front-not_written}
-use Rattle.bench_core.specs.Bench.{BenchModel}
-use Rattle.bench_core.specs.State.{State}
+use Rattle.bench_core.specs.History.{History}
 use Rattle.bench_core.specs.declared.edit.Applied.{Applied}
 use Rattle.bench_core.specs.declared.edit.EditFault.{EditFault}
 use Rattle.session.specs.Replies.{IsEditReply, IsReply, done_text}
@@ -13,18 +12,18 @@ use Rattle.session.proofs.serving.answer_edit.Goals as goal
 pub returns-in-Ok-clause-memory : goal.returns-in-Ok-clause-memory
 returns-in-Ok-clause-memory c =
     let start = c.args.bench.now in
-    let end = c.apply.new.self.state in
+    let end = c.apply.new.self.history in
     let edit = c.args.edit.now in
     let reply = done_text edit c.in-Ok.applied in
-    let is = subst (λ (made : Result (State × Applied) EditFault). IsEditReply start.state edit made reply end) (sym c.in-Ok.ensures.edited) (refl, refl) in
-    let done = λ (written : Option (List ℕ)). front-not_written (IsReply start.rules start.limits) start.state end (Edit edit) reply written is in
-    elim c.push_done.result as (λ r. OnErr r ((written : Option (List ℕ)) → AnswersFront (IsReply start.rules start.limits) start.state (Edit edit ∷ []) end written written)) [ Ok made ↦ tt | Err memory ↦ done ]
+    let is = subst (λ (made : Result (History × Applied) EditFault). IsEditReply start.history edit made reply end) (sym c.in-Ok.ensures.edited) (refl, refl) in
+    let done = λ (written : Option (List ℕ)). front-not_written (IsReply start.rules start.limits) start.history end (Edit edit) reply written is in
+    elim c.push_done.result as (λ r. OnErr r ((written : Option (List ℕ)) → AnswersFront (IsReply start.rules start.limits) start.history (Edit edit ∷ []) end written written)) [ Ok made ↦ tt | Err memory ↦ done ]
 
 -- the edit was refused, whether or not that could be told
 pub returns-in-Err-clause-memory : goal.returns-in-Err-clause-memory
 returns-in-Err-clause-memory c =
     let start = c.args.bench.now in
-    let end = c.apply.new.self.state in
+    let end = c.apply.new.self.history in
     let edit = c.args.edit.now in
-    let kept = λ (written : Option (List ℕ)). front-not_begun (IsReply start.rules start.limits) start.state end (Edit edit ∷ []) written (ap (λ (b : BenchModel). b.state) c.in-Err.ensures.unchanged) in
-    elim c.push_refused.result as (λ r. OnErr r ((written : Option (List ℕ)) → AnswersFront (IsReply start.rules start.limits) start.state (Edit edit ∷ []) end written written)) [ Ok made ↦ tt | Err memory ↦ kept ]
+    let kept = λ (written : Option (List ℕ)). front-not_begun (IsReply start.rules start.limits) start.history end (Edit edit ∷ []) written c.in-Err.ensures.unchanged in
+    elim c.push_edit_refused.result as (λ r. OnErr r ((written : Option (List ℕ)) → AnswersFront (IsReply start.rules start.limits) start.history (Edit edit ∷ []) end written written)) [ Ok made ↦ tt | Err memory ↦ kept ]

@@ -5,6 +5,6 @@ use Rattle.session.proofs.serving.answer_one.Goals as goal
 pub returns-in-Err-clause-fault : goal.returns-in-Err-clause-fault
 returns-in-Err-clause-fault g c =
     let start = c.args.bench.now in
-    front-of_reply (IsReply start.rules start.limits) start.state c.answer.new.bench.state c.args.command.now c.answer.new.reply.items c.as_slice.result.now
+    front-of_reply (IsReply start.rules start.limits) start.history c.answer.new.bench.history c.args.command.now c.answer.new.reply.items c.as_slice.result.now
     (g.O.Sink.told c.args.out.now).written (g.O.Sink.told c.write_out.new.out).written
     c.in_ok-answer.ensures.ok c.as_slice.ensures.value c.in-Err.ensures.front

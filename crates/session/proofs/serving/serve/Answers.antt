@@ -7,7 +7,7 @@ use Rattle.session.proofs.serving.serve.Goals as goal
 
 pub loop-command-init : goal.loop-command-init
 loop-command-init g c = record {
-  answered = answers-none (IsReply c.args.bench.now.rules c.args.bench.now.limits) c.args.bench.now.state c.args.commands.now (g.O.Sink.told c.args.out.now).written;
+  answered = answers-none (IsReply c.args.bench.now.rules c.args.bench.now.limits) c.args.bench.now.history c.args.commands.now (g.O.Sink.told c.args.out.now).written;
   rules = refl;
   limits = refl;
   faults = omega arith;
@@ -19,9 +19,9 @@ loop-command-preserved g c =
     let so_far = c.loop-command.invariant in
     let between = (g.O.Sink.told c.loop-command.out).written in
     let now = (g.O.Sink.told c.answer_one.new.out).written in
-    let next = under_same (λ rules limits. Answers (IsReply rules limits) c.loop-command.bench.state (c.command-item.result ∷ []) c.answer_one.new.bench.state between now) _ _ _ _ so_far.rules so_far.limits c.in_ok-answer_one.ensures.ok in
+    let next = under_same (λ rules limits. Answers (IsReply rules limits) c.loop-command.bench.history (c.command-item.result ∷ []) c.answer_one.new.bench.history between now) _ _ _ _ so_far.rules so_far.limits c.in_ok-answer_one.ensures.ok in
     record {
-      answered = answers-more (IsReply start.rules start.limits) start.state c.loop-command.bench.state c.answer_one.new.bench.state c.args.commands.now c.loop-command.command-index c.command-item.result _ between now
+      answered = answers-more (IsReply start.rules start.limits) start.history c.loop-command.bench.history c.answer_one.new.bench.history c.args.commands.now c.loop-command.command-index c.command-item.result _ between now
           (rw c.as_slice-command-items.ensures at c.loop-command-test.true) (rw c.as_slice-command-items.ensures at c.command-item.is) so_far.answered next;
       rules = c.answer_one.ensures.made_with.0 ∙ so_far.rules;
       limits = c.answer_one.ensures.made_with.1 ∙ so_far.limits;
@@ -35,7 +35,7 @@ returns-in_err-answer_one-clause-fault g c =
     let was = (g.O.Sink.told c.args.out.now).written in
     let between = (g.O.Sink.told c.loop-command.out).written in
     let now = (g.O.Sink.told c.answer_one.new.out).written in
-    let next = under_same (λ rules limits. AnswersFront (IsReply rules limits) c.loop-command.bench.state (c.command-item.result ∷ []) c.answer_one.new.bench.state between now) _ _ _ _ so_far.rules so_far.limits c.in_err-answer_one.ensures.fault in
-    let front = answers-cut (IsReply start.rules start.limits) start.state c.loop-command.bench.state c.answer_one.new.bench.state c.args.commands.now c.loop-command.command-index c.command-item.result was between now
+    let next = under_same (λ rules limits. AnswersFront (IsReply rules limits) c.loop-command.bench.history (c.command-item.result ∷ []) c.answer_one.new.bench.history between now) _ _ _ _ so_far.rules so_far.limits c.in_err-answer_one.ensures.fault in
+    let front = answers-cut (IsReply start.rules start.limits) start.history c.loop-command.bench.history c.answer_one.new.bench.history c.args.commands.now c.loop-command.command-index c.command-item.result was between now
     (rw c.as_slice-command-items.ensures at c.loop-command-test.true) (rw c.as_slice-command-items.ensures at c.command-item.is) so_far.answered next in
-    elim c.from_residual.result as (λ r. OnErr r (AnswersFront (IsReply start.rules start.limits) start.state c.args.commands.now c.answer_one.new.bench.state was now)) [ Ok done ↦ tt | Err fault ↦ front ]
+    elim c.from_residual.result as (λ r. OnErr r (AnswersFront (IsReply start.rules start.limits) start.history c.args.commands.now c.answer_one.new.bench.history was now)) [ Ok done ↦ tt | Err fault ↦ front ]

@@ -7,7 +7,7 @@ abbrev pub invariant-loop-command : goal.invariant-loop-command
 invariant-loop-command g l =
     let start = l.initial.bench in
     record {
-      answered : Answers (IsReply start.rules start.limits) start.state (take l.command-index l.commands) l.bench.state (g.O.Sink.told l.initial.out).written (g.O.Sink.told l.out).written;
+      answered : Answers (IsReply start.rules start.limits) start.history (take l.command-index l.commands) l.bench.history (g.O.Sink.told l.initial.out).written (g.O.Sink.told l.out).written;
       rules : l.bench.rules ≡ start.rules;
       limits : l.bench.limits ≡ start.limits;
       faults : (g.O.Sink.told l.initial.out).faults ≤ (g.O.Sink.told l.out).faults;

@@ -2,7 +2,7 @@ use Rattle.std.proofs.Common.{◌≡◌, ◌∙◌, ap, ap₂, codes, map, optio
 use Rattle.std.proofs.lemmas.Result.{err_from_is_err_and}
 use Rattle.clap.specs.Words.{Rule, app_of, found_of, is_simple, matches_of, new_rule, rule_of, takes, with_rule}
 use Rattle.cfd_cli.proofs.PlainWords.{one_word, one_word_is_simple, pair_read, pair_taken, text_there}
-use Rattle.cfd_cli.proofs.run_form.parse_words.Goals as goal
+use Rattle.cfd_cli.proofs.words.parse_words.Goals as goal
 
 abbrev project_rule : Rule
 project_rule = record (new_rule (codes "PROJECT")) { required = true }

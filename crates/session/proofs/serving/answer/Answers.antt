@@ -1,0 +1,12 @@
+use Rattle.std.proofs.Common.{ℕ, List, [], ◌∷◌, Option, Ok, Err, OnErr, refl}
+use Rattle.shelf_io.specs.Transcript.{AnswersFront}
+use Rattle.shelf_io.proofs.Transcripts.{front-not_begun}
+use Rattle.session.specs.Replies.{IsReply}
+use Rattle.session.proofs.serving.answer.Goals as goal
+
+pub returns-in-Explain-clause-memory : goal.returns-in-Explain-clause-memory
+returns-in-Explain-clause-memory c =
+    let bench = c.args.bench.now in
+    let Kept = (written : Option (List ℕ)) → AnswersFront (IsReply bench.rules bench.limits) bench.history (c.args.command.now ∷ []) bench.history written written in
+    let kept : Kept = λ written. front-not_begun (IsReply bench.rules bench.limits) bench.history bench.history (c.args.command.now ∷ []) written refl in
+    elim c.push_explained.result as (λ r. OnErr r Kept) [ Ok made ↦ tt | Err memory ↦ kept ]
