@@ -1,14 +1,13 @@
 -- The entries of the rows of a table, as the rows with their texts: one that is looked up, and one that is put, changed or
 -- taken away.
-use Rattle.std.proofs.Common.{◌≡◌, ℕ, ◌<◌, Bool, true, false, cond, not, List, [], ◌∷◌, ◌++◌, map, filter, Option, Some, None, All, IsSome, is_some, option_map, refl, sym, ap, subst, ◌∙◌, arith, inl, inr, nat_cmp, is_eq, is_lt, ◌&&◌, eqb, eqb-true, ne_eqb}
+use Rattle.std.proofs.Common.{◌≡◌, ℕ, ◌<◌, Bool, true, false, cond, not, List, [], ◌∷◌, ◌++◌, map, filter, None, All, IsSome, option_map, refl, subst, arith, inl, inr, nat_cmp, is_lt, ◌&&◌}
 use Rattle.std.specs.Prelude.{T}
 use Rattle.std.specs.List.{find}
 use Rattle.std.specs.Ordering.{eq_by_cmp}
-use Rattle.std.specs.Cmp.{nat_cmp_total}
 use Rattle.std.proofs.lemmas.Bool.Decides.{nat_tests}
 use Rattle.std.proofs.lemmas.Grind.{common_steps}
 use Rattle.std.proofs.lemmas.Bool.{cases_eq, cases_lt}
-use Rattle.std.proofs.lemmas.List.Elements.{All-head, All-tail, All-cons}
+use Rattle.std.proofs.lemmas.List.Elements.{All-head, All-tail}
 use Rattle.std.specs.FinMap as finmap
 use Rattle.std.specs.FinMap.Entries as entry
 use Rattle.bench_core.specs.State.{Row, has_id}

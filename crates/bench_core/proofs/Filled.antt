@@ -4,7 +4,6 @@ use Rattle.std.specs.List.{enumerate_from, slice_get}
 use Rattle.std.proofs.lemmas.List.{map-append, length-map}
 use Rattle.std.proofs.lemmas.List.FromFn.{length-enumerate_from, get_or-enumerate_from}
 use Rattle.std.proofs.lemmas.List.Elements.{All-nil, All-map, All-push, All-weaker, All-get_or, All-same}
-use Rattle.std.proofs.lemmas.Option.{get_or_from_slice_get}
 use Rattle.std.specs.FinMap as finmap
 use Rattle.row_store.specs.Store.{Store, Rows}
 use Rattle.value_pool.specs.Pool.{KeepsIds}
@@ -14,7 +13,6 @@ use Rattle.bench_core.specs.State.{Row, TableState, State, rows_at}
 use Rattle.bench_core.specs.Loading.{Tuples, loaded_table}
 use Rattle.bench_core.specs.Stored.{Stored, StoredRow, stored, row_of, table_state, state_of, HaveTexts, RowsHaveTexts}
 use Rattle.edit_log.specs.Trail.{Trail}
-use Rattle.edit_log.specs.declared.change.Change.{Change}
 use Rattle.bench_core.specs.Changes.{IsChange}
 use Rattle.bench_core.specs.Bench.{IsBench, AreCounts, Holds}
 use Rattle.bench_core.proofs.Numbers.{enumerate_from-push}
@@ -58,10 +56,10 @@ filled-more old new rows next so_far ids values more after is kept are more-is a
     let place : next ≡ 1 + length so_far = let one = is.next-is in omega arith in
     record {
       rows-are =
-        ap (λ (rows : Rows). map (row_of new) (finmap.entries rows)) more-is
-        ∙ ap (λ (state : TableState). state.rows) put
-        ∙ (λ i. is.rows-are i ++ (place i, values) ∷ [])
-        ∙ sym (enumerate_from-push 1 so_far values);
+          ap (λ (rows : Rows). map (row_of new) (finmap.entries rows)) more-is
+          ∙ ap (λ (state : TableState). state.rows) put
+          ∙ (λ i. is.rows-are i ++ (place i, values) ∷ [])
+          ∙ sym (enumerate_from-push 1 so_far values);
       next-is = let one = is.next-is in rw (length-push so_far values) (omega arith);
       named = subst (λ (rows : Rows). RowsHaveTexts new rows) (sym more-is) (named-insert new rows next ids (rows-kept old new kept rows is.named) are.named);
     }

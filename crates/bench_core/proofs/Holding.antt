@@ -18,16 +18,16 @@ use Rattle.bench_core.specs.declared.edit.UndoFault.{UndoFault}
 use Rattle.bench_core.specs.declared.edit.RedoFault.{RedoFault}
 use Rattle.bench_core.specs.declared.edit.UndoFault.TheVariants as undo_fault
 use Rattle.bench_core.specs.declared.edit.RedoFault.TheVariants as redo_fault
-use Rattle.bench_core.specs.State.{TableState, State, IsTableState}
+use Rattle.bench_core.specs.State.{State, IsTableState}
 use Rattle.edit_log.specs.declared.edit.Edit.{Edit}
 use Rattle.bench_core.specs.Edited.{edited}
 use Rattle.bench_core.specs.declared.edit.Applied.{Applied}
 use Rattle.bench_core.specs.History.{History, accepted, history_edited, IsUndone, IsRedone}
-use Rattle.bench_core.specs.Stored.{Stored, stored, table_state, state_of, RowsHaveTexts}
-use Rattle.bench_core.specs.Changes.{before_change, after_change, at_table, taken_back, made_again, states_before, states_after, history_of, HasMade, CanMake, IsGiven, CanGive, WereMade, CanBeMade, IsChange}
+use Rattle.bench_core.specs.Stored.{Stored, stored, table_state, state_of}
+use Rattle.bench_core.specs.Changes.{at_table, taken_back, made_again, states_before, states_after, history_of, HasMade, CanMake, IsGiven, CanGive, WereMade, CanBeMade, IsChange}
 use Rattle.bench_core.specs.Bench.{IsBench, IsHistory, AreCounts, Holds}
 use Rattle.bench_core.proofs.Walks.{history-undone, history-redone, history-accepted, were-made-pop, were-made-push, can-after, made-after, made-back, taken-again}
-use Rattle.bench_core.proofs.Named.{AreNamed, named-back, named-again, named-kept, changes-kept, history-kept, state-kept}
+use Rattle.bench_core.proofs.Named.{named-back, named-again, named-kept, changes-kept, history-kept, state-kept}
 use Rattle.bench_core.proofs.States.{side_by_side}
 use Rattle.bench_core.proofs.Recounts as recounts
 

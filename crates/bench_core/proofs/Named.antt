@@ -1,5 +1,5 @@
 -- Texts that join others: the ids that had a text have it still, so nothing that is stored changes its texts.
-use Rattle.std.proofs.Common.{◌≡◌, ℕ, zero, suc, ◌+◌, ◌<◌, List, [], ◌∷◌, ◌++◌, map, take, length, get_or, set, not, cond, Bool, Option, Some, None, All, refl, sym, ap, subst, ◌∙◌, arith, nat_cmp}
+use Rattle.std.proofs.Common.{◌≡◌, ℕ, zero, suc, ◌+◌, ◌<◌, List, [], ◌∷◌, ◌++◌, map, take, length, get_or, set, not, cond, Bool, Option, Some, None, All, refl, sym, ap, ◌∙◌, arith, nat_cmp}
 use Rattle.std.specs.Option.{ForSome}
 use Rattle.std.specs.Ordering.{eq_by_cmp}
 use Rattle.std.specs.Cmp.{nat_cmp_total}
@@ -7,7 +7,7 @@ use Rattle.std.specs.declared.cmp.Ordering.TheVariants.{Less, Equal, Greater}
 use Rattle.std.proofs.lemmas.Bool.Decides.{nat_tests}
 use Rattle.std.proofs.lemmas.List.{map-append, take_more}
 use Rattle.std.proofs.lemmas.List.Elements.{All-nil, All-cons, All-head, All-tail, All-push, All-filter, All-weaker, All-same, All-set}
-use Rattle.std.proofs.lemmas.Option.{slice_get-get_or, slice_get_within, get_or_from_slice_get, same_Some}
+use Rattle.std.proofs.lemmas.Option.{slice_get-get_or, slice_get_within, get_or_from_slice_get}
 use Rattle.std.specs.FinMap as finmap
 use Rattle.std.specs.FinMap.{nat_cmp-IsAntisymmetric}
 use Rattle.std.specs.FinMap.Entries as entry
@@ -15,8 +15,6 @@ use Rattle.row_store.specs.Store.{Rows}
 use Rattle.row_store.specs.Tuple.{ids_if}
 use Rattle.value_pool.specs.Pool.{HasId, KeepsIds}
 use Rattle.edit_log.specs.declared.change.Change.{Change}
-use Rattle.bench_core.specs.State.{State}
-use Rattle.bench_core.specs.History.{History}
 use Rattle.bench_core.specs.Stored.{Stored, StoredRow, text_of, row_of, table_state, state_of, HaveTexts, RowsHaveTexts}
 use Rattle.bench_core.specs.Changes.{with_tuple, before_change, after_change, at_table, taken_back, made_again, before_all, states_before, states_after, history_of, IsChange}
 
@@ -161,10 +159,10 @@ pub record AreIds (texts : List (List ℕ)) (ids : List ℕ) (so_far : List (Lis
 pub ids-more : (old new : List (List ℕ)) (ids : List ℕ) (all : List (List ℕ)) (i id : ℕ) (text : List ℕ) → AreIds old ids (take i all) → KeepsIds old new → HasId new text id → i < length all → text ≡ get_or all i text → AreIds new (ids ++ id ∷ []) (take (i + 1) all)
 ids-more old new ids all i id text are kept has within is = record {
   same =
-    map-append (text_of new) ids (id ∷ [])
-    ∙ (λ j. texts-kept old new kept ids are.named j ++ text-of-id new text id has j ∷ [])
-    ∙ (λ j. are.same j ++ is j ∷ [])
-    ∙ sym (take_more all i text within);
+      map-append (text_of new) ids (id ∷ [])
+      ∙ (λ j. texts-kept old new kept ids are.named j ++ text-of-id new text id has j ∷ [])
+      ∙ (λ j. are.same j ++ is j ∷ [])
+      ∙ sym (take_more all i text within);
   named = All-push (λ value. value < length new) ids id (have-kept old new kept ids are.named) (slice_get_within new id text has);
 }
 

@@ -1,5 +1,5 @@
 -- The change that each edit makes to a table, and that it makes the same as the edit makes to the table's state.
-use Rattle.std.proofs.Common.{◌≡◌, ℕ, ◌+◌, ◌<◌, ◌≤◌, Bool, true, false, cond, not, List, [], ◌∷◌, ◌++◌, map, filter, length, Option, Some, None, Ok, Err, All, IsSome, option_map, nat_le, refl, sym, ap, subst, ◌∙◌, arith, inl, inr, nat_cmp}
+use Rattle.std.proofs.Common.{◌≡◌, ℕ, ◌+◌, ◌<◌, true, cond, List, [], ◌∷◌, ◌++◌, map, length, Option, Some, None, Ok, Err, All, IsSome, option_map, nat_le, refl, sym, ap, subst, ◌∙◌, arith, inl, inr, nat_cmp}
 use Rattle.std.specs.Option.{ForSome}
 use Rattle.std.specs.List.{find, slice_get, slice_set}
 use Rattle.std.specs.Cmp.{nat_cmp_total}
@@ -17,7 +17,6 @@ use Rattle.schema_core.specs.declared.schema.Table.{Table}
 use Rattle.value_pool.specs.Pool.{KeepsIds}
 use Rattle.bench_core.specs.State.{Row, TableState, IsTableState, has_id, texts_of, with_row, with_texts, without_row}
 use Rattle.bench_core.specs.Edited.{after_insert, after_set, after_delete, after_fix, require_row, require_text}
-use Rattle.bench_core.specs.declared.edit.Applied.{Applied}
 use Rattle.bench_core.specs.declared.edit.Applied.TheVariants.{Inserted, Changed}
 use Rattle.bench_core.specs.declared.edit.EditFault.TheVariants.{UnknownRow, UnknownAttr}
 use Rattle.bench_core.specs.declared.edit.EditFault.{EditFault}

@@ -1,8 +1,8 @@
 -- The change that is planned for an edit of one of the tables: it makes the same of all tables as the edit makes of their
 -- state.
-use Rattle.std.proofs.Common.{◌≡◌, ℕ, ◌+◌, ◌*◌, ◌<◌, ◌&&◌, Bool, nat_le, List, length, get_or, Some, Result, Ok, Err, IfOk, IsSomeAnd, slice_index, sym, ap, subst, ◌∙◌}
+use Rattle.std.proofs.Common.{◌≡◌, ℕ, ◌+◌, ◌*◌, ◌&&◌, Bool, nat_le, List, get_or, Some, Result, Ok, Err, IfOk, IsSomeAnd, slice_index, sym, ap, subst, ◌∙◌}
 use Rattle.std.specs.List.{slice_get, slice_set}
-use Rattle.std.proofs.lemmas.Option.{slice_get_within, get_or_from_slice_get}
+use Rattle.std.proofs.lemmas.Option.{get_or_from_slice_get}
 use Rattle.schema_core.specs.Faults.{GivesUnlessMemory}
 use Rattle.schema_core.specs.Schemas.{table_place}
 use Rattle.schema_core.specs.declared.limits.Limits.{Limits}
@@ -11,7 +11,7 @@ use Rattle.rule_model.specs.Books.{Book}
 use Rattle.value_pool.specs.Pool.{KeepsIds}
 use Rattle.edit_log.specs.declared.edit.Edit.{Edit}
 use Rattle.edit_log.specs.declared.change.Change.{Change}
-use Rattle.bench_core.specs.State.{TableState, State, IsTableState}
+use Rattle.bench_core.specs.State.{State, IsTableState}
 use Rattle.bench_core.specs.Edited.{edited, after_edit, name_of_table, refusal_of}
 use Rattle.bench_core.specs.declared.edit.EditFault.{EditFault}
 use Rattle.bench_core.specs.Stored.{Stored, table_state, state_of}

@@ -1,12 +1,9 @@
 -- A row that is looked up by its id.
-use Rattle.std.proofs.Common.{◌≡◌, ℕ, Bool, ◌<◌, true, false, cond, List, length, map, get_or, set, Option, Some, None, All, option_map, subst, refl, sym, ◌∙◌, inl, inr, arith, ltb}
-use Rattle.std.specs.List.{AllPairs, find, position, position_or_len, slice_get}
-use Rattle.std.proofs.lemmas.Bool.{cases_lt, lt-ltb, eqb-true, ne_eqb}
-use Rattle.std.proofs.lemmas.List.{same_lists, length-map, length-set, get_or-map, get_or-set_same, get_or-set_other}
+use Rattle.std.proofs.Common.{◌≡◌, ℕ, Bool, List, length, Option, Some, None, All, option_map, subst, refl, sym, ◌∙◌}
+use Rattle.std.specs.List.{find, position_or_len, slice_get}
 use Rattle.std.proofs.lemmas.List.Folds.{find_at}
-use Rattle.std.proofs.lemmas.List.Quantifiers.{position-Some}
 use Rattle.std.proofs.lemmas.List.Elements.{All-get_or}
-use Rattle.std.proofs.lemmas.Option.{cond_some, none-some, same_Some, slice_get-get_or, slice_get_past, slice_get_within, get_or_from_slice_get}
+use Rattle.std.proofs.lemmas.Option.{none-some, same_Some, slice_get_within, get_or_from_slice_get}
 use Rattle.std.proofs.lemmas.Slice.Zip.{AllZip-long}
 use Rattle.schema_core.specs.Rows.{IsRowOf}
 use Rattle.schema_core.specs.declared.schema.Table.{Table}

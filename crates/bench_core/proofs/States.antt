@@ -1,8 +1,6 @@
 -- What holds side by side, of the tables of a schema and of their states.
 use Rattle.std.proofs.Common.{◌≡◌, ℕ, ◌<◌, suc, zero, List, [], ◌∷◌, length, get_or, Some, arith, refl}
 use Rattle.std.specs.List.{AllZip, slice_get, slice_set}
-use Rattle.std.proofs.lemmas.Option.{slice_get_read}
-use Rattle.bench_core.specs.State.{TableState, State, rows_at}
 
 -- what holds side by side holds at a place
 pub side_by_side : {X Y : Type 0} (R : X → Y → Type 0) (xs : List X) (ys : List Y) (n : ℕ) (y : Y) → AllZip R xs ys → n < length ys → (x : X) × (slice_get xs n ≡ Some x) × R x (get_or ys n y)

@@ -1,5 +1,5 @@
 -- Changes that are taken back and made again, and the states that they lead to.
-use Rattle.std.proofs.Common.{◌≡◌, ℕ, zero, suc, ◌+◌, ◌<◌, List, [], ◌∷◌, ◌++◌, map, length, get_or, Option, Some, None, All, IsSomeAnd, IsSome, refl, sym, ap, subst, ◌∙◌, arith, inl, inr, nat_cmp}
+use Rattle.std.proofs.Common.{◌≡◌, ℕ, zero, suc, ◌+◌, List, [], ◌∷◌, ◌++◌, Option, Some, None, IsSomeAnd, refl, sym, ap, subst, ◌∙◌, arith, inl, inr}
 use Rattle.std.specs.List.{slice_get}
 use Rattle.std.specs.Cmp.{nat_cmp_total}
 use Rattle.std.proofs.lemmas.Bool.Decides.{nat_tests}
@@ -9,10 +9,9 @@ use Rattle.std.specs.FinMap.{nat_cmp-IsAntisymmetric}
 use Rattle.row_store.specs.Store.{Rows}
 use Rattle.row_store.specs.Tuple.{Tuple, ids_if}
 use Rattle.edit_log.specs.declared.change.Change.{Change}
-use Rattle.bench_core.specs.State.{State}
-use Rattle.bench_core.specs.History.{History, accepted, IsUndone, IsRedone}
+use Rattle.bench_core.specs.History.{accepted, IsUndone, IsRedone}
 use Rattle.bench_core.specs.Stored.{Stored, state_of}
-use Rattle.bench_core.specs.Changes.{with_tuple, next_where, before_change, after_change, at_table, taken_back, made_again, before_all, states_before, states_after, history_of, HasMade, CanMake, IsGiven, CanGive, WereMade, CanBeMade}
+use Rattle.bench_core.specs.Changes.{with_tuple, next_where, before_change, after_change, at_table, taken_back, made_again, before_all, states_before, states_after, history_of, HasMade, CanMake, IsGiven, CanGive, WereMade}
 
 -- ---- one table of several
 
@@ -148,5 +147,5 @@ module _ (texts : List (List ℕ)) (change : Change) (tables : List Stored) wher
   history-accepted past undone can =
       let same = taken-again change tables can in
       let before : states_before texts (past ++ change ∷ []) (made_again change tables) ≡ states_before texts past tables ++ state_of texts tables ∷ [] =
-          states_before-push change (made_again change tables) texts past ∙ (λ i. states_before texts past (same i) ++ state_of texts (same i) ∷ []) in
+      states_before-push change (made_again change tables) texts past ∙ (λ i. states_before texts past (same i) ++ state_of texts (same i) ∷ []) in
       λ i. record { past = before i; present = state_of texts (made_again change tables); undone = [] }

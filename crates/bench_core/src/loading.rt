@@ -94,11 +94,7 @@ fn add_table(
 }
 
 /// The rows of a table as it is loaded: they get the ids 1, 2, 3 in order.
-fn load_table(
-    alloc: Global,
-    pool: &mut Pool,
-    tuples: List<Texts>,
-) -> Result<RowStore, AllocError>
+fn load_table(alloc: Global, pool: &mut Pool, tuples: List<Texts>) -> Result<RowStore, AllocError>
     requires { length tuples < 2 ^ 64 - 1 }
     ensures loaded { IfOk result (λ store. table_state pool.new (stored store) ≡ loaded_table tuples) }
     ensures named { IfOk result (λ store. RowsHaveTexts pool.new store.rows) }

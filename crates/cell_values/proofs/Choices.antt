@@ -1,18 +1,16 @@
 -- Truth values of which at most one is true say which value a text counts as.
-use Rattle.std.proofs.Common.{inl, inr, ◌⊎◌, ⊎_elim, ◌≡◌, ◌≢◌, ℕ, zero, suc, ◌+◌, ◌-◌, ◌<◌, ◌≤◌, Bool, true, false, not, List, [], ◌∷◌, length, get_or, take, Option, Some, None, Contains, refl, sym, ap, ◌∙◌, subst, arith}
-use Rattle.std.specs.Prelude.{nat_lt}
+use Rattle.std.proofs.Common.{inl, inr, ◌⊎◌, ⊎_elim, ◌≡◌, ◌≢◌, ℕ, zero, suc, ◌+◌, ◌-◌, ◌<◌, ◌≤◌, Bool, true, false, not, List, [], length, get_or, Option, Contains, refl, sym, ap, ◌∙◌, subst, arith}
 use Rattle.std.specs.Str.{bytes_eq}
-use Rattle.std.proofs.lemmas.Bool.{cases_Bool, cases_lt, cases_eq, cases_order, false≢true, lt-ltb}
+use Rattle.std.proofs.lemmas.Bool.{cases_Bool, cases_lt, cases_eq, cases_order, false≢true}
 use Rattle.std.proofs.lemmas.List.{length-take, get_or-take, get_or_default, length-replicate, take_all}
-use Rattle.std.proofs.lemmas.Slice.Eq.{bytes_eq-Decides}
-use Rattle.schema_core.specs.Repeats.{AreDistinct, is_among}
+use Rattle.schema_core.specs.Repeats.{is_among}
 use Rattle.cell_values.specs.declared.values.CellValues.{CellValues}
 use Rattle.cell_values.specs.Fresh.{tildes, longest, fresh_past, IsFreshPast}
 use Rattle.cell_values.specs.Standing.{counts_as, Agrees, chosen, chosen_text}
 use Rattle.cell_values.proofs.Among.{among_if_Contains, Contains_if_among, bytes_same}
 use Rattle.cell_values.proofs.Lists.{find_first, find_none}
 use Rattle.cell_values.proofs.FreshTexts.{longest_bounds, fresh_is}
-use Rattle.cell_values.proofs.Meaning.{constants, AreValues, counts_constant, counts_other, is_constant, is_other, counted_other}
+use Rattle.cell_values.proofs.Meaning.{constants, AreValues, counts_constant, is_constant, is_other, counted_other}
 
 -- ---- the first number that passes
 

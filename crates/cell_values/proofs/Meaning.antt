@@ -1,7 +1,7 @@
 -- What the literals of a cell say of a text, where the variables say which value the text counts as.
-use Rattle.std.proofs.Common.{inl, inr, ⊎_elim, ◌≡◌, ◌≢◌, ℕ, zero, suc, ◌+◌, ◌<◌, ◌≤◌, Bool, true, false, not, cond, List, [], ◌∷◌, ◌++◌, length, get_or, take, Contains, refl, sym, ap, ◌∙◌, subst, arith, ◌↔◌}
+use Rattle.std.proofs.Common.{inl, inr, ◌≡◌, ℕ, zero, suc, ◌+◌, ◌<◌, ◌≤◌, Bool, true, false, not, cond, List, [], ◌∷◌, length, get_or, take, Contains, refl, sym, ap, ◌∙◌, subst, arith}
 use Rattle.std.specs.Prelude.{nat_lt, All}
-use Rattle.std.specs.List.{Any, list_any}
+use Rattle.std.specs.List.{Any}
 use Rattle.std.specs.Str.{bytes_eq}
 use Rattle.std.proofs.lemmas.Bool.{cases_Bool, cases_lt, not-true, lt-ltb, le-ltb}
 use Rattle.std.proofs.lemmas.List.{length-take-le, get_or-take, get_or_default}
@@ -14,12 +14,11 @@ use Rattle.cfd_semantics.specs.Pattern.{matches}
 use Rattle.schema_core.specs.Repeats.{AreDistinct, is_among}
 use Rattle.rule_model.specs.Books.{is_set}
 use Rattle.rule_model.specs.Declarations.{constants_of}
-use Rattle.case_tree.specs.declared.clauses.Literal.{Literal}
 use Rattle.case_tree.specs.CaseTree.{IsTrueUnder}
 use Rattle.cell_values.specs.declared.values.CellValues.{CellValues}
 use Rattle.cell_values.specs.Literals.{literals_where, matches_as, meets, misses}
 use Rattle.cell_values.specs.Standing.{counts_as, Agrees}
-use Rattle.cell_values.proofs.Among.{among_if_Contains, Contains_if_among, not_among, absent_if_not, bytes_same}
+use Rattle.cell_values.proofs.Among.{not_among, absent_if_not}
 
 abbrev pub constants : CellValues → List (List ℕ)
 constants v = take v.constants v.values

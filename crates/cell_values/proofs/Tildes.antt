@@ -1,5 +1,5 @@
 -- While each text of tildes so far is among others.
-use Rattle.std.proofs.Common.{inl, inr, ◌≡◌, ℕ, ◌+◌, ◌<◌, ◌≤◌, List, [], ◌∷◌, ◌++◌, length, Contains, refl, sym, ap, ◌∙◌, subst, arith}
+use Rattle.std.proofs.Common.{inl, inr, ◌≡◌, ℕ, ◌+◌, ◌<◌, ◌≤◌, List, [], ◌∷◌, ◌++◌, length, Contains, ap, ◌∙◌, subst, arith}
 use Rattle.std.proofs.lemmas.List.{replicate_more, length-replicate, length_push}
 use Rattle.std.proofs.lemmas.Bool.{cases_lt}
 use Rattle.cell_values.specs.Fresh.{tildes, longest, IsFreshPast}

@@ -1,28 +1,27 @@
 -- The values of the attributes that occur in valid rules.
-use Rattle.std.proofs.Common.{inl, inr, ◌⊎◌, ⊎_elim, ◌≡◌, ◌≢◌, ℕ, zero, suc, ◌+◌, ◌-◌, ◌<◌, ◌≤◌, Bool, true, false, not, ◌||◌, cond, List, [], ◌∷◌, ◌++◌, length, get_or, take, Option, Some, None, Contains, refl, sym, ap, ◌∙◌, subst, arith}
-use Rattle.std.specs.Prelude.{All, map, filter, zip, ◌==◌}
-use Rattle.std.specs.List.{flat_map, list_any, range_with_len}
+use Rattle.std.proofs.Common.{inl, inr, ◌⊎◌, ◌≡◌, ◌≢◌, ℕ, zero, suc, ◌+◌, ◌-◌, ◌<◌, Bool, true, false, ◌||◌, List, [], ◌∷◌, ◌++◌, length, get_or, take, Contains, refl, sym, ◌∙◌, subst, arith}
+use Rattle.std.specs.Prelude.{All}
+use Rattle.std.specs.List.{flat_map, list_any}
 use Rattle.std.specs.Str.{bytes_eq}
-use Rattle.std.proofs.lemmas.Bool.{cases_Bool, cases_lt, false≢true, or_cases}
-use Rattle.std.proofs.lemmas.List.{length-append, get_or_append_left, get_or_at, get_or_default, take_at, take_all, length_push}
-use Rattle.std.proofs.lemmas.List.Elements.{Contains-append_left, Contains-append_right, Contains-push, All-from_get_or}
+use Rattle.std.proofs.lemmas.Bool.{cases_Bool, false≢true}
+use Rattle.std.proofs.lemmas.List.{get_or_at, get_or_default, take_at, take_all, length_push}
+use Rattle.std.proofs.lemmas.List.Elements.{Contains-append_left, Contains-append_right, Contains-push}
 use Rattle.std.proofs.lemmas.List.Folds.{list_any_at}
 use Rattle.std.proofs.lemmas.List.Quantifiers.{all_pairs_push}
 use Rattle.cfd_semantics.specs.declared.pattern.Pattern.{Pattern}
 use Rattle.cfd_semantics.specs.declared.pattern.Pattern.TheVariants as patterns
-use Rattle.cfd_semantics.specs.declared.dependency.TableauRow.{TableauRow}
 use Rattle.schema_core.specs.Repeats.{AreDistinct, is_among}
 use Rattle.schema_core.specs.Schemas.{Admits, IsValidDomain}
 use Rattle.schema_core.specs.declared.schema.Domain.{Domain}
 use Rattle.schema_core.specs.declared.schema.Domain.TheVariants.{AnyText, Finite}
 use Rattle.rule_model.specs.Books.{is_set}
 use Rattle.rule_model.specs.Declarations.{constants_of}
-use Rattle.rule_model.specs.Rules.{IsCellOf, IsConstantOf}
+use Rattle.rule_model.specs.Rules.{IsCellOf}
 use Rattle.cell_values.specs.declared.values.CellValues.{CellValues}
 use Rattle.cell_values.specs.Fresh.{fresh_past}
-use Rattle.cell_values.specs.TableRules.{Rule, cells_at, cells_for, cells_in_row, cells_in_rule, row_cells}
+use Rattle.cell_values.specs.TableRules.{Rule, cells_at}
 use Rattle.cell_values.specs.Values.{with_text, once_after, constants_at, has_other, is_finite, with_other, cell_values}
-use Rattle.cell_values.proofs.Among.{among_if_Contains, Contains_if_among, absent_if_not}
+use Rattle.cell_values.proofs.Among.{Contains_if_among, absent_if_not}
 use Rattle.cell_values.proofs.Meaning.{constants, AreValues, IsKnownCell, IsCovered, counted_constant, counted_other}
 use Rattle.cell_values.proofs.Choices.{fresh_there}
 

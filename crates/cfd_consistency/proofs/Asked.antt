@@ -1,17 +1,16 @@
 -- The cells that valid rules ask about, and the values of their attributes.
-use Rattle.std.proofs.Common.{inl, inr, ◌≡◌, ℕ, zero, suc, ◌+◌, ◌<◌, Bool, true, false, cond, List, [], ◌∷◌, ◌++◌, length, get_or, Option, Some, None, Contains, refl, sym, ap, ◌∙◌, subst, arith}
+use Rattle.std.proofs.Common.{◌≡◌, ℕ, zero, suc, ◌<◌, Bool, true, false, cond, List, [], ◌∷◌, length, get_or, Option, Some, Contains, refl, sym, ap, subst, arith}
 use Rattle.std.specs.Prelude.{All, map, filter, ◌==◌}
-use Rattle.std.specs.List.{AllByRecursion, AllZip, flat_map, zip}
+use Rattle.std.specs.List.{AllByRecursion, zip}
 use Rattle.std.specs.Option.{option_map_or}
 use Rattle.std.proofs.lemmas.Bool.{eq-eqb}
 use Rattle.std.proofs.lemmas.Option.{slice_get-get_or}
-use Rattle.std.proofs.lemmas.List.Elements.{All-contains, All-get_or, Contains-append_left, Contains-append_right, Contains-push, Contains-get_or, recursion_from_All}
+use Rattle.std.proofs.lemmas.List.Elements.{All-contains, Contains-append_left, Contains-push, Contains-get_or, recursion_from_All}
 use Rattle.cfd_semantics.specs.declared.pattern.Pattern.{Pattern}
 use Rattle.cfd_semantics.specs.declared.dependency.TableauRow.{TableauRow}
 use Rattle.schema_core.specs.Schemas.{IsValidAttr, IsValidDomain}
 use Rattle.schema_core.specs.Lookups.{domain_at}
 use Rattle.schema_core.specs.declared.schema.Attr.{Attr}
-use Rattle.schema_core.specs.declared.schema.Domain.{Domain}
 use Rattle.schema_core.specs.declared.schema.Domain.TheVariants.{AnyText}
 use Rattle.rule_model.specs.Rules.{AreAttrsOf, IsCellOf, IsValidRow}
 use Rattle.cell_values.specs.declared.values.CellValues.{CellValues}

@@ -1,5 +1,5 @@
 -- The variables of each attribute are within the machine numbers.
-use Rattle.std.proofs.Common.{◌≡◌, ℕ, ◌+◌, ◌^◌, ◌<◌, ◌≤◌, List, length, Option, Some, None, refl, sym, ap, ◌∙◌, subst, arith}
+use Rattle.std.proofs.Common.{◌≡◌, ℕ, ◌+◌, ◌^◌, ◌<◌, ◌≤◌, List, length, Some, ap, arith}
 use Rattle.cell_values.specs.declared.values.CellValues.{CellValues}
 use Rattle.cell_values.specs.Values.{AreFew, values_for, values_before}
 use Rattle.cell_values.proofs.ValueOrder.{found_in, total, total_le_room, values_for_found, values_within}

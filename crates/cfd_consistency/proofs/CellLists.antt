@@ -1,18 +1,17 @@
 -- The cells of the question, one for the values of each attribute.
-use Rattle.std.proofs.Common.{inl, inr, ◌⊎◌, ⊎_elim, ◌≡◌, ◌≢◌, ℕ, zero, suc, ◌+◌, ◌-◌, ◌<◌, ◌≤◌, Bool, true, false, cond, eqb, List, [], ◌∷◌, ◌++◌, length, get_or, Option, Some, None, Contains, refl, sym, ap, ◌∙◌, subst, arith}
+use Rattle.std.proofs.Common.{inl, inr, ◌⊎◌, ◌≡◌, ℕ, zero, suc, ◌+◌, ◌-◌, ◌<◌, Bool, true, false, cond, List, [], ◌∷◌, ◌++◌, length, Some, Contains, refl, sym, ap, ◌∙◌, subst, arith}
 use Rattle.std.specs.Prelude.{nat_lt, ◌==◌}
-use Rattle.std.specs.List.{Any}
-use Rattle.std.proofs.lemmas.Bool.{cases_Bool, cases_lt, lt-ltb, le-ltb, eq-eqb, ne_eqb, eqb-true, eqb-false}
+use Rattle.std.proofs.lemmas.Bool.{cases_Bool, lt-ltb, le-ltb, eq-eqb, ne_eqb, eqb-true, eqb-false}
 use Rattle.std.proofs.lemmas.List.Sums.{sum_by-cons, sum_by-append}
 use Rattle.std.proofs.lemmas.List.Elements.{Contains-append_left, Contains-append_right, Contains-append_cases}
 use Rattle.case_tree.specs.declared.clauses.VarCell.{VarCell}
-use Rattle.case_tree.specs.CaseTree.{FollowFrom, IsIn, var_count}
+use Rattle.case_tree.specs.CaseTree.{FollowFrom, var_count}
 use Rattle.case_tree.proofs.Cells.{var_count-cons}
 use Rattle.cell_values.specs.declared.values.CellValues.{CellValues}
 use Rattle.cell_values.specs.Values.{values_before}
 use Rattle.cell_values.specs.Standing.{counts_as}
 use Rattle.cell_values.proofs.Counting.{size}
-use Rattle.cell_values.proofs.ValueOrder.{found_in, found_above, is_at, total, Rising, before_first, before_later, found_attr}
+use Rattle.cell_values.proofs.ValueOrder.{found_in, found_above, total, Rising, before_first, before_later}
 use Rattle.cfd_consistency.specs.Question.{cell_of_values, cells_from}
 
 -- the cell of some values

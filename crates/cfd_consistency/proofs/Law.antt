@@ -1,10 +1,10 @@
 -- An assignment is allowed exactly where the dependencies are consistent.
-use Rattle.std.proofs.Common.{inl, inr, ◌⊎◌, ⊎_elim, ◌≡◌, ℕ, zero, suc, ◌+◌, ◌-◌, ◌<◌, ◌≤◌, Bool, true, false, List, [], ◌∷◌, ◌++◌, length, get_or, Option, Some, None, Contains, refl, sym, ap, ◌∙◌, subst, arith}
+use Rattle.std.proofs.Common.{inl, inr, ◌≡◌, ℕ, suc, ◌+◌, ◌-◌, ◌<◌, Bool, true, List, [], ◌∷◌, length, get_or, Option, Some, None, Contains, refl, sym, ap, ◌∙◌, subst, arith}
 use Rattle.std.specs.Prelude.{All}
-use Rattle.std.specs.List.{AllZip, AllByRecursion, flat_map, range_with_len, zip}
+use Rattle.std.specs.List.{AllZip}
 use Rattle.std.specs.Option.{option_map_or}
 use Rattle.std.specs.Str.{bytes_eq}
-use Rattle.std.proofs.lemmas.Bool.{cases_Bool, false≢true}
+use Rattle.std.proofs.lemmas.Bool.{cases_Bool}
 use Rattle.std.proofs.lemmas.Option.{slice_get-get_or}
 use Rattle.std.proofs.lemmas.List.Elements.{All-contains, Contains-get_or}
 use Rattle.std.proofs.lemmas.List.{get_or_default}
@@ -17,7 +17,6 @@ use Rattle.schema_core.specs.declared.schema.Attr.{Attr}
 use Rattle.schema_core.specs.declared.schema.Domain.{Domain}
 use Rattle.schema_core.specs.declared.schema.Domain.TheVariants.{AnyText, Finite}
 use Rattle.rule_model.specs.Rules.{IsCellOf, IsValidRow}
-use Rattle.case_tree.specs.declared.clauses.Literal.{Literal}
 use Rattle.case_tree.specs.declared.clauses.VarCell.{VarCell}
 use Rattle.case_tree.specs.CaseTree.{ClauseSet, IsAllowed, IsIn, IsTrueUnder}
 use Rattle.std.specs.List.{Any}
@@ -33,7 +32,7 @@ use Rattle.cell_values.proofs.ValueFacts.{covered_if_admitted, values_good}
 use Rattle.cell_values.proofs.ValueOrder.{found_in, occurring_found, occurring_rises, Rising}
 use Rattle.cfd_consistency.specs.Question.{asks, cells_from, row_clause, rule_clauses, table_question}
 use Rattle.cfd_consistency.specs.Witness.{plain_text, text_at, tuple_of}
-use Rattle.cfd_consistency.proofs.Asked.{asked_left, asked_right, domain_valid, IsAsked, IsValidRule}
+use Rattle.cfd_consistency.proofs.Asked.{asked_left, asked_right, domain_valid, IsValidRule}
 use Rattle.cfd_consistency.proofs.CellLists.{cell_there, cells_are, IsCellAt, truth_at, truth_by, var_cell}
 use Rattle.cfd_consistency.proofs.Lists.{All-flat_map, All-map_filter, AllZip-at, AllZip-long, part_of_flat_map, part_of_map_filter}
 use Rattle.cfd_consistency.proofs.Rows.{holds_if_satisfied, holds_if_true, matched_if_silent, RowHolds, satisfied_if, text_of, true_if_holds}

@@ -1,6 +1,6 @@
 -- The question of a table of a rule book.
-use Rattle.std.proofs.Common.{◌≡◌, ℕ, ◌<◌, ◌≤◌, Bool, List, [], ◌∷◌, ◌++◌, length, get_or, Contains, refl, sym, ap, ◌∙◌, subst, arith, ◌↔◌}
-use Rattle.std.specs.Prelude.{All, map, filter, ◌==◌}
+use Rattle.std.proofs.Common.{◌≡◌, ℕ, ◌<◌, ◌≤◌, Bool, List, [], ◌∷◌, length, get_or, Contains, refl, sym, ap, subst, ◌↔◌}
+use Rattle.std.specs.Prelude.{All, ◌==◌}
 use Rattle.std.proofs.lemmas.List.{append-nil}
 use Rattle.std.proofs.lemmas.Bool.{eq-eqb, eqb-true}
 use Rattle.std.proofs.lemmas.List.Elements.{All-contains, Contains-get_or}
@@ -10,7 +10,7 @@ use Rattle.std.specs.Prelude.{IfSome, Option, Some, None, true}
 use Rattle.std.proofs.lemmas.List.Quantifiers.{position-Some}
 use Rattle.cfd_semantics.specs.Satisfaction.{Satisfies}
 use Rattle.std.specs.Str.{bytes_eq}
-use Rattle.schema_core.specs.Schemas.{IsValidAttr, IsValidTable, table_place}
+use Rattle.schema_core.specs.Schemas.{IsValidAttr, table_place}
 use Rattle.schema_core.specs.Lookups.{attrs_at}
 use Rattle.schema_core.specs.declared.schema.Attr.{Attr}
 use Rattle.schema_core.specs.declared.schema.Table.{Table}
@@ -23,7 +23,6 @@ use Rattle.case_tree.specs.declared.tree.Node.{Node}
 use Rattle.case_tree.proofs.Soundness.{sound}
 use Rattle.case_search.specs.Answer.{HasOneFree}
 use Rattle.cell_values.specs.TableRules.{Rule, rule_of, rules_with, table_rules}
-use Rattle.cell_values.specs.Tuples.{IsTupleOf}
 use Rattle.cell_values.specs.Values.{occurring}
 use Rattle.cell_values.proofs.ValueOrder.{total}
 use Rattle.cfd_consistency.specs.Answer.{HasLaw}

@@ -1,6 +1,6 @@
 -- What the clause of a tableau row says of a tuple.
-use Rattle.std.proofs.Common.{inl, inr, ◌⊎◌, ⊎_elim, ◌≡◌, ℕ, zero, suc, ◌+◌, ◌<◌, ◌≤◌, Bool, true, false, ◌&&◌, List, [], ◌∷◌, ◌++◌, length, get_or, Option, Some, None, Contains, refl, sym, ap, ◌∙◌, subst, arith}
-use Rattle.std.specs.Prelude.{All, IsTrue, map, slice_get}
+use Rattle.std.proofs.Common.{inl, inr, ◌≡◌, ℕ, zero, suc, ◌<◌, Bool, true, false, List, [], ◌∷◌, length, get_or, Option, Some, Contains, refl, sym, ap, ◌∙◌, subst, arith}
+use Rattle.std.specs.Prelude.{All, map, slice_get}
 use Rattle.std.specs.List.{AllByRecursion, Any, flat_map, zip}
 use Rattle.std.specs.Str.{bytes_eq}
 use Rattle.std.proofs.lemmas.Bool.{cases_Bool, false≢true, and_left, and_right, and_cases, and_from}
@@ -17,7 +17,7 @@ use Rattle.case_tree.specs.declared.clauses.Literal.{Literal}
 use Rattle.case_tree.specs.CaseTree.{IsTrueUnder}
 use Rattle.cell_values.specs.declared.values.CellValues.{CellValues}
 use Rattle.cell_values.specs.TableRules.{Rule}
-use Rattle.cell_values.specs.Values.{values_before, values_for}
+use Rattle.cell_values.specs.Values.{values_before}
 use Rattle.cell_values.specs.Literals.{meets, misses}
 use Rattle.cell_values.specs.Standing.{Agrees}
 use Rattle.cell_values.proofs.Among.{bytes_same}

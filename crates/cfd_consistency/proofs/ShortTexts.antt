@@ -1,10 +1,10 @@
 -- The texts of the answered tuple are hardly longer than those that the schema and the rules name.
-use Rattle.std.proofs.Common.{inl, inr, ◌⊎◌, ◌≡◌, ℕ, zero, suc, ◌+◌, ◌<◌, ◌≤◌, Bool, true, false, List, [], ◌∷◌, ◌++◌, length, get_or, Option, Some, None, Contains, refl, sym, ap, ◌∙◌, subst, arith}
-use Rattle.std.specs.Prelude.{All, max, ◌==◌}
+use Rattle.std.proofs.Common.{inl, inr, ◌≡◌, ℕ, ◌+◌, ◌<◌, ◌≤◌, Bool, true, false, List, [], ◌∷◌, length, get_or, Option, Some, None, Contains, refl, sym, ap, ◌∙◌, subst, arith}
+use Rattle.std.specs.Prelude.{All, ◌==◌}
 use Rattle.std.specs.List.{flat_map, zip, range_with_len}
-use Rattle.std.proofs.lemmas.Bool.{cases_Bool, cases_lt}
+use Rattle.std.proofs.lemmas.Bool.{cases_lt}
 use Rattle.std.proofs.lemmas.List.{get_or_past}
-use Rattle.std.proofs.lemmas.List.Elements.{All-nil, All-cons, All-append, All-contains, All-head, All-tail, All-push, All-map, Contains-get_or}
+use Rattle.std.proofs.lemmas.List.Elements.{All-nil, All-cons, All-head, All-tail, All-push, All-map, Contains-get_or}
 use Rattle.cfd_semantics.specs.declared.pattern.Pattern.{Pattern}
 use Rattle.cfd_semantics.specs.declared.pattern.Pattern.TheVariants as patterns
 use Rattle.cfd_semantics.specs.declared.dependency.TableauRow.{TableauRow}
@@ -18,8 +18,8 @@ use Rattle.rule_model.specs.Rules.{IsCellOf, IsValidRow}
 use Rattle.cell_values.specs.declared.values.CellValues.{CellValues}
 use Rattle.cell_values.specs.Fresh.{fresh_past, longest}
 use Rattle.cell_values.specs.Standing.{chosen, chosen_text}
-use Rattle.cell_values.specs.TableRules.{Rule, cells_at, cells_for, cells_in_row, cells_in_rule, row_cells}
-use Rattle.cell_values.specs.Values.{cell_values, constants_at, has_other, occurring, once_after, values_before, with_other, with_text}
+use Rattle.cell_values.specs.TableRules.{Rule, cells_at, cells_in_row, cells_in_rule, row_cells}
+use Rattle.cell_values.specs.Values.{constants_at, has_other, occurring, once_after, values_before, with_other, with_text}
 use Rattle.cell_values.proofs.Choices.{fresh_there}
 use Rattle.cell_values.proofs.ValueFacts.{with_text_cases}
 use Rattle.cell_values.proofs.ValueOrder.{found_in, occurring_found}

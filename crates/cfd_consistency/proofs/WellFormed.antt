@@ -1,6 +1,6 @@
 -- The clauses are over the variables of the cells, and no clause has two positive literals of cells that aren't demanded.
-use Rattle.std.proofs.Common.{inl, inr, ◌⊎◌, ⊎_elim, ◌≡◌, ℕ, zero, suc, ◌+◌, ◌^◌, ◌<◌, ◌≤◌, Bool, true, false, cond, List, [], ◌∷◌, ◌++◌, length, get_or, Option, Some, Contains, refl, sym, ap, ◌∙◌, subst, arith}
-use Rattle.std.specs.Prelude.{All, map, filter}
+use Rattle.std.proofs.Common.{inl, inr, ◌≡◌, ℕ, suc, ◌+◌, ◌<◌, ◌≤◌, Bool, true, false, cond, List, [], ◌∷◌, length, get_or, Some, Contains, refl, sym, ap, ◌∙◌, subst, arith}
+use Rattle.std.specs.Prelude.{All}
 use Rattle.std.specs.List.{AllByRecursion, flat_map, zip}
 use Rattle.std.specs.declared.vec.Vec.{Vec}
 use Rattle.std.specs.declared.alloc.Global.{Global}
@@ -13,11 +13,11 @@ use Rattle.cfd_semantics.specs.declared.pattern.Pattern.TheVariants as patterns
 use Rattle.cfd_semantics.specs.declared.dependency.TableauRow.{TableauRow}
 use Rattle.case_tree.specs.declared.clauses.Literal.{Literal}
 use Rattle.case_tree.specs.declared.clauses.VarCell.{VarCell}
-use Rattle.case_tree.specs.CaseTree.{ClauseSet, IsIn, IsWellFormed, clause_set, literals_of, var_count}
+use Rattle.case_tree.specs.CaseTree.{ClauseSet, IsIn, IsWellFormed, clause_set, literals_of}
 use Rattle.case_tree.proofs.Cells.{same_cell}
 use Rattle.case_search.specs.Answer.{IsFree, HasOneFree}
 use Rattle.cell_values.specs.declared.values.CellValues.{CellValues}
-use Rattle.cell_values.specs.TableRules.{Rule, row_cells}
+use Rattle.cell_values.specs.TableRules.{Rule}
 use Rattle.cell_values.specs.Values.{AreFew, values_before, values_for}
 use Rattle.cell_values.specs.Literals.{literals_where, matches_as, meets, misses}
 use Rattle.cell_values.proofs.Meaning.{AreValues}

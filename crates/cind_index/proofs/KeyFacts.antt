@@ -9,7 +9,7 @@ use Rattle.std.specs.Str.{bytes_eq}
 use Rattle.std.proofs.lemmas.Bool.{cases_eq, cases_lt}
 use Rattle.std.proofs.lemmas.Bool.Decides.{nat_tests}
 use Rattle.std.proofs.lemmas.Option.{none-some, same_Some, slice_get_within}
-use Rattle.marked_map.specs.MarkedMap.{MarkedPairs, with_mark, without_mark, IsMarked, IsUnmarked, KeepsOthers, AreDistinct, HasKey, IsAbsent, Enters}
+use Rattle.marked_map.specs.MarkedMap.{with_mark, without_mark, KeepsOthers, AreDistinct, HasKey, IsAbsent, Enters}
 use Rattle.cfd_semantics.specs.declared.inclusion.InclusionRow.{InclusionRow}
 use Rattle.cfd_semantics.specs.Orphan.{SideEntry}
 use Rattle.cfd_semantics.proofs.InclusionLaw.{both_true}
@@ -21,7 +21,7 @@ use Rattle.cind_index.specs.RowsHeld.{has, rows_on, across, is_dirty, ChangesOn,
 use Rattle.cind_index.specs.Entries.{is_entry}
 use Rattle.cind_index.specs.KeysHeld.{KeyedRows, is_under, held, AreMarkedRight, AreMarkedRightBut, HasKeyAt, KeepsKeys, HoldTheSame, HoldsMore, HoldsLess}
 use Rattle.cind_index.proofs.MapFacts.{equal_lists, same_list, flip_lists}
-use Rattle.cind_index.proofs.PairFacts.{same_truth, never, clash, any_at, none_pass, swapped_pass, swapped_apart, set_value_at, set_here, set_beside, set_more, set_same, set_less, push_more, push_last, push_beside, MarksRight, MarksRightBut, settled, set_but, set_right, right_but, push_but, removed_right, removed_pass}
+use Rattle.cind_index.proofs.PairFacts.{never, clash, any_at, none_pass, swapped_pass, swapped_apart, set_value_at, set_here, set_beside, set_more, set_same, set_less, push_more, MarksRight, MarksRightBut, settled, removed_pass}
 
 abbrev pub Pair : Type 0
 Pair = Vec ℕ Global × KeyRows

@@ -1,20 +1,18 @@
 -- What a change at one list of pattern values makes of the rows with each.
-use Rattle.std.proofs.Common.{◌≡◌, ℕ, Bool, true, false, cond, not, ◌&&◌, ◌||◌, List, [], ◌∷◌, Option, Some, None, Result, Ok, Err, refl, sym, ap, subst, ◌∙◌, arith, OnOk, OnErr, IfOk}
+use Rattle.std.proofs.Common.{◌≡◌, ℕ, Bool, true, false, cond, not, ◌&&◌, ◌||◌, List, Option, Some, None, Result, Ok, Err, refl, sym, ap, ◌∙◌, OnOk, OnErr, IfOk}
 use Rattle.std.specs.Prelude.{◌==◌}
 use Rattle.std.specs.declared.vec.Vec.{Vec}
 use Rattle.std.specs.declared.alloc.Global.{Global}
 use Rattle.std.specs.Option.{option_map_or}
 use Rattle.std.specs.Ordering.{nat_cmp, is_eq}
 use Rattle.std.specs.Cmp.Lexicographic.{slice_cmp}
-use Rattle.std.specs.Map.{lookup, KeepsOthers}
+use Rattle.std.specs.Map.{KeepsOthers}
 use Rattle.std.specs.Str.{bytes_eq}
 use Rattle.std.proofs.lemmas.Map.Text.{is_eq-slice_cmp}
 use Rattle.std.proofs.lemmas.Slice.Eq.{bytes_eq-Decides}
 use Rattle.cind_index.specs.declared.row_set.RowSet.{RowSet}
-use Rattle.cind_index.specs.declared.row_set.RowSet.TheVariants.{One, More}
-use Rattle.cind_index.specs.declared.side_rows.SideRows.{SideRows}
-use Rattle.cind_index.specs.declared.side_rows.SideRows.TheVariants.{Empty, Single, Several}
-use Rattle.cind_index.specs.RowsHeld.{Patterns, rows_in, in_map, is_in, has, HasRowMore, HasRowLess, HaveTheSame}
+use Rattle.cind_index.specs.declared.side_rows.SideRows.TheVariants.{Several}
+use Rattle.cind_index.specs.RowsHeld.{Patterns, rows_in, in_map, is_in, HasRowMore, HasRowLess, HaveTheSame}
 
 -- ---- results
 

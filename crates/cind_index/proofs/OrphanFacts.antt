@@ -1,13 +1,13 @@
 -- Orphans and dirty keys of the two sets are those that the rows under each key tell.
-use Rattle.std.proofs.Common.{◌≡◌, ◌≢◌, ℕ, zero, suc, ◌+◌, ◌<◌, ◌≤◌, ◌↔◌, ◌⊎◌, Bool, true, false, not, ◌&&◌, ◌||◌, List, [], ◌∷◌, ◌++◌, length, get_or, slice_get, Option, Some, None, refl, sym, ap, ◌∙◌, subst, inl, inr, arith}
-use Rattle.std.specs.Prelude.{IsTrue, nat_eq, AllPairs, All}
-use Rattle.std.specs.List.{list_any, Contains}
+use Rattle.std.proofs.Common.{◌≡◌, ◌≢◌, ℕ, zero, suc, ◌+◌, ◌<◌, ◌≤◌, ◌↔◌, ◌⊎◌, Bool, true, false, not, ◌&&◌, List, [], ◌∷◌, ◌++◌, length, get_or, slice_get, Some, refl, sym, ap, ◌∙◌, subst, inl, inr, arith}
+use Rattle.std.specs.Prelude.{IsTrue, nat_eq, AllPairs}
+use Rattle.std.specs.List.{Contains}
 use Rattle.std.specs.Map.{values_of}
 use Rattle.std.specs.Str.{bytes_eq}
 use Rattle.std.specs.declared.vec.Vec.{Vec}
 use Rattle.std.specs.declared.alloc.Global.{Global}
 use Rattle.std.proofs.lemmas.Bool.{cases_lt}
-use Rattle.std.proofs.lemmas.Option.{none-some, same_Some, slice_get_within, slice_get-get_or}
+use Rattle.std.proofs.lemmas.Option.{none-some, same_Some, slice_get-get_or}
 use Rattle.std.proofs.lemmas.List.Elements.{All-weaker, All-contains_itself}
 use Rattle.std.specs.List.{dedup}
 use Rattle.std.specs.List.Sorted.{IsPermutation, IsSorted}
@@ -17,20 +17,19 @@ use Rattle.std.proofs.lemmas.List.Filters.{dedup_is}
 use Rattle.std.proofs.lemmas.List.Sorted.{Contains-permutation}
 use Rattle.std.proofs.lemmas.Map.Keys.{IsStrictlyIncreasing-dedup}
 use Rattle.std.proofs.lemmas.List.Kept.{AllPairs-cons, AllPairs-from_increasing, Contains-dedup_nat, Contains-from_dedup}
-use Rattle.marked_map.specs.MarkedMap.{MarkedPairs, AreDistinct, HasKey, IsAbsent, IsMarked, IsUnmarked}
+use Rattle.marked_map.specs.MarkedMap.{AreDistinct, HasKey, IsAbsent}
 use Rattle.cfd_semantics.specs.declared.inclusion.InclusionRow.{InclusionRow}
 use Rattle.cfd_semantics.specs.declared.inclusion.Inclusion.{Inclusion}
 use Rattle.cfd_semantics.specs.Orphan.{SideEntry, left_entry_of, answers}
 use Rattle.cfd_semantics.specs.EntrySets.{IsUnanswered, IsOrphan}
-use Rattle.cfd_semantics.specs.Dirty.{IsDirtyKey}
 use Rattle.cfd_semantics.proofs.SideLists.{side_parts}
 use Rattle.cfd_semantics.proofs.Members.{contains-here, contains-there, contains_nothing, contains_cases}
 use Rattle.cfd_semantics.proofs.InclusionLaw.{found_by_any, any_from_found, both_true}
 use Rattle.cind_index.specs.declared.side.Side.TheVariants.{Left, Right}
 use Rattle.cind_index.specs.declared.key_rows.KeyRows.{KeyRows}
 use Rattle.cind_index.specs.RowsHeld.{has, has_some, lacks_answer, is_dirty}
-use Rattle.cind_index.specs.KeysHeld.{KeyedRows, is_under, held, lefts, rights, AreMarkedRight}
-use Rattle.cind_index.specs.Orphans.{AreOrphans, AreDirtyKeys, IsDirtyCount}
+use Rattle.cind_index.specs.KeysHeld.{KeyedRows, is_under, lefts, rights, AreMarkedRight}
+use Rattle.cind_index.specs.Orphans.{AreOrphans, IsDirtyCount}
 use Rattle.row_store.specs.Watch.{IsWide}
 use Rattle.cind_index.specs.Entries.{ids_in}
 use Rattle.cind_index.specs.Laws.{values_there}

@@ -1,5 +1,5 @@
 -- Some row has pattern values exactly where a row is held with them; and what that makes of dirty keys.
-use Rattle.std.proofs.Common.{◌≡◌, ℕ, zero, suc, ◌<◌, ◌≤◌, ◌↔◌, ◌⊎◌, Bool, true, false, not, ◌&&◌, ◌||◌, List, [], ◌∷◌, ◌++◌, length, Option, Some, None, refl, sym, ap, ◌∙◌, subst, inl, inr, arith}
+use Rattle.std.proofs.Common.{◌≡◌, ℕ, ◌↔◌, ◌⊎◌, true, false, not, ◌&&◌, ◌||◌, List, [], ◌∷◌, ◌++◌, length, Option, Some, None, refl, sym, ap, ◌∙◌, subst, inl, inr, arith}
 use Rattle.std.specs.Prelude.{◌==◌, IsTrue, nat_lt}
 use Rattle.std.specs.List.{list_any, Contains}
 use Rattle.std.specs.Option.{option_map_or}
@@ -17,8 +17,8 @@ use Rattle.cind_index.specs.declared.row_set.RowSet.TheVariants.{One, More}
 use Rattle.cind_index.specs.declared.side_rows.SideRows.{SideRows}
 use Rattle.cind_index.specs.declared.side_rows.SideRows.TheVariants.{Empty, Single, Several}
 use Rattle.cind_index.specs.declared.key_rows.KeyRows.{KeyRows}
-use Rattle.cind_index.specs.RowsHeld.{is_in, is_filled, rows_in, in_map, has, has_some, rows_on, across, lacks_answer, is_dirty, HaveTheSame, ChangesOn}
-use Rattle.cind_index.proofs.PairFacts.{same_truth, never, clash}
+use Rattle.cind_index.specs.RowsHeld.{is_in, is_filled, rows_in, has, has_some, lacks_answer, is_dirty, HaveTheSame, ChangesOn}
+use Rattle.cind_index.proofs.PairFacts.{same_truth}
 
 -- ---- lists of row ids
 

@@ -1,8 +1,7 @@
 -- What two tuples of a row give for one side.
-use Rattle.std.proofs.Common.{◌≡◌, ℕ, ◌<◌, Bool, true, false, not, cond, ◌&&◌, ◌||◌, List, [], ◌∷◌, ◌++◌, length, Option, Some, None, refl, sym, ap, ◌∙◌, subst, arith}
-use Rattle.std.specs.Prelude.{All, nat_eq, ◌==◌, if◌then◌else◌}
+use Rattle.std.proofs.Common.{◌≡◌, ℕ, ◌<◌, Bool, true, false, not, cond, ◌&&◌, ◌||◌, List, [], ◌∷◌, ◌++◌, length, Option, Some, None, refl, sym, ap, ◌∙◌, subst}
+use Rattle.std.specs.Prelude.{All, ◌==◌}
 use Rattle.std.specs.Str.{bytes_eq}
-use Rattle.std.proofs.lemmas.Bool.Decides.{nat_tests}
 use Rattle.std.proofs.lemmas.List.Elements.{All-nil, All-cons, All-head, All-tail}
 use Rattle.std.proofs.lemmas.Option.{same_Some}
 use Rattle.row_store.specs.Watch.{IsWide, entries_of}
@@ -10,12 +9,10 @@ use Rattle.cfd_semantics.specs.declared.inclusion.Inclusion.{Inclusion}
 use Rattle.cfd_semantics.specs.Orphan.{SideEntry, side_entry_of}
 use Rattle.cfd_semantics.specs.Tuple.{values_at}
 use Rattle.cind_index.specs.declared.side.Side.{Side}
-use Rattle.cind_index.specs.declared.side.Side.TheVariants.{Left, Right}
 use Rattle.cind_index.specs.declared.index.CindIndex.{CindIndex}
-use Rattle.cind_index.specs.RowsHeld.{across}
 use Rattle.cind_index.specs.Entries.{CindMade, ids_in, is_entry, key_on, pattern_on, table_on, gives_on, attributes_on}
 use Rattle.cind_index.specs.KeysHeld.{KeyedRows, held, HoldsMore, HoldsLess, HasKeyAt}
-use Rattle.cind_index.specs.Laws.{two_parts, same_number, number_itself, values_there, gives_its_entry, given_has_row, entry_itself}
+use Rattle.cind_index.specs.Laws.{two_parts, same_number, number_itself, values_there, gives_its_entry, given_has_row}
 use Rattle.cind_index.specs.Index.{given}
 use Rattle.cind_index.proofs.MapFacts.{same_list, equal_lists}
 use Rattle.cind_index.proofs.PairFacts.{never, clash}

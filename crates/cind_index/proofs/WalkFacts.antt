@@ -1,6 +1,6 @@
 -- Tuples of four ids are wide enough for a narrow inclusion; and steps of the walk of the tests.
-use Rattle.std.proofs.Common.{◌≡◌, ℕ, ◌+◌, ◌<◌, ◌≤◌, Bool, true, false, cond, List, [], ◌∷◌, ◌++◌, length, Some, refl, sym, ap, ◌∙◌, subst, arith}
-use Rattle.std.specs.Prelude.{All, ◌==◌}
+use Rattle.std.proofs.Common.{◌≡◌, ℕ, ◌+◌, ◌<◌, Bool, true, false, cond, List, [], ◌++◌, length, Some, sym, ◌∙◌, subst, arith}
+use Rattle.std.specs.Prelude.{◌==◌}
 use Rattle.std.proofs.lemmas.List.Elements.{All-nil, All-append, All-weaker}
 use Rattle.std.proofs.lemmas.Option.{same_Some}
 use Rattle.row_store.specs.Watch.{IsWide}
@@ -10,7 +10,7 @@ use Rattle.cfd_semantics.specs.declared.inclusion.Inclusion.{Inclusion}
 use Rattle.cind_index.specs.declared.side.Side.{Side}
 use Rattle.cind_index.specs.declared.side.Side.TheVariants.{Left, Right}
 use Rattle.cind_index.specs.declared.index.CindIndex.{CindIndex}
-use Rattle.cind_index.specs.Entries.{CindMade, CindEntry, table_on, key_on, pattern_on, gives_entry, attributes_on, attributes_of}
+use Rattle.cind_index.specs.Entries.{CindMade, table_on, key_on, pattern_on, gives_entry, attributes_on, attributes_of}
 use Rattle.cind_index.specs.Laws.{given_names_row}
 use Rattle.cind_index.specs.Index.{made_of}
 use Rattle.cind_index.specs.Walk.{AreBelowFour, IsNarrow, HoldsNothingFrom, HoldsLast}

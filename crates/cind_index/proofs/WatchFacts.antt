@@ -1,5 +1,5 @@
 -- What the conditions of a watch say of one side of an index.
-use Rattle.std.proofs.Common.{◌≡◌, ℕ, Bool, true, false, ◌&&◌, ◌||◌, List, ◌++◌, Option, Some, None, refl, sym, ap, ◌∙◌, subst}
+use Rattle.std.proofs.Common.{◌≡◌, ℕ, ◌||◌, List, Option, Some, None, refl, sym, ap, ◌∙◌, subst}
 use Rattle.std.specs.Option.{ForSome}
 use Rattle.row_store.specs.Watch.{IsWide, entries_of}
 use Rattle.cfd_semantics.specs.Orphan.{SideEntry}
@@ -8,8 +8,8 @@ use Rattle.cind_index.specs.declared.side.Side.TheVariants.{Left, Right}
 use Rattle.cind_index.specs.declared.index.CindIndex.{CindIndex}
 use Rattle.cind_index.specs.Entries.{CindMade, CindEntry, table_on, gives_on, gives_entry, attributes_on, attributes_of}
 use Rattle.cind_index.specs.KeysHeld.{held}
-use Rattle.cind_index.specs.Index.{made_of, given, HoldsOfRowOn}
-use Rattle.cind_index.proofs.SideFacts.{all_front, all_back, wide_front, wide_back, given_here}
+use Rattle.cind_index.specs.Index.{made_of, HoldsOfRowOn}
+use Rattle.cind_index.proofs.SideFacts.{wide_front, wide_back, given_here}
 
 pub for_some : {A : Type 0} (P Q : A → Type 0) (o : Option A) → ((v : A) → P v → Q v) → ForSome o P → ForSome o Q
 for_some P Q o f p v is = f v (p v is)

@@ -1,5 +1,5 @@
 -- What one side of an index takes part in when a row changes.
-use Rattle.std.specs.Prelude.{◌≡◌, ℕ, ◌==◌, ◌&&◌, Bool, false, List, Some, Option}
+use Rattle.std.specs.Prelude.{◌≡◌, ℕ, ◌==◌, ◌&&◌, Bool, List, Some, Option}
 use Rattle.row_store.specs.Watch.{entries_of}
 use Rattle.cfd_semantics.specs.Orphan.{SideEntry}
 use Rattle.cfd_semantics.specs.Tuple.{values_at}

@@ -1,6 +1,6 @@
 -- What is listed group by group, over the marked groups, are the violations of the set.
-use Rattle.std.proofs.Common.{◌≡◌, ◌≢◌, ℕ, zero, suc, ◌+◌, ◌<◌, ◌≤◌, ◌↔◌, ◌⊎◌, Bool, true, false, List, [], ◌∷◌, ◌++◌, map, length, get_or, slice_get, Option, Some, None, refl, sym, ap, ◌∙◌, subst, inl, inr, arith}
-use Rattle.std.specs.Prelude.{nat_eq, filter_map, All, AllPairs, Contains}
+use Rattle.std.proofs.Common.{◌≡◌, ◌≢◌, ℕ, zero, suc, ◌+◌, ◌<◌, ◌≤◌, ◌⊎◌, true, false, List, [], ◌∷◌, ◌++◌, map, length, get_or, slice_get, Option, Some, None, refl, sym, ap, ◌∙◌, subst, inl, inr, arith}
+use Rattle.std.specs.Prelude.{nat_eq, filter_map, AllPairs, Contains}
 use Rattle.std.specs.List.{cons_option, IsDistinct, AllByRecursion}
 use Rattle.std.specs.List.Sorted.{IsPermutation, IsNonDecreasingBy}
 use Rattle.std.specs.declared.vec.Vec.{Vec}
@@ -9,7 +9,7 @@ use Rattle.std.proofs.lemmas.Bool.{cases_lt}
 use Rattle.std.proofs.lemmas.Bool.Decides.{nat_tests}
 use Rattle.std.proofs.lemmas.List.Elements.{All-contains}
 use Rattle.std.proofs.lemmas.List.Sorted.{IsPermutation-map, IsPermutation-sym, Contains-permutation}
-use Rattle.std.proofs.lemmas.Map.Keys.{IsDistinct-cons, IsDistinct-IsPermutation, apart_from_distinct}
+use Rattle.std.proofs.lemmas.Map.Keys.{IsDistinct-IsPermutation, apart_from_distinct}
 use Rattle.std.proofs.lemmas.Option.{same_Some}
 use Rattle.marked_map.specs.MarkedMap.{AreDistinct}
 use Rattle.cfd_semantics.specs.declared.dependency.TableauRow.{TableauRow}
@@ -17,8 +17,8 @@ use Rattle.cfd_semantics.specs.declared.dependency.Dependency.{Dependency}
 use Rattle.cfd_semantics.specs.declared.violation.Violation.{Violation}
 use Rattle.cfd_semantics.specs.Pattern.{all_match}
 use Rattle.cfd_semantics.specs.Violation.{Entry, violating}
-use Rattle.cfd_semantics.specs.EntrySets.{HasOneARow, IsRising, IsEntryList, IsListedWith, IsLeastPartner, IsViolation}
-use Rattle.cfd_semantics.specs.Dirty.{IsInGroup, IsDirtyGroup}
+use Rattle.cfd_semantics.specs.EntrySets.{HasOneARow, IsRising, IsEntryList, IsListedWith}
+use Rattle.cfd_semantics.specs.Dirty.{IsDirtyGroup}
 use Rattle.cfd_semantics.specs.Dirty.Violates.{single, pair}
 use Rattle.cfd_semantics.proofs.Members.{contains-here, contains-there, contains_nothing, contains_cases, contains_from_map, contains-filter_map, contains_from_filter_map}
 use Rattle.cfd_semantics.proofs.Parts.{single_parts, pair_parts}

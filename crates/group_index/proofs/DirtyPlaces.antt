@@ -1,19 +1,16 @@
 -- The dirty groups stand at the marked places.
-use Rattle.std.proofs.Common.{◌≡◌, ◌≢◌, ℕ, zero, suc, ◌<◌, ◌≤◌, ◌↔◌, Bool, true, false, not, ◌&&◌, ◌||◌, List, [], ◌∷◌, length, slice_get, Option, Some, None, refl, sym, ap, ◌∙◌, subst, inl, inr, arith}
+use Rattle.std.proofs.Common.{◌≡◌, ℕ, zero, suc, ◌<◌, ◌≤◌, Bool, true, false, not, ◌&&◌, List, [], ◌∷◌, length, slice_get, Some, refl, sym, ap, ◌∙◌, subst, inl, inr, arith}
 use Rattle.std.specs.Prelude.{nat_eq, Contains}
 use Rattle.std.specs.Cmp.{nat_eq_equiv}
 use Rattle.std.specs.List.{list_any, IsDistinct, AllByRecursion}
 use Rattle.std.specs.Str.{bytes_eq}
 use Rattle.std.proofs.lemmas.Bool.{cases_lt}
-use Rattle.std.proofs.lemmas.Bool.Decides.{nat_tests}
-use Rattle.std.proofs.lemmas.Map.Keys.{IsDistinct-cons}
 use Rattle.std.proofs.lemmas.Option.{none-some, same_Some}
 use Rattle.marked_map.specs.MarkedMap.{AreDistinct}
 use Rattle.cfd_semantics.specs.declared.dependency.TableauRow.{TableauRow}
 use Rattle.cfd_semantics.specs.declared.dependency.Dependency.{Dependency}
 use Rattle.cfd_semantics.specs.Pattern.{matches, all_match}
 use Rattle.cfd_semantics.specs.Tuple.{same_values}
-use Rattle.cfd_semantics.specs.Violation.{Entry}
 use Rattle.cfd_semantics.specs.Dirty.{IsDirtyGroup, IsDirtyByValues, Disagrees}
 use Rattle.cfd_semantics.specs.Dirty.Disagrees.{outside, two}
 use Rattle.cfd_semantics.proofs.DirtyFacts.{dirty_by_values}
@@ -21,7 +18,7 @@ use Rattle.cfd_semantics.proofs.InclusionLaw.{found_by_any, any_from_found}
 use Rattle.cfd_semantics.proofs.Members.{contains-here, contains-there, contains_nothing, contains_cases}
 use Rattle.group_index.specs.GroupSet.{GroupsMade, GroupSet}
 use Rattle.group_index.specs.Answers.{AreDirty}
-use Rattle.group_index.specs.Pairs.{Pair, pairs_of, has_pair, is_mixed, disagree, is_dirty}
+use Rattle.group_index.specs.Pairs.{Pair, pairs_of, has_pair, is_mixed, disagree}
 use Rattle.group_index.specs.Groups.{KeyedGroup, KeyedGroups, set_of, is_in, is_dirty_at, AreMarked}
 use Rattle.group_index.proofs.PairFacts.{member_from}
 use Rattle.group_index.proofs.GroupFacts.{same_key, equal_ids, same_ids, both_true, both_so, one_true, left_so, right_so, clash, isnt, not_true, found_in, key_at}

@@ -1,7 +1,7 @@
 -- The entries of the groups, place by place, and what a change of one group makes of them.
-use Rattle.std.proofs.Common.{◌≡◌, ◌≢◌, ℕ, zero, suc, ◌+◌, ◌<◌, ◌≤◌, ◌⊎◌, Bool, true, false, not, ◌&&◌, ◌||◌, List, [], ◌∷◌, ◌++◌, map, length, slice_get, Option, Some, None, refl, sym, ap, ◌∙◌, subst, inl, inr, arith, length-append}
+use Rattle.std.proofs.Common.{◌≡◌, ◌≢◌, ℕ, zero, suc, ◌+◌, ◌<◌, ◌⊎◌, Bool, true, false, not, ◌&&◌, ◌||◌, List, [], ◌∷◌, ◌++◌, map, length, slice_get, Some, refl, sym, ap, ◌∙◌, inl, inr, arith, length-append}
 use Rattle.std.specs.Prelude.{◌==◌, nat_eq}
-use Rattle.std.specs.List.{list_any, flat_map}
+use Rattle.std.specs.List.{list_any}
 use Rattle.std.specs.Map.{keys_of, values_of}
 use Rattle.std.specs.Str.{bytes_eq}
 use Rattle.std.specs.declared.vec.Vec.{Vec}
@@ -12,12 +12,12 @@ use Rattle.std.proofs.lemmas.List.Folds.{list_any-append}
 use Rattle.std.proofs.lemmas.Option.{none-some, same_Some, slice_get_within}
 use Rattle.std.proofs.lemmas.Slice.Eq.{bytes_eq-Decides}
 use Rattle.marked_map.specs.Lending.{with_value}
-use Rattle.marked_map.specs.MarkedMap.{MarkedPairs, HasKey, IsAbsent, AreDistinct, Enters, KeepsOthers}
+use Rattle.marked_map.specs.MarkedMap.{HasKey, AreDistinct, Enters}
 use Rattle.cfd_semantics.specs.Violation.{Entry}
 use Rattle.group_index.specs.declared.group.Group.{Group}
 use Rattle.group_index.specs.declared.group.Group.TheVariants.{One}
 use Rattle.group_index.specs.GroupSet.{is_entry}
-use Rattle.group_index.specs.Pairs.{Pair, pairs_of, is_pair, has_pair, IsPut, IsTaken, IsAlone, HaveTheSame}
+use Rattle.group_index.specs.Pairs.{Pair, pairs_of, is_pair, has_pair, IsPut, IsTaken, HaveTheSame}
 use Rattle.group_index.specs.Groups.{KeyedGroup, KeyedGroups, entries_at, entries_in, is_in}
 
 -- the keys' own `==`

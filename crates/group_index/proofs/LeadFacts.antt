@@ -6,8 +6,8 @@ use Rattle.std.proofs.lemmas.Bool.Decides.{nat_tests}
 use Rattle.cfd_semantics.specs.declared.pattern.Pattern.{Pattern}
 use Rattle.cfd_semantics.specs.Pattern.{matches}
 use Rattle.cfd_semantics.proofs.Members.{contains_nothing, contains_cases}
-use Rattle.group_index.specs.Pairs.{Pair, IsAfter, ComesBefore, IsNextHead}
-use Rattle.group_index.specs.Leads.{IsLeastRow, IsLeastOther, AreLeads, IsAmong, first_with, second_with, partner_by}
+use Rattle.group_index.specs.Pairs.{Pair, ComesBefore, IsNextHead}
+use Rattle.group_index.specs.Leads.{IsLeastOther, AreLeads, first_with, second_with, partner_by}
 
 -- one A id more, of which the row is the least
 module _ (cell : Pattern ℕ) (among among' : Pair → Type 0) (a row : ℕ) (kept : (p : Pair) → among p → among' p) (here : among' (a, row)) (parts : (p : Pair) → among' p → among p ⊎ ((p.0 ≡ a) × (row ≤ p.1)))

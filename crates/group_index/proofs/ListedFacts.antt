@@ -1,6 +1,6 @@
 -- What is listed of the pairs of a group are the violations of its entries.
-use Rattle.std.proofs.Common.{◌≡◌, ◌≢◌, ℕ, ◌<◌, ◌≤◌, Bool, true, false, cond, not, ◌&&◌, List, ◌++◌, length, get_or, slice_get, Option, Some, None, refl, sym, ap, ◌∙◌, subst, arith}
-use Rattle.std.specs.Prelude.{nat_eq, filter_map, AllPairs, Contains}
+use Rattle.std.proofs.Common.{◌≡◌, ◌≢◌, ℕ, Bool, true, false, cond, List, ◌++◌, get_or, slice_get, Option, Some, None, refl, sym, ap, ◌∙◌, subst, arith}
+use Rattle.std.specs.Prelude.{nat_eq, filter_map, AllPairs}
 use Rattle.std.specs.Option.{option_map}
 use Rattle.std.specs.declared.cmp.Ordering.TheVariants.{Less}
 use Rattle.std.specs.declared.vec.Vec.{Vec}
@@ -14,8 +14,8 @@ use Rattle.cfd_semantics.specs.declared.pattern.Pattern.{Pattern}
 use Rattle.cfd_semantics.specs.declared.dependency.TableauRow.{TableauRow}
 use Rattle.cfd_semantics.specs.declared.violation.Violation.{Violation}
 use Rattle.cfd_semantics.specs.Pattern.{matches, all_match}
-use Rattle.cfd_semantics.specs.Violation.{Entry, is_single}
-use Rattle.cfd_semantics.specs.EntrySets.{IsListedWith, IsLeastPartner}
+use Rattle.cfd_semantics.specs.Violation.{is_single}
+use Rattle.cfd_semantics.specs.EntrySets.{IsListedWith}
 use Rattle.cfd_semantics.proofs.Parts.{single_parts, pair_parts}
 use Rattle.group_index.specs.declared.group.Group.{Group}
 use Rattle.group_index.specs.declared.group.Group.TheVariants.{Many}
@@ -24,7 +24,7 @@ use Rattle.group_index.specs.Answers.{IsPartnerOf}
 use Rattle.group_index.specs.Pairs.{Pair, pairs_of}
 use Rattle.group_index.specs.Groups.{KeyedGroups, set_of, is_in}
 use Rattle.group_index.specs.Leads.{AreLeads, IsAmong, AddsListed, listed_by, partner_by}
-use Rattle.group_index.proofs.GroupFacts.{same_key, clash}
+use Rattle.group_index.proofs.GroupFacts.{same_key}
 use Rattle.group_index.proofs.PairFacts.{pair_cmp}
 use Rattle.group_index.proofs.LeadFacts.{partner_of_leads}
 use Rattle.group_index.proofs.PartnerFacts.{entry_in, partner_from}

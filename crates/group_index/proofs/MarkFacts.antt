@@ -1,18 +1,17 @@
 -- The marked groups are the dirty ones: what a change of one group, a mark and a removal leave of that.
-use Rattle.std.proofs.Common.{◌≡◌, ◌≢◌, ℕ, zero, suc, ◌+◌, ◌-◌, ◌<◌, ◌≤◌, ◌⊎◌, Bool, true, false, List, [], ◌∷◌, ◌++◌, length, slice_get, swap, Option, Some, None, refl, sym, ap, ◌∙◌, subst, inl, inr, arith, length-append}
-use Rattle.std.specs.Map.{keys_of, values_of}
+use Rattle.std.proofs.Common.{◌≡◌, ◌≢◌, ℕ, ◌+◌, ◌-◌, ◌<◌, ◌≤◌, true, false, List, [], ◌∷◌, ◌++◌, length, slice_get, swap, Some, sym, ap, ◌∙◌, subst, inl, inr, arith, length-append}
 use Rattle.std.specs.declared.vec.Vec.{Vec}
 use Rattle.std.specs.declared.alloc.Global.{Global}
 use Rattle.std.proofs.lemmas.Bool.{cases_lt, cases_eq}
 use Rattle.std.proofs.lemmas.Option.{same_Some, slice_get_within}
-use Rattle.marked_map.specs.MarkedMap.{MarkedPairs, with_mark, without_mark, IsAbsent, IsMarked, IsUnmarked, Enters, KeepsOthers}
+use Rattle.marked_map.specs.MarkedMap.{with_mark, without_mark, Enters}
 use Rattle.marked_map.proofs.MarkedMapLemmas.{slice_get-swap_to, slice_get-swap_from, slice_get-swap_else}
 use Rattle.cfd_semantics.specs.declared.dependency.TableauRow.{TableauRow}
 use Rattle.cfd_semantics.specs.Violation.{Entry}
 use Rattle.group_index.specs.declared.group.Group.{Group}
 use Rattle.group_index.specs.declared.group.Group.TheVariants.{One}
 use Rattle.group_index.specs.Groups.{KeyedGroup, KeyedGroups, is_in, is_dirty_at, AreMarked, AreMarkedBut}
-use Rattle.group_index.proofs.GroupFacts.{same_key, same_test, holds_at, found_in, is_in_from, key_at, set_value_at, set_elsewhere, pushed_before}
+use Rattle.group_index.proofs.GroupFacts.{same_key, same_test, found_in, is_in_from, set_value_at, set_elsewhere, pushed_before}
 
 module _ (rows : List (TableauRow ℕ)) where
   -- ---- a mark is put, or taken off

@@ -1,19 +1,18 @@
 -- A group whose last pair is taken goes with its key.
-use Rattle.std.proofs.Common.{◌≡◌, ◌≢◌, ℕ, ◌<◌, ◌≤◌, Bool, true, false, not, ◌&&◌, List, slice_get, Some, refl, sym, ap, ◌∙◌, subst, inl, inr}
-use Rattle.std.specs.Map.{keys_of, values_of}
+use Rattle.std.proofs.Common.{◌≡◌, ◌≢◌, ℕ, Bool, true, false, not, ◌&&◌, List, slice_get, Some, refl, sym, ap, ◌∙◌, inl, inr}
 use Rattle.std.specs.Str.{bytes_eq}
 use Rattle.std.specs.declared.vec.Vec.{Vec}
 use Rattle.std.specs.declared.alloc.Global.{Global}
 use Rattle.std.proofs.lemmas.Bool.{cases_lt, cases_eq}
 use Rattle.std.proofs.lemmas.Option.{same_Some}
-use Rattle.marked_map.specs.MarkedMap.{MarkedPairs, HasKey, IsAbsent, AreDistinct, IsMarked, IsUnmarked, KeepsOthers}
+use Rattle.marked_map.specs.MarkedMap.{IsAbsent, AreDistinct, KeepsOthers}
 use Rattle.cfd_semantics.specs.declared.dependency.TableauRow.{TableauRow}
 use Rattle.cfd_semantics.specs.Violation.{Entry}
 use Rattle.group_index.specs.declared.group.Group.{Group}
 use Rattle.group_index.specs.GroupSet.{is_entry}
-use Rattle.group_index.specs.Pairs.{pairs_of, has_pair, is_pair, IsAlone}
-use Rattle.group_index.specs.Groups.{KeyedGroup, KeyedGroups, is_in, is_dirty_at, AreMarked}
-use Rattle.group_index.proofs.GroupFacts.{same_key, equal_ids, same_ids, same_test, both_true, clash, isnt, not_true, holds_at, found_in, is_in_from, key_at, pair_at, set_value_at, set_here, set_elsewhere, is_entry_parts, is_entry_from}
+use Rattle.group_index.specs.Pairs.{pairs_of, has_pair, IsAlone}
+use Rattle.group_index.specs.Groups.{KeyedGroup, KeyedGroups, is_in, AreMarked}
+use Rattle.group_index.proofs.GroupFacts.{same_key, equal_ids, same_ids, same_test, both_true, clash, isnt, not_true, holds_at, found_in, is_in_from, key_at, set_value_at, set_here, set_elsewhere, is_entry_parts, is_entry_from}
 
 -- nothing has a key that isn't there
 pub content_absent : (old : KeyedGroups) (entry : Entry ℕ) (key : Vec ℕ Global) → key.items ≡ entry.x → IsAbsent same_key old key → (e : Entry ℕ) → is_in old.pairs e ≡ (not (is_entry entry e) && is_in old.pairs e)

@@ -1,6 +1,6 @@
 -- What the entries of a row make of a change of the groups.
-use Rattle.std.proofs.Common.{◌≡◌, ◌≢◌, ℕ, zero, suc, ◌<◌, ◌≤◌, Bool, true, false, cond, not, ◌&&◌, ◌||◌, List, [], ◌∷◌, length, slice_get, Option, Some, None, refl, sym, ap, ◌∙◌, subst, arith}
-use Rattle.std.specs.Prelude.{◌==◌, nat_eq, slice_index, All, vec_capacity}
+use Rattle.std.proofs.Common.{◌≡◌, ℕ, ◌<◌, Bool, true, false, cond, not, ◌&&◌, ◌||◌, List, [], ◌∷◌, length, Option, Some, None, refl, sym, ap, ◌∙◌, subst, arith}
+use Rattle.std.specs.Prelude.{◌==◌, slice_index}
 use Rattle.std.specs.Option.{option_map_or, ForSome}
 use Rattle.std.specs.Str.{bytes_eq}
 use Rattle.std.proofs.lemmas.Bool.Decides.{nat_tests}
@@ -9,7 +9,7 @@ use Rattle.cfd_semantics.specs.Violation.{Entry}
 use Rattle.row_store.specs.Watch.{entries_of, AddsEntries, RemovesEntries, IsWide}
 use Rattle.group_index.specs.GroupSet.{GroupsMade, GroupSet, is_entry, holds_entry, gives_entry, attributes_of}
 use Rattle.group_index.specs.Keys.{ids_at, gives_alike}
-use Rattle.group_index.specs.Groups.{KeyedGroups, set_of, entries_in, is_in, IsEntered, IsLeft}
+use Rattle.group_index.specs.Groups.{KeyedGroups, set_of, is_in, IsEntered, IsLeft}
 use Rattle.group_index.specs.Laws.{HasAll, entry_at, given, own_entry}
 use Rattle.group_index.proofs.GroupFacts.{equal_ids, same_ids, both_true, both_so, clash, isnt, found_in, is_entry_parts}
 

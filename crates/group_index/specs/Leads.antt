@@ -1,5 +1,5 @@
 -- The partners of the rows of a group, told from the least rows of two of its A ids.
-use Rattle.std.specs.Prelude.{◌≡◌, ◌≢◌, ℕ, ◌≤◌, ◌↔◌, ◌⊎◌, Bool, false, map, cond, min, nat_eq, nat_lt, List, ◌++◌, AllPairs, Contains, Option, Some, None, filter_map, IsTrue}
+use Rattle.std.specs.Prelude.{◌≡◌, ◌≢◌, ℕ, ◌≤◌, ◌↔◌, ◌⊎◌, false, map, cond, min, nat_eq, nat_lt, List, ◌++◌, AllPairs, Contains, Option, Some, None, filter_map, IsTrue}
 use Rattle.std.specs.Option.{option_map, option_map_or}
 use Rattle.cfd_semantics.specs.declared.pattern.Pattern.{Pattern}
 use Rattle.cfd_semantics.specs.declared.violation.Violation.{Violation}

@@ -4,8 +4,7 @@ use Rattle.std.specs.Prelude.{◌⊎◌}
 use Rattle.schema_core.specs.declared.limits.Limits.{Limits}
 use Rattle.rule_model.specs.Books.{Book}
 use Rattle.edit_log.specs.declared.edit.Edit.{Edit}
-use Rattle.bench_core.specs.History.{History, IsUndone, IsRedone, history_edited}
-use Rattle.bench_core.specs.State.{State}
+use Rattle.bench_core.specs.History.{History, history_edited}
 use Rattle.bench_core.specs.declared.edit.Applied.{Applied}
 use Rattle.bench_core.specs.declared.edit.EditFault.{EditFault}
 use Rattle.session.specs.Replies.{count_text, done_text, explain_text, export_text, fault_text, list_text, refused_text, IsEditReply, IsRedoReply, IsReply, IsUndoReply}

@@ -1,6 +1,6 @@
 -- The rows of a table that a bench has, as they are exported.
-use Rattle.std.proofs.Common.{◌≡◌, ℕ, zero, suc, ◌<◌, List, [], ◌∷◌, ◌++◌, length, map, get_or, All, Result, Ok, Err, OnOk, codes, refl, sym, ap, append_assoc, arith, ◌∙◌}
-use Rattle.std.specs.List.{AllZip, slice_get}
+use Rattle.std.proofs.Common.{◌≡◌, ℕ, zero, suc, ◌<◌, List, [], ◌∷◌, ◌++◌, length, get_or, All, Result, Ok, Err, OnOk, codes, refl, sym, ap, append_assoc, arith, ◌∙◌}
+use Rattle.std.specs.List.{AllZip}
 use Rattle.std.proofs.lemmas.List.{length-map}
 use Rattle.std.proofs.lemmas.List.Elements.{All-map, All-weaker}
 use Rattle.std.proofs.lemmas.Option.{slice_get_read}

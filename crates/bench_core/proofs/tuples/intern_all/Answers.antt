@@ -1,4 +1,3 @@
-use Rattle.std.proofs.Common.{◌≡◌}
 use Rattle.value_pool.specs.Pool.{HasId}
 use Rattle.bench_core.proofs.Named.{ids-more, kept-twice}
 use Rattle.bench_core.proofs.tuples.intern_all.Goals as goal

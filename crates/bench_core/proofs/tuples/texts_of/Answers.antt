@@ -1,4 +1,4 @@
-use Rattle.std.proofs.Common.{◌≡◌, ◌++◌, ◌∷◌, [], map, take, ap, sym, ◌∙◌}
+use Rattle.std.proofs.Common.{◌++◌, ◌∷◌, [], map, take, ap, sym, ◌∙◌}
 use Rattle.bench_core.specs.Stored.{text_of}
 use Rattle.bench_core.proofs.Named.{texts-more}
 use Rattle.bench_core.proofs.tuples.texts_of.Goals as goal

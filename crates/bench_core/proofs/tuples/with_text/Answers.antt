@@ -1,4 +1,4 @@
-use Rattle.std.proofs.Common.{◌≡◌, map, slice_set, ap, sym, subst, ◌∙◌}
+use Rattle.std.proofs.Common.{map, slice_set, ap, sym, subst, ◌∙◌}
 use Rattle.row_store.specs.Tuple.{ids_of}
 use Rattle.value_pool.specs.Pool.{HasId}
 use Rattle.bench_core.specs.Stored.{HaveTexts, text_of}

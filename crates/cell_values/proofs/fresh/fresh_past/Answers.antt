@@ -1,4 +1,4 @@
-use Rattle.std.proofs.Common.{◌≡◌, ◌∙◌, sym, subst, List, ℕ, string_bytes}
+use Rattle.std.proofs.Common.{sym, subst, List, ℕ, string_bytes}
 use Rattle.value_pool.specs.Pool.{HasId, IsNew}
 use Rattle.cell_values.specs.Fresh.{IsFreshPast}
 use Rattle.cell_values.proofs.Among.{Contains_if_HasId, absent_if_IsNew}

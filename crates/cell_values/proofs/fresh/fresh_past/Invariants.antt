@@ -1,6 +1,6 @@
-use Rattle.std.proofs.Common.{◌≡◌, ℕ, ◌+◌, ◌-◌, ◌<◌, ◌≤◌, Contains, length}
+use Rattle.std.proofs.Common.{◌+◌, ◌-◌, length}
 use Rattle.std.specs.String.{string_bytes}
-use Rattle.cell_values.specs.Fresh.{tildes, longest}
+use Rattle.cell_values.specs.Fresh.{longest}
 use Rattle.cell_values.proofs.Tildes.{IsTooShort}
 use Rattle.cell_values.proofs.fresh.fresh_past.Given as goal
 

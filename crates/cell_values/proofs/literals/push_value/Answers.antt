@@ -1,4 +1,4 @@
-use Rattle.std.proofs.Common.{◌≡◌, ℕ, sym, ◌∙◌, ap, ◌++◌, List, subst}
+use Rattle.std.proofs.Common.{ℕ, sym, ◌∙◌, ap, ◌++◌, List, subst}
 use Rattle.std.proofs.lemmas.List.{append-nil}
 use Rattle.value_pool.specs.Pool.{HasId, IsNew}
 use Rattle.case_tree.specs.declared.clauses.Literal.{Literal}

@@ -1,4 +1,4 @@
-use Rattle.std.proofs.Common.{◌≡◌, ℕ, ◌+◌, ◌<◌, ◌∙◌, sym, refl, ap, true, cond, [], ◌∷◌, ◌++◌, length, take, List, Bool, arith}
+use Rattle.std.proofs.Common.{ℕ, ◌+◌, ◌<◌, ◌∙◌, sym, refl, ap, true, cond, [], ◌∷◌, ◌++◌, length, take, List, Bool, arith}
 use Rattle.std.proofs.lemmas.List.{append_assoc}
 use Rattle.std.proofs.lemmas.Option.{get_or_from_slice_get}
 use Rattle.case_tree.specs.declared.clauses.Literal.{Literal}

@@ -1,5 +1,4 @@
-use Rattle.std.proofs.Common.{◌≡◌, ℕ, ◌+◌, ◌<◌, false, get_or, sym, subst, arith}
-use Rattle.cell_values.specs.Standing.{chosen}
+use Rattle.std.proofs.Common.{◌+◌, false, get_or, sym, arith}
 use Rattle.cell_values.proofs.Lists.{find_first, find_none}
 use Rattle.cell_values.proofs.standing.chosen.Goals as goal
 

@@ -1,4 +1,4 @@
-use Rattle.std.proofs.Common.{◌≡◌, ◌+◌, ◌^◌, ◌<◌, length, take}
+use Rattle.std.proofs.Common.{◌≡◌, ◌^◌, ◌<◌, take}
 use Rattle.std.specs.Prelude.{sum_by}
 use Rattle.cell_values.proofs.Counting.{room}
 use Rattle.cell_values.proofs.values.check_few.Given as goal

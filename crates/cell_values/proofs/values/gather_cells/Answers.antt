@@ -1,6 +1,5 @@
 use Rattle.std.proofs.Common.{◌∙◌, ℕ, List, [], false, ap}
 use Rattle.cell_values.specs.TableRules.{cells_at}
-use Rattle.cell_values.specs.declared.values.Gathered.{Gathered}
 use Rattle.cell_values.specs.Values.{gather}
 use Rattle.cell_values.proofs.Gathering.{gather_is}
 use Rattle.cell_values.proofs.values.gather_cells.Goals as goal

@@ -1,4 +1,4 @@
-use Rattle.std.proofs.Common.{◌≡◌, ℕ, List, subst}
+use Rattle.std.proofs.Common.{ℕ, List, subst}
 use Rattle.value_pool.specs.Pool.{Interns}
 use Rattle.cell_values.specs.Values.{once_after}
 use Rattle.cell_values.proofs.Gathering.{once_after_step, interned_is}

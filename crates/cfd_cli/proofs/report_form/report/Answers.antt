@@ -1,4 +1,4 @@
-use Rattle.std.proofs.Common.{◌≡◌, subst}
+use Rattle.std.proofs.Common.{subst}
 use Rattle.rule_model.specs.Books.{Book}
 use Rattle.cfd_cli.specs.ReportForm.{report_of, report_outputs}
 use Rattle.cfd_cli.specs.Project.{read_of}

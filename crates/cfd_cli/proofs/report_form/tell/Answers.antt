@@ -1,8 +1,7 @@
-use Rattle.std.proofs.Common.{ap, ◌∙◌, sym, subst}
+use Rattle.std.proofs.Common.{sym, subst}
 use Rattle.violation_report.specs.Listing.{listing}
-use Rattle.cfd_cli.specs.Output.{IsWhole, Only}
-use Rattle.cfd_cli.specs.ReportForm.{report_of}
-use Rattle.cfd_cli.proofs.Reports.{Ends-wider, found_is_whole}
+use Rattle.cfd_cli.specs.Output.{IsWhole}
+use Rattle.cfd_cli.proofs.Reports.{found_is_whole}
 use Rattle.cfd_cli.proofs.report_form.tell.Goals as goal
 
 pub end_with-requires : goal.end_with-requires

@@ -1,4 +1,4 @@
-use Rattle.std.proofs.Common.{◌≡◌, Some, arith, sym, ◌∙◌}
+use Rattle.std.proofs.Common.{◌≡◌, Some, arith, sym}
 use Rattle.cell_values.proofs.ValueOrder.{found_in}
 use Rattle.cfd_consistency.proofs.Bounds.{found_within}
 use Rattle.cfd_consistency.proofs.witness.text_at.Goals as goal

@@ -1,7 +1,7 @@
 use Rattle.std.proofs.Common.{◌≡◌, sym, ap, subst, refl, ◌∙◌, not, Bool, true, false, [], ◌∷◌, ◌++◌, length, slice_get}
 use Rattle.cind_index.specs.RowsHeld.{has, rows_on}
 use Rattle.cind_index.specs.Entries.{is_entry}
-use Rattle.cind_index.specs.KeysHeld.{KeyedRows, HasKeyAt, HoldTheSame, HoldsMore, KeepsKeys, held, AreMarkedRight, AreMarkedRightBut}
+use Rattle.cind_index.specs.KeysHeld.{KeyedRows, HoldTheSame, HoldsMore, KeepsKeys, AreMarkedRightBut}
 use Rattle.cind_index.proofs.PairFacts.{MarksRight, push_last, push_but, set_but, set_right, set_here}
 use Rattle.cind_index.proofs.RowFacts.{same_sides_dirty}
 use Rattle.cind_index.proofs.KeyFacts.{entered_new, entered_there, put_new, entry_new, put_there, entry_there, same_there, same_keys, written, pushed, has_key_at, dirty_pair, to_right, from_right, from_but, err_of}

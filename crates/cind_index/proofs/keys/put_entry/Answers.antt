@@ -1,5 +1,4 @@
 use Rattle.std.proofs.Common.{ap, not, ◌∙◌}
-use Rattle.cind_index.specs.Entries.{is_entry}
 use Rattle.cind_index.proofs.KeyFacts.{nothing_more, same_then_same}
 use Rattle.cind_index.proofs.keys.put_entry.Goals as goal
 

@@ -1,4 +1,4 @@
-use Rattle.std.proofs.Common.{◌≡◌, ◌<◌, sym, ap, subst, refl, ◌∙◌, Some, slice_get}
+use Rattle.std.proofs.Common.{◌≡◌, ◌<◌, sym, subst, refl, ◌∙◌}
 use Rattle.std.proofs.lemmas.Option.{same_Some}
 use Rattle.cind_index.specs.declared.side.Side.{Side}
 use Rattle.cind_index.specs.RowsHeld.{rows_on, HasNothing}

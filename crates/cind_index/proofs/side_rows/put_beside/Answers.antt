@@ -1,4 +1,4 @@
-use Rattle.std.proofs.Common.{None, Some, Ok, Err, Result, OnOk, sym, ap, refl, ◌∙◌, ◌≡◌, ℕ, Bool, true, false, List}
+use Rattle.std.proofs.Common.{Some, Ok, Err, Result, OnOk, sym, ap, refl, ◌∙◌, ◌≡◌, ℕ, Bool, true, false, List}
 use Rattle.std.specs.Prelude.{◌==◌, ◌||◌, ◌&&◌}
 use Rattle.std.specs.Ordering.{nat_cmp, is_eq}
 use Rattle.std.specs.Cmp.Lexicographic.{slice_cmp}
@@ -7,7 +7,6 @@ use Rattle.std.specs.Result.{is_err}
 use Rattle.std.specs.Str.{bytes_eq}
 use Rattle.std.specs.declared.vec.Vec.{Vec}
 use Rattle.std.specs.declared.alloc.Global.{Global}
-use Rattle.cind_index.specs.RowsHeld.{in_map, rows_in, Patterns}
 use Rattle.cind_index.proofs.MapFacts.{rows_updated, beside_held, among}
 use Rattle.cind_index.proofs.side_rows.put_beside.Goals as goal
 

@@ -1,6 +1,4 @@
-use Rattle.std.proofs.Common.{sym, ap, ◌∙◌, ◌&&◌, ◌||◌, not}
-use Rattle.std.specs.Prelude.{nat_eq, is_some}
-use Rattle.cfd_semantics.specs.Pattern.{matches, all_match}
+use Rattle.std.proofs.Common.{sym, ◌∙◌}
 use Rattle.group_index.proofs.PairFacts.{clean_without_pairs, dirty_by_heads}
 use Rattle.group_index.proofs.groups.is_dirty.Goals as goal
 

@@ -1,6 +1,5 @@
 use Rattle.std.proofs.Common.{◌≡◌, true, refl, sym, ap, ◌∙◌}
 use Rattle.std.specs.Prelude.{nat_eq}
-use Rattle.cfd_semantics.specs.declared.pattern.Pattern.{Pattern}
 use Rattle.cfd_semantics.specs.Pattern.{matches, all_match}
 use Rattle.cfd_semantics.specs.Violation.{Entry}
 use Rattle.group_index.specs.Pairs.{pairs_of}

@@ -1,5 +1,4 @@
-use Rattle.std.proofs.Common.{◌≡◌, true, sym, ap, ◌∙◌, arith}
-use Rattle.group_index.specs.Groups.{KeyedGroup, is_dirty_at}
+use Rattle.std.proofs.Common.{true, sym, ap, ◌∙◌, arith}
 use Rattle.group_index.specs.Pairs.{is_dirty, pairs_of}
 use Rattle.group_index.proofs.GroupFacts.{pair_at}
 use Rattle.group_index.proofs.MarkFacts.{marked_where_dirty, unmarked_where_clean, content_marked, content_unmarked}

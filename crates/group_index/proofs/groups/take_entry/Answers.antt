@@ -1,4 +1,4 @@
-use Rattle.std.proofs.Common.{◌≡◌, sym, ◌∙◌, arith}
+use Rattle.std.proofs.Common.{sym, ◌∙◌, arith}
 use Rattle.group_index.specs.Pairs.{pairs_of, IsTaken}
 use Rattle.group_index.proofs.AnswerFacts.{kept_answer}
 use Rattle.group_index.proofs.GroupFacts.{equal_ids, pair_at, set_as_long, content_taken}

@@ -1,12 +1,10 @@
-use Rattle.std.proofs.Common.{◌≡◌, ℕ, List, ◌++◌, get_or, length, Ok, Err, OnOk, ap, ◌∙◌, append_assoc, codes}
+use Rattle.std.proofs.Common.{◌≡◌, ℕ, List, get_or, length, ap, ◌∙◌}
 use Rattle.schema_core.specs.declared.schema.Schema.{Schema}
 use Rattle.schema_core.specs.declared.schema.Table.{Table}
 use Rattle.rule_model.specs.Books.{Book}
 use Rattle.bench_core.specs.State.{Row, rows_at}
-use Rattle.csv_tables.specs.WrittenFiles.{table_text}
 use Rattle.cfd_semantics.specs.Tuple.{tuples_of}
 use Rattle.violation_report.proofs.Loops.{has_table}
-use Rattle.session.specs.Replies.{counted_text, rows_text}
 use Rattle.session.proofs.Exported.{exported, rows_are_wide}
 use Rattle.session.proofs.export.push_rows.Goals as goal
 

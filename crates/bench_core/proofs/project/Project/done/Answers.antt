@@ -1,6 +1,5 @@
-use Rattle.std.proofs.Common.{◌≡◌, ◌<◌, map, length, ap, sym, subst, ◌∙◌, Some, arith}
+use Rattle.std.proofs.Common.{◌<◌, length, ap, sym, subst, ◌∙◌}
 use Rattle.std.proofs.lemmas.List.{length-map}
-use Rattle.std.specs.List.{slice_get}
 use Rattle.std.specs.FinMap as finmap
 use Rattle.bench_core.specs.Stored.{Stored, stored}
 use Rattle.bench_core.specs.Changes.{CanMake, after_change, history_of}
@@ -54,7 +53,7 @@ returns-clause-held c =
     let after = c.len-after.ensures ∙ ap (λ (t : Stored). finmap.len t.rows) c.make.ensures in
     let same = stored-set c.args.self.now.stores.items c.args.change.table store c.make.new.store (after_change c.args.change) inside c.index_mut-store.ensures.value c.make.ensures in
     let counted = n-counted c.args.self.now.rules c.args.self.now.limits c.args.self.now.pool (tables_of c.args.self.now) c.args.self.now.counts.weights.items c.args.self.now.counts.rows c.args.self.now.counts.cells c.requires.held.history.present c.requires.held.counts c.args.change.table (stored store) at (after_change c.args.change) c.requires.within c.len-before.result c.len-after.result c.len-before.ensures after
-        c.recount.new.self.weights.items c.recount.new.self.rows c.recount.new.self.cells (ap (λ w. w.items) c.recount.ensures.weights) c.recount.ensures.rows c.recount.ensures.cells in
+    c.recount.new.self.weights.items c.recount.new.self.rows c.recount.new.self.cells (ap (λ w. w.items) c.recount.ensures.weights) c.recount.ensures.rows c.recount.ensures.cells in
     subst (λ tables. Holds c.args.self.now.rules c.args.self.now.limits c.args.self.now.pool c.push_ready.new.self tables c.recount.new.self.weights.items c.recount.new.self.rows c.recount.new.self.cells) (sym same)
     (held-more c.requires.held c.args.change c.requires.can c.requires.is c.requires.within c.push_ready.new.self c.push_ready.ensures.past c.push_ready.ensures.undone c.recount.new.self.weights.items c.recount.new.self.rows c.recount.new.self.cells counted)
 

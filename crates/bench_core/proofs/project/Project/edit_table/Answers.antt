@@ -1,4 +1,4 @@
-use Rattle.std.proofs.Common.{◌≡◌, ◌<◌, length, Ok, IsSomeAnd, ap, sym, subst, ◌∙◌}
+use Rattle.std.proofs.Common.{◌<◌, length, Ok, IsSomeAnd, ap, sym, subst, ◌∙◌}
 use Rattle.std.proofs.lemmas.List.{length-map}
 use Rattle.std.specs.List.{slice_get, slice_set}
 use Rattle.bench_core.specs.History.{accepted}

@@ -1,4 +1,4 @@
-use Rattle.std.proofs.Common.{◌≡◌, ◌<◌, length, arith}
+use Rattle.std.proofs.Common.{◌<◌, length, arith}
 use Rattle.std.proofs.lemmas.List.{length-map}
 use Rattle.bench_core.specs.Stored.{Stored, stored, RowsHaveTexts}
 use Rattle.bench_core.specs.Bench.{tables_of}

@@ -1,6 +1,5 @@
-use Rattle.std.proofs.Common.{◌≡◌, ◌<◌, [], map, length, ap, sym, subst, ◌∙◌, Some, refl, option_copied, arith}
+use Rattle.std.proofs.Common.{◌≡◌, ◌<◌, length, ap, sym, subst, ◌∙◌, Some, refl, option_copied, arith}
 use Rattle.std.proofs.lemmas.List.{length-map}
-use Rattle.std.specs.List.{slice_get}
 use Rattle.std.specs.FinMap as finmap
 use Rattle.edit_log.specs.Trail.{first_of}
 use Rattle.edit_log.specs.Log.{MovesForward}
@@ -118,7 +117,7 @@ returns-clause-held c =
     let same = stored-set c.args.self.now.stores.items c.in-Some.change.now.table store c.make.new.store (after_change c.in-Some.change.now) inside c.index_mut-store.ensures.value becomes in
     let moved = subst (λ change. MovesForward change c.args.self.now.log c.step_forward.new.log) last c.step_forward.ensures in
     let counted = n-counted c.args.self.now.rules c.args.self.now.limits c.args.self.now.pool (tables_of c.args.self.now) c.args.self.now.counts.weights.items c.args.self.now.counts.rows c.args.self.now.counts.cells c.requires.held.history.present c.requires.held.counts c.in-Some.change.now.table (stored store) at (after_change c.in-Some.change.now) within c.len-before.result c.len-after.result before after
-        c.recount.new.self.weights.items c.recount.new.self.rows c.recount.new.self.cells (ap (λ w. w.items) c.recount.ensures.weights) c.recount.ensures.rows c.recount.ensures.cells in
+    c.recount.new.self.weights.items c.recount.new.self.rows c.recount.new.self.cells (ap (λ w. w.items) c.recount.ensures.weights) c.recount.ensures.rows c.recount.ensures.cells in
     subst (λ tables. Holds c.args.self.now.rules c.args.self.now.limits c.args.self.now.pool c.step_forward.new.log tables c.recount.new.self.weights.items c.recount.new.self.rows c.recount.new.self.cells) (sym same)
     (held-forward c.requires.held c.in-Some.change.now c.step_forward.new.log moved c.recount.new.self.weights.items c.recount.new.self.rows c.recount.new.self.cells counted)
 

@@ -1,6 +1,5 @@
-use Rattle.std.proofs.Common.{◌≡◌, ◌<◌, [], map, length, ap, sym, subst, ◌∙◌, Some, refl, option_copied, arith}
+use Rattle.std.proofs.Common.{◌≡◌, ◌<◌, length, ap, sym, subst, ◌∙◌, Some, refl, option_copied, arith}
 use Rattle.std.proofs.lemmas.List.{length-map}
-use Rattle.std.specs.List.{slice_get}
 use Rattle.std.specs.FinMap as finmap
 use Rattle.edit_log.specs.Trail.{last_of}
 use Rattle.edit_log.specs.Log.{MovesBack}
@@ -8,7 +7,7 @@ use Rattle.bench_core.specs.History.{IsUndone}
 use Rattle.bench_core.specs.Stored.{Stored, stored}
 use Rattle.bench_core.specs.Changes.{HasMade, before_change, history_of, states_before}
 use Rattle.bench_core.specs.Bench.{Holds, tables_of, history}
-use Rattle.bench_core.proofs.Holding.{no-last, no-past, some-last, not-nothing-to-undo, last-made, last-is, bench-back, held-back, history-was-undone, on-err, same-stored, stored-at, stored-set, stored-same, there-within, of-table, id-left, n-in_weights, n-rows-fit, n-cells-fit, n-counted}
+use Rattle.bench_core.proofs.Holding.{no-last, no-past, some-last, not-nothing-to-undo, last-made, last-is, bench-back, held-back, history-was-undone, on-err, same-stored, stored-at, stored-set, stored-same, there-within, of-table, n-in_weights, n-rows-fit, n-cells-fit, n-counted}
 use Rattle.bench_core.proofs.project.Project.undo.Goals as goal
 
 pub returns-in_default-clause-nothing : goal.returns-in_default-clause-nothing
@@ -109,7 +108,7 @@ returns-clause-held c =
     let same = stored-set c.args.self.now.stores.items c.in-Some.change.now.table store c.take_back.new.store (before_change c.in-Some.change.now) inside c.index_mut-store.ensures.value becomes in
     let moved = subst (λ change. MovesBack change c.args.self.now.log c.step_back.new.log) last c.step_back.ensures in
     let counted = n-counted c.args.self.now.rules c.args.self.now.limits c.args.self.now.pool (tables_of c.args.self.now) c.args.self.now.counts.weights.items c.args.self.now.counts.rows c.args.self.now.counts.cells c.requires.held.history.present c.requires.held.counts c.in-Some.change.now.table (stored store) at (before_change c.in-Some.change.now) within c.len-before.result c.len-after.result before after
-        c.recount.new.self.weights.items c.recount.new.self.rows c.recount.new.self.cells (ap (λ w. w.items) c.recount.ensures.weights) c.recount.ensures.rows c.recount.ensures.cells in
+    c.recount.new.self.weights.items c.recount.new.self.rows c.recount.new.self.cells (ap (λ w. w.items) c.recount.ensures.weights) c.recount.ensures.rows c.recount.ensures.cells in
     subst (λ tables. Holds c.args.self.now.rules c.args.self.now.limits c.args.self.now.pool c.step_back.new.log tables c.recount.new.self.weights.items c.recount.new.self.rows c.recount.new.self.cells) (sym same)
     (held-back c.requires.held c.in-Some.change.now c.step_back.new.log moved c.recount.new.self.weights.items c.recount.new.self.rows c.recount.new.self.cells counted)
 

@@ -1,4 +1,4 @@
-use Rattle.std.proofs.Common.{refl, sym, ◌∙◌, ap, ◌≡◌, Some, None}
+use Rattle.std.proofs.Common.{refl, sym, ◌∙◌, ap, ◌≡◌, Some}
 use Rattle.std.specs.FinMap as finmap
 use Rattle.row_store.specs.Tuple.{ids_of, ids_behind}
 use Rattle.bench_core.specs.Stored.{HaveTexts, stored}

@@ -1,4 +1,4 @@
-use Rattle.std.proofs.Common.{◌∙◌, sym, ap, List}
+use Rattle.std.proofs.Common.{◌∙◌, ap}
 use Rattle.std.specs.List.{list_any}
 use Rattle.cell_values.specs.TableRules.{stands_in}
 use Rattle.cell_values.proofs.Lists.{list_any-map}

@@ -1,4 +1,4 @@
-use Rattle.std.proofs.Common.{sym, ◌<◌, length, arith, ◌≡◌, ℕ, subst}
+use Rattle.std.proofs.Common.{sym, ◌<◌, length, arith}
 use Rattle.std.proofs.lemmas.Option.{get_or_from_slice_get}
 use Rattle.cell_values.specs.TableRules.{cells_in_rule, cells_at}
 use Rattle.cell_values.specs.Values.{gather}

@@ -1,8 +1,7 @@
-use Rattle.std.proofs.Common.{inl, inr, ◌≡◌, ◌∙◌, ℕ, [], List, length, sym, ap, subst}
+use Rattle.std.proofs.Common.{inl, inr, ◌≡◌, ℕ, [], List, subst}
 use Rattle.std.specs.Prelude.{zip}
 use Rattle.cfd_semantics.specs.declared.pattern.Pattern.{Pattern}
-use Rattle.cell_values.specs.declared.values.Gathered.{Gathered}
-use Rattle.cell_values.specs.TableRules.{cells_for, cells_in_row}
+use Rattle.cell_values.specs.TableRules.{cells_for}
 use Rattle.cell_values.specs.Values.{gather}
 use Rattle.cell_values.proofs.Lists.{zip_left_ended, zip_right_ended}
 use Rattle.cell_values.proofs.Gathering.{gather_row}

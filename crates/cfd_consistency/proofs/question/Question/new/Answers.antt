@@ -1,11 +1,11 @@
-use Rattle.std.proofs.Common.{◌≡◌, ℕ, List, sym, subst, ◌∙◌, ap, []}
+use Rattle.std.proofs.Common.{◌≡◌, List, sym, subst, ◌∙◌, ap, []}
 use Rattle.std.specs.List.{flat_map}
 use Rattle.schema_core.specs.declared.schema.Schema.{Schema}
 use Rattle.rule_model.specs.declared.dep.Dep.{Dep}
 use Rattle.schema_core.specs.Lookups.{attrs_at}
 use Rattle.schema_core.specs.declared.schema.Attr.{Attr}
 use Rattle.rule_model.specs.Books.{book_deps}
-use Rattle.case_tree.specs.CaseTree.{ClauseSet, IsWellFormed, clause_set}
+use Rattle.case_tree.specs.CaseTree.{IsWellFormed}
 use Rattle.cell_values.specs.declared.values.CellValues.{CellValues}
 use Rattle.cell_values.specs.TableRules.{Rule, rules_with}
 use Rattle.cfd_consistency.specs.Question.{cells_from, question, question_of, rule_clauses, table_question}

@@ -1,9 +1,9 @@
-use Rattle.std.proofs.Common.{◌≡◌, sym, ap, subst, refl, ◌∙◌, false, ℕ, Option, Some, None}
+use Rattle.std.proofs.Common.{sym, ap, subst, refl, ◌∙◌, ℕ, Option, Some, None}
 use Rattle.std.specs.Prelude.{IfSome}
 use Rattle.std.proofs.lemmas.Option.{same_Some}
 use Rattle.row_store.specs.Tuple.{ids_of}
 use Rattle.row_store.specs.Watch.{IsWide}
-use Rattle.cind_index.specs.Entries.{ids_in, is_entry, gives_on, key_on, pattern_on}
+use Rattle.cind_index.specs.Entries.{ids_in, is_entry, key_on, pattern_on}
 use Rattle.cind_index.specs.KeysHeld.{held, HasKeyAt}
 use Rattle.cind_index.specs.Laws.{values_there}
 use Rattle.cind_index.specs.Index.{made_of, given}

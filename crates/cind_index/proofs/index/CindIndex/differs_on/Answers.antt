@@ -1,8 +1,7 @@
-use Rattle.std.proofs.Common.{◌≡◌, ◌∙◌, sym, ap, subst, Bool, true, false, not, ◌&&◌, refl, Option, Bor}
-use Rattle.std.specs.Option.{ForSome}
+use Rattle.std.proofs.Common.{◌≡◌, ◌∙◌, sym, ap, Bool, true, false, not, ◌&&◌, refl, Option, Bor}
 use Rattle.row_store.specs.Tuple.{Tuple, ids_of, ids_behind}
-use Rattle.row_store.specs.Watch.{IsWide, entries_of}
-use Rattle.cind_index.specs.Entries.{gives_on, attributes_on}
+use Rattle.row_store.specs.Watch.{entries_of}
+use Rattle.cind_index.specs.Entries.{gives_on}
 use Rattle.cind_index.specs.Index.{made_of}
 use Rattle.cind_index.proofs.SideFacts.{wide_here, same_given, differ_given}
 use Rattle.cind_index.proofs.index.CindIndex.differs_on.Goals as goal

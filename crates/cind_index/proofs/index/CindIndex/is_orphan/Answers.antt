@@ -1,4 +1,4 @@
-use Rattle.std.proofs.Common.{◌≡◌, sym, ap, subst, ◌∙◌, get_or, not, true, false}
+use Rattle.std.proofs.Common.{sym, ap, subst, ◌∙◌, get_or, not, true, false}
 use Rattle.std.specs.Str.{bytes_eq}
 use Rattle.row_store.specs.Tuple.{ids_of}
 use Rattle.row_store.specs.Watch.{IsWide}

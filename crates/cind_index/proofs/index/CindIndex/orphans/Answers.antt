@@ -1,4 +1,4 @@
-use Rattle.std.proofs.Common.{◌≡◌, sym, ap, ◌∙◌, arith, get_or}
+use Rattle.std.proofs.Common.{◌≡◌, ap, ◌∙◌, arith, get_or}
 use Rattle.std.proofs.lemmas.List.Sorted.{IsPermutation-sym}
 use Rattle.cind_index.proofs.OrphanFacts.{found_more, orphans_listed}
 use Rattle.cind_index.proofs.index.CindIndex.orphans.Goals as goal

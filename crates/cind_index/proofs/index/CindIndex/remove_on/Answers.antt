@@ -1,4 +1,4 @@
-use Rattle.std.proofs.Common.{◌≡◌, sym, ap, subst, refl, ◌∙◌}
+use Rattle.std.proofs.Common.{sym, ap, subst, refl, ◌∙◌}
 use Rattle.row_store.specs.Tuple.{ids_of, ids_behind}
 use Rattle.row_store.specs.Watch.{IsWide}
 use Rattle.cind_index.specs.Entries.{ids_in, is_entry, gives_on, key_on, pattern_on}

@@ -1,4 +1,4 @@
-use Rattle.std.proofs.Common.{◌≡◌, sym, ap, subst, ◌∙◌}
+use Rattle.std.proofs.Common.{sym, ap, subst, ◌∙◌}
 use Rattle.row_store.specs.Tuple.{ids_of}
 use Rattle.row_store.specs.Watch.{IsWide}
 use Rattle.cind_index.specs.declared.side.Side.TheVariants.{Left}

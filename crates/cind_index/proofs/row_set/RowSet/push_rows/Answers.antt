@@ -1,9 +1,3 @@
-use Rattle.std.proofs.Common.{◌≡◌, ◌⊎◌, ℕ, ◌↔◌, subst, sym, ap, ◌++◌, List}
-use Rattle.std.specs.Prelude.{IsTrue}
-use Rattle.std.specs.List.{Contains}
-use Rattle.cind_index.specs.declared.row_set.RowSet.{RowSet}
-use Rattle.cind_index.specs.declared.row_set.RowSet.TheVariants.{More}
-use Rattle.cind_index.specs.RowsHeld.{is_in}
 use Rattle.cind_index.proofs.MapFacts.{on_ok}
 use Rattle.cind_index.proofs.RowFacts.{appended_rows}
 use Rattle.cind_index.proofs.row_set.RowSet.push_rows.Goals as goal

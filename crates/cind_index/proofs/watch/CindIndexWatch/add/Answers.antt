@@ -1,6 +1,5 @@
-use Rattle.std.proofs.Common.{◌≡◌, sym, ap, subst, refl, ◌∙◌}
+use Rattle.std.proofs.Common.{sym, ap, ◌∙◌}
 use Rattle.row_store.specs.Tuple.{ids_of, ids_behind}
-use Rattle.row_store.specs.Watch.{IsWide}
 use Rattle.cind_index.specs.declared.side.Side.TheVariants.{Left, Right}
 use Rattle.cind_index.specs.Entries.{table_on}
 use Rattle.cind_index.specs.KeysHeld.{held}

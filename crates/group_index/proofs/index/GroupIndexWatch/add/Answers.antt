@@ -3,8 +3,6 @@ use Rattle.std.specs.Prelude.{false, slice_index}
 use Rattle.std.specs.Option.{option_map_or}
 use Rattle.std.proofs.lemmas.List.Elements.{All-tail}
 use Rattle.row_store.specs.Tuple.{ids_of, ids_behind}
-use Rattle.row_store.specs.Watch.{IsWide}
-use Rattle.cfd_semantics.specs.Violation.{Entry}
 use Rattle.group_index.specs.GroupSet.{GroupsMade}
 use Rattle.group_index.specs.Keys.{ids_at, gives_alike}
 use Rattle.group_index.proofs.AnswerFacts.{put_answer}

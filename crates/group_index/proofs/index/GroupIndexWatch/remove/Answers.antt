@@ -1,5 +1,5 @@
-use Rattle.std.proofs.Common.{◌<◌, ◌≤◌, length, sym, ap, ◌∙◌}
-use Rattle.std.specs.Prelude.{false, slice_index, vec_capacity}
+use Rattle.std.proofs.Common.{◌<◌, length, sym, ap, ◌∙◌}
+use Rattle.std.specs.Prelude.{false, slice_index}
 use Rattle.std.specs.Option.{option_map_or}
 use Rattle.std.proofs.lemmas.List.Elements.{All-tail}
 use Rattle.row_store.specs.Tuple.{ids_of, ids_behind}

@@ -1,8 +1,8 @@
-use Rattle.std.proofs.Common.{◌≡◌, ℕ, List, Option, Some, None, sym, ap, subst, ◌∙◌, arith}
+use Rattle.std.proofs.Common.{ℕ, List, Option, None, sym, subst, ◌∙◌}
 use Rattle.std.specs.FinMap as map
 use Rattle.row_store.specs.Tuple.{ids_of}
 use Rattle.row_store.specs.Watches.{HoldsOfRow, IsInStep, with_row}
-use Rattle.row_store.proofs.OneTable.{rows_of_table, row_of_table, table_with_row, table_without_row}
+use Rattle.row_store.proofs.OneTable.{rows_of_table, row_of_table, table_without_row}
 use Rattle.row_store.proofs.InStep.{going_row_held, in_step_deleted, in_step_alike}
 use Rattle.group_index.proofs.TestFacts.{HaveThree, three_removed}
 use Rattle.group_index.proofs.tests.edits.delete_row.Goals as goal

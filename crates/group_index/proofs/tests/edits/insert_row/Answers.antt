@@ -2,7 +2,7 @@ use Rattle.std.proofs.Common.{◌≡◌, ℕ, List, Option, Some, None, sym, ap,
 use Rattle.std.specs.FinMap as map
 use Rattle.row_store.specs.Tuple.{ids_of}
 use Rattle.row_store.specs.Watches.{HoldsOfRow, IsInStep, with_row}
-use Rattle.row_store.proofs.OneTable.{rows_of_table, row_of_table, table_with_row, table_without_row}
+use Rattle.row_store.proofs.OneTable.{rows_of_table, row_of_table, table_with_row}
 use Rattle.row_store.proofs.InStep.{in_step_inserted, in_step_alike}
 use Rattle.group_index.proofs.TestFacts.{HaveThree, three_inserted}
 use Rattle.group_index.proofs.tests.edits.insert_row.Goals as goal

@@ -1,0 +1,4 @@
+pub mod ByIds
+pub mod InStep
+pub mod Watching
+pub mod Indexes
