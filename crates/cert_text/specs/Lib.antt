@@ -1,0 +1,4 @@
+pub mod CertLines
+pub mod CertFiles
+pub mod Written
+pub mod CertText
