@@ -1,0 +1,33 @@
+//! Texts of tildes, which stand for a value that no rule names.
+
+ghost use Rattle.std.specs.Prelude.{◌≡◌, IfOk};
+ghost use Rattle.std.specs.String.{string_bytes};
+ghost use Rattle.cell_values.specs.Fresh.{fresh_past, IsFreshPast, tildes};
+
+use schema_core::Text;
+use std::alloc::{AllocError, Global};
+use value_pool::Pool;
+
+/// The shortest text of more than `count` tildes that isn't among the texts.
+pub fn fresh_past(alloc: Global, count: usize, texts: &Pool) -> Result<Text, AllocError>
+    ensures text { IfOk result (λ text. text ≡ fresh_past count texts.now) }
+    ensures fresh { IfOk result (IsFreshPast count texts.now) }
+{
+    let mut text = tildes(alloc, count)?;
+    loop {
+        text.push_str("~")?;
+        if texts.find(text.as_str()).is_none() {
+            return Ok(Text::from(text));
+        }
+    }
+}
+
+fn tildes(alloc: Global, count: usize) -> Result<String, AllocError>
+    ensures { IfOk result (λ text. string_bytes text ≡ tildes count) }
+{
+    let mut text = String::new(alloc);
+    for _ in 0..count {
+        text.push_str("~")?;
+    }
+    Ok(text)
+}

@@ -1,0 +1,100 @@
+//! What a clause says of a cell: literals of the variables of its attribute's values. The variable of the first value is
+//! `first`, and the others follow.
+
+ghost use Rattle.std.specs.Prelude.{◌≡◌, ◌+◌, ◌^◌, ◌<◌, ◌++◌, ◌==◌, Bool, length, OnOk};
+ghost use Rattle.std.specs.Str.{bytes_eq};
+ghost use Rattle.cfd_semantics.specs.Pattern.{matches};
+ghost use Rattle.cell_values.specs.Literals.{literals_where, matches_as, meets, misses};
+
+use case_tree::Literal;
+use cfd_semantics::Pattern;
+use rule_model::Cell;
+use schema_core::Text;
+use std::alloc::AllocError;
+use value_pool::Pool;
+
+/// Appends that the value matches the cell.
+pub fn push_meets(
+    clause: &mut Vec<Literal>,
+    first: usize,
+    values: &Pool,
+    cell: &Cell,
+) -> Result<(), AllocError>
+    requires { first + length values.now < 2 ^ 64 }
+    ensures { OnOk result (clause.new.items ≡ clause.old.items ++ meets first values.now cell.now) }
+{
+    match cell {
+        Pattern::Is(constant) => push_value(clause, first, values, constant, true),
+        _ => push_where(clause, first, values, cell, true),
+    }
+}
+
+/// Appends that the value doesn't match the cell.
+pub fn push_misses(
+    clause: &mut Vec<Literal>,
+    first: usize,
+    values: &Pool,
+    cell: &Cell,
+) -> Result<(), AllocError>
+    requires { first + length values.now < 2 ^ 64 }
+    ensures { OnOk result (clause.new.items ≡ clause.old.items ++ misses first values.now cell.now) }
+{
+    match cell {
+        Pattern::Any => Ok(()),
+        Pattern::Is(constant) => push_value(clause, first, values, constant, false),
+        _ => push_where(clause, first, values, cell, false),
+    }
+}
+
+// Appends the literal of this sign for the text, where it is a value.
+fn push_value(
+    clause: &mut Vec<Literal>,
+    first: usize,
+    values: &Pool,
+    text: &Text,
+    positive: bool,
+) -> Result<(), AllocError>
+    requires { first + length values.now < 2 ^ 64 }
+    ensures { OnOk result (clause.new.items ≡ clause.old.items ++ literals_where (bytes_eq text.now) positive first values.now) }
+{
+    if let Some(place) = values.find(text.as_str()) {
+        clause.push(Literal {
+            var: first + place,
+            positive,
+        })?;
+    }
+    Ok(())
+}
+
+// Appends the variables of the values that match the cell, or of those that don't.
+fn push_where(
+    clause: &mut Vec<Literal>,
+    first: usize,
+    values: &Pool,
+    cell: &Cell,
+    matching: bool,
+) -> Result<(), AllocError>
+    requires { first + length values.now < 2 ^ 64 }
+    ensures { OnOk result (clause.new.items ≡ clause.old.items ++ literals_where (matches_as matching cell.now) true first values.now) }
+{
+    for place in 0..values.len() {
+        if matches(cell, values.text(place)) == matching {
+            clause.push(Literal {
+                var: first + place,
+                positive: true,
+            })?;
+        }
+    }
+    Ok(())
+}
+
+fn matches(cell: &Cell, text: &str) -> bool
+    ensures { result ≡ matches bytes_eq cell.now text.now }
+{
+    match cell {
+        Pattern::Any => true,
+        Pattern::Is(constant) => constant.is(text),
+        Pattern::In(members) => members.as_slice().iter().any(|member| member.is(text)),
+        Pattern::NotIn(members) => !members.as_slice().iter().any(|member| member.is(text)),
+    }
+}
