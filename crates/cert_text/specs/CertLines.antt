@@ -79,7 +79,7 @@ var_at kind tokens = var_from kind tokens (after_mark Equals tokens)
 -- ---- nodes
 
 abbrev pub is_counted : ℕ → Bool
-is_counted n = nat_le 1 n
+is_counted n = nat_le 1 n && nat_le n 999999999999
 
 abbrev pub clause_at : Reader ReasonName
 clause_at tokens = said (λ n. Clause n) (number_at tokens >>= only_if is_counted)

@@ -1,12 +1,11 @@
 -- Which certificates can be written.
-use Rattle.std.specs.Prelude.{◌≡◌, ℕ, ◌<◌, ◌≤◌, ◌^◌, List, [], ◌∷◌, ◌++◌, length, map, flat_map, IfSome, All}
+use Rattle.std.specs.Prelude.{◌≡◌, ℕ, ◌≤◌, List, [], ◌∷◌, ◌++◌, length, map, flat_map, IfSome, All}
 use Rattle.std.specs.Str.{IsUtf8}
 use Rattle.case_tree.specs.CaseTree.{CaseTree, IsOneTree, preorder}
 use Rattle.case_tree.specs.declared.tree.Node.{Node}
 use Rattle.case_tree.specs.declared.tree.Node.TheVariants as shape
-use Rattle.case_tree.specs.declared.tree.Reason.TheVariants as reason
+use Rattle.case_tree.specs.declared.tree.Reason.TheVariants as reasons
 use Rattle.schema_core.specs.Names.{IsName}
-use Rattle.schema_core.specs.declared.bounds.TheConstants.{NUMBER_DIGITS}
 use Rattle.rule_model.specs.declared.decl.CfdDecl.{CfdDecl}
 use Rattle.rule_model.specs.declared.decl.CfdRow.{CfdRow}
 use Rattle.rule_model.specs.Declarations.{IsWrittenRow}
@@ -55,7 +54,7 @@ IsVarOf kind (Value cell value) = IsCellOf kind cell × IsUtf8 value
 IsVarOf kind (Equal attr) = (kind ≡ Implication) × IsName attr
 
 abbrev pub IsReasonOf : Kind → ReasonName → Type 0
-IsReasonOf kind (Clause n) = (1 ≤ n) × (n < 10 ^ NUMBER_DIGITS)
+IsReasonOf kind (Clause n) = (1 ≤ n) × (n ≤ 999999999999)
 IsReasonOf kind (Two one other) = IsVarOf kind one × IsVarOf kind other
 IsReasonOf kind (NoneOf cell) = IsCellOf kind cell
 
@@ -69,7 +68,7 @@ IsNodeOf kind Open = Unit {0}
 -- a node without its names
 abbrev pub shape_of : NodeName → Node
 shape_of (Split v) = shape.Split 0
-shape_of (Leaf reason) = shape.Leaf (reason.Clause 0)
+shape_of (Leaf reason) = shape.Leaf (reasons.Clause 0)
 shape_of Open = shape.Unclosed
 
 abbrev pub shapes : List NodeLine → List Node
@@ -114,7 +113,7 @@ IsAnswerLine (Spent budget) = IsBudget budget
 pub record IsTreeOf (kind : Kind) (tree : TreeLines) (missing : ℕ) : Type 0 where
   pub budget : IfSome tree.budget IsBudget
   pub nodes : All (λ (node : NodeLine). IsNodeOf kind node.node) tree.nodes
-  pub missing : Misses missing tree.nodes
+  pub trees : Misses missing tree.nodes
 
 -- the answer is one to a question of the kind
 abbrev pub IsAnswerTo : Kind → Answer → Type 0

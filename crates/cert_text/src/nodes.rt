@@ -5,7 +5,6 @@ ghost use Rattle.schema_core.specs.Phrases.{Reads};
 ghost use Rattle.cert_text.specs.CertLines.{clause_at, two_at, reason_for, reason_at, node_for, node_at};
 ghost use Rattle.cert_text.specs.Written.{IsReasonOf, IsNodeOf};
 ghost use Rattle.cert_text.specs.declared.answers.Kind.TheVariants.{Consistency, Implication};
-ghost use Rattle.cert_text.specs.declared.answers.Kind.{Kind as AnyKind};
 
 use crate::answers::Kind;
 use crate::names::{NodeName, ReasonName};
@@ -13,18 +12,21 @@ use crate::variables::{cell_at, var_at};
 use schema_core::{Phrase, Text, Tokens, Unread};
 use std::alloc::Global;
 
+/// The greatest number that can be written.
+pub const MOST_CLAUSES: u64 = 999_999_999_999;
+
 /// A node of a tree over one tuple.
 pub struct OneTupleNode;
 
 /// A node of a tree over two tuples.
 pub struct TwoTuplesNode;
 
-fn clause_at(tokens: &mut Tokens) -> Result<ReasonName, Unread>
+fn clause_at(kind: Kind, tokens: &mut Tokens) -> Result<ReasonName, Unread>
     ensures exact { Reads clause_at tokens.old tokens.new result }
-    ensures fit { (kind : AnyKind) → IfOk result (IsReasonOf kind) }
+    ensures fit { IfOk result (IsReasonOf kind) }
 {
     let number = tokens.number()?;
-    if number == 0 {
+    if number == 0 || MOST_CLAUSES < number {
         return Err(Unread::Absent);
     }
     Ok(ReasonName::Clause(number))
@@ -44,7 +46,7 @@ fn reason_for(kind: Kind, word: &Text, tokens: &mut Tokens) -> Result<ReasonName
     ensures fit { IfOk result (IsReasonOf kind) }
 {
     if word.is("clause") {
-        clause_at(tokens)
+        clause_at(kind, tokens)
     } else if word.is("two") {
         two_at(kind, tokens)
     } else if word.is("none") {

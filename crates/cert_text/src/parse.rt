@@ -109,6 +109,7 @@ struct Reader {
 }
 
 /// What was read, with a node where a subtree is missing.
+#[tactic(auto, unfolding(crate::specs::CertFiles::with_line))]
 fn with_node(
     alloc: Global,
     asked: Asked,

@@ -8,7 +8,7 @@ use Rattle.schema_core.specs.Phrases.{name_at, list_until}
 use Rattle.schema_core.specs.Marks.{after_mark, same_mark}
 use Rattle.schema_core.specs.TokenLists.{list1_at, list_at}
 use Rattle.schema_core.specs.declared.tokens.Mark.{Mark}
-use Rattle.schema_core.specs.declared.tokens.Mark.TheVariants.{Colon, OpenBracket, CloseBracket, Semicolon, Equals, Arrow}
+use Rattle.schema_core.specs.declared.tokens.Mark.TheVariants.{Comma, Colon, OpenBracket, CloseBracket, Semicolon, Equals, Arrow}
 use Rattle.schema_core.specs.declared.tokens.Token.{Token}
 use Rattle.schema_core.specs.declared.tokens.Token.TheVariants.{Name, Sign}
 use Rattle.schema_core.specs.declared.writing.Part.{Part}

@@ -1,0 +1,3 @@
+pub mod Implied
+pub mod Question
+pub mod Answers
