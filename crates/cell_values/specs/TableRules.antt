@@ -33,10 +33,14 @@ occurs rules attr = list_any (stands_in attr) rules
 abbrev pub row_cells : Rule → TableauRow (List ℕ) → List (ℕ × Pattern (List ℕ))
 row_cells rule row = zip rule.x row.x ++ (rule.a, row.a) ∷ []
 
--- all cells at an attribute, one dependency after the other, each by its tableau rows
-abbrev pub cells_in_row : ℕ → Rule → TableauRow (List ℕ) → List (Pattern (List ℕ))
-cells_in_row attr rule row = map (λ cell. cell.1) (filter (λ cell. cell.0 == attr) (row_cells rule row))
+-- those at an attribute
+abbrev pub cells_for : ℕ → List (ℕ × Pattern (List ℕ)) → List (Pattern (List ℕ))
+cells_for attr cells = map (λ cell. cell.1) (filter (λ cell. cell.0 == attr) cells)
 
+abbrev pub cells_in_row : ℕ → Rule → TableauRow (List ℕ) → List (Pattern (List ℕ))
+cells_in_row attr rule row = cells_for attr (row_cells rule row)
+
+-- all cells at an attribute, one dependency after the other, each by its tableau rows
 abbrev pub cells_in_rule : ℕ → Rule → List (Pattern (List ℕ))
 cells_in_rule attr rule = flat_map (cells_in_row attr rule) rule.rows
 

@@ -16,9 +16,9 @@ pub fn fresh_past(alloc: Global, count: usize, texts: &Pool) -> Result<Text, All
     let mut text = tildes(alloc, count)?;
     loop {
         text.push_str("~")?;
-        if texts.find(text.as_str()).is_none() {
+        let Some(_) = texts.find(text.as_str()) else {
             return Ok(Text::from(text));
-        }
+        };
     }
 }
 

@@ -1,7 +1,8 @@
 //! What a clause says of a cell: literals of the variables of its attribute's values. The variable of the first value is
 //! `first`, and the others follow.
 
-ghost use Rattle.std.specs.Prelude.{◌≡◌, ◌+◌, ◌^◌, ◌<◌, ◌++◌, ◌==◌, Bool, length, OnOk};
+ghost use Rattle.std.specs.Prelude.{◌≡◌, ◌+◌, ◌^◌, ◌<◌, ◌++◌, [], ◌∷◌, true, length, if◌then◌else◌, OnOk};
+ghost use Rattle.std.specs.List.{list_any};
 ghost use Rattle.std.specs.Str.{bytes_eq};
 ghost use Rattle.cfd_semantics.specs.Pattern.{matches};
 ghost use Rattle.cell_values.specs.Literals.{literals_where, matches_as, meets, misses};
@@ -78,14 +79,32 @@ fn push_where(
     ensures { OnOk result (clause.new.items ≡ clause.old.items ++ literals_where (matches_as matching cell.now) true first values.now) }
 {
     for place in 0..values.len() {
-        if matches(cell, values.text(place)) == matching {
-            clause.push(Literal {
-                var: first + place,
-                positive: true,
-            })?;
-        }
+        let listed = matches_as(matching, cell, values.text(place));
+        push_if(listed, clause, first + place)?;
     }
     Ok(())
+}
+
+fn push_if(listed: bool, clause: &mut Vec<Literal>, var: usize) -> Result<(), AllocError>
+    ensures { OnOk result (clause.new.items ≡ clause.old.items ++ (if listed then record { var = var; positive = true } ∷ [] else [])) }
+{
+    if listed {
+        clause.push(Literal {
+            var,
+            positive: true,
+        })?;
+    }
+    Ok(())
+}
+
+fn matches_as(matching: bool, cell: &Cell, text: &str) -> bool
+    ensures { result ≡ matches_as matching cell.now text.now }
+{
+    if matching {
+        matches(cell, text)
+    } else {
+        !matches(cell, text)
+    }
 }
 
 fn matches(cell: &Cell, text: &str) -> bool
@@ -94,7 +113,13 @@ fn matches(cell: &Cell, text: &str) -> bool
     match cell {
         Pattern::Any => true,
         Pattern::Is(constant) => constant.is(text),
-        Pattern::In(members) => members.as_slice().iter().any(|member| member.is(text)),
-        Pattern::NotIn(members) => !members.as_slice().iter().any(|member| member.is(text)),
+        Pattern::In(members) => is_member(members.as_slice(), text),
+        Pattern::NotIn(members) => !is_member(members.as_slice(), text),
     }
+}
+
+fn is_member(members: &[Text], text: &str) -> bool
+    ensures { result ≡ list_any (λ member. bytes_eq member text.now) members.now }
+{
+    members.iter().any(|member| member.is(text))
 }

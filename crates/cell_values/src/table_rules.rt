@@ -1,6 +1,7 @@
 //! The dependencies of one table.
 
 ghost use Rattle.std.specs.Prelude.{◌≡◌, ◌<◌, Some, length, slice_get, IfOk};
+ghost use Rattle.std.specs.List.{list_any};
 ghost use Rattle.cell_values.specs.TableRules.{rules_with, occurs, stands_in};
 
 use cfd_semantics::Dependency;
@@ -19,7 +20,8 @@ pub struct TableRules<'a> {
 
 impl<'a> Model for TableRules<'a> {
     ghost use Rattle.std.specs.Prelude.{List, map};
-    ghost use Rattle.cell_values.specs.TableRules.{Rule};
+    ghost use Rattle.std.specs.List.{list_any};
+ghost use Rattle.cell_values.specs.TableRules.{Rule};
 
     ghost Value = { List Rule };
 
@@ -52,7 +54,7 @@ impl<'a> TableRules<'a> {
     pub fn occurs(&self, attr: usize) -> bool
         ensures { result ≡ occurs self.now attr }
     {
-        self.rules.iter().any(|rule| stands_in(attr, rule))
+        any_stands_in(attr, &self.rules)
     }
 
     pub fn len(&self) -> usize
@@ -67,6 +69,12 @@ impl<'a> TableRules<'a> {
     {
         self.rules[place]
     }
+}
+
+fn any_stands_in(attr: usize, rules: &[&Rule]) -> bool
+    ensures { result ≡ list_any (λ rule. stands_in attr rule.now) rules.now }
+{
+    rules.iter().any(|rule| stands_in(attr, rule))
 }
 
 fn stands_in(attr: usize, rule: &Rule) -> bool

@@ -1,10 +1,13 @@
 //! The values of each attribute that the dependencies tell apart.
 
-ghost use Rattle.std.specs.Prelude.{◌≡◌, ◌==◌, ◌||◌, ◌+◌, ◌^◌, ◌<◌, ◌++◌, length, All, IfOk, OnOk, find, option_copied};
+ghost use Rattle.std.specs.Prelude.{◌≡◌, ◌==◌, ◌||◌, ◌+◌, ◌^◌, ◌<◌, ◌++◌, false, if◌then◌else◌, [], ◌∷◌, length, All, IfOk, OnOk, find, option_copied};
+ghost use Rattle.std.specs.List.{flat_map, list_any};
+ghost use Rattle.schema_core.specs.Repeats.{AreDistinct};
+ghost use Rattle.rule_model.specs.Books.{is_set};
 ghost use Rattle.schema_core.specs.Schemas.{IsValidAttr, IsValidDomain};
 ghost use Rattle.rule_model.specs.Declarations.{constants_of};
-ghost use Rattle.cell_values.specs.TableRules.{cells_at, cells_in_row, cells_in_rule};
-ghost use Rattle.cell_values.specs.Values.{AreFew, attrs_before, cell_values, gather, occurring, once_after, values_before, with_cell};
+ghost use Rattle.cell_values.specs.TableRules.{cells_at, cells_for, cells_in_row, cells_in_rule, occurs};
+ghost use Rattle.cell_values.specs.Values.{AreFew, attrs_before, cell_values, constants_at, gather, has_other, is_finite, occurring, once_after, values_before, with_cell, with_other};
 
 use crate::fresh::fresh_past;
 use crate::table_rules::{Rule, TableRules};
@@ -38,15 +41,38 @@ pub fn occurring(
     ensures few { IfOk result AreFew }
 {
     let mut cells = List::new(alloc);
-    let mut total = 0u64;
     for attr in 0..attrs.len() {
-        if rules.occurs(attr) {
-            let cell = cell_values(alloc, rules, attr, &attrs[attr].domain)?;
-            total = total_with(total, cell.values.len())?;
-            cells.push(cell)?;
-        }
+        add_attr(alloc, rules, attr, &attrs[attr].domain, &mut cells)?;
     }
+    check_few(cells.as_slice())?;
     Ok(cells)
+}
+
+// Appends the values of an attribute that occurs.
+fn add_attr(
+    alloc: Global,
+    rules: &TableRules<'_>,
+    attr: usize,
+    domain: &Domain,
+    cells: &mut List<CellValues>,
+) -> Result<(), AllocError>
+    requires { IsValidDomain domain.now }
+    ensures { OnOk result (cells.new ≡ cells.old ++ (if occurs rules.now attr then cell_values rules.now attr domain.now ∷ [] else [])) }
+{
+    if rules.occurs(attr) {
+        cells.push(cell_values(alloc, rules, attr, domain)?)?;
+    }
+    Ok(())
+}
+
+fn check_few(cells: &[CellValues]) -> Result<(), AllocError>
+    ensures { OnOk result (AreFew cells.now) }
+{
+    let mut total = 0u64;
+    for cell in cells {
+        total = total_with(total, cell.values.len())?;
+    }
+    Ok(())
 }
 
 // One more than the sum, where that is below half of the machine numbers.
@@ -70,31 +96,64 @@ fn cell_values(
     requires { IsValidDomain domain.now }
     ensures { IfOk result (λ cell. cell ≡ cell_values rules.now attr domain.now) }
 {
-    let mut found = Gathered {
-        values: Pool::new(alloc),
-        other: false,
-    };
-    let finite = match domain {
-        Domain::AnyText => {
-            found.add_cells_at(rules, attr)?;
-            false
-        }
-        Domain::Finite(values) => {
-            intern_all(&mut found.values, values.as_slice())?;
-            true
-        }
-    };
+    let mut found = gather_from(alloc, rules, attr, domain)?;
     let constants = found.values.len();
-    if found.other {
-        let other = fresh_past(alloc, 0, &found.values)?;
-        found.values.intern(other.as_str())?;
-    }
+    found.add_other(alloc)?;
     Ok(CellValues {
         attr,
         values: found.values,
         constants,
-        demanded: finite || found.other,
+        demanded: is_finite(domain) || found.other,
     })
+}
+
+// The constants of an attribute, and whether it has an other-value.
+fn gather_from(
+    alloc: Global,
+    rules: &TableRules<'_>,
+    attr: usize,
+    domain: &Domain,
+) -> Result<Gathered, AllocError>
+    requires { IsValidDomain domain.now }
+    ensures { IfOk result (λ found. found ≡ record { values = constants_at rules.now attr domain.now; other = has_other rules.now attr domain.now }) }
+{
+    match domain {
+        Domain::AnyText => gather_cells(alloc, rules, attr),
+        Domain::Finite(values) => gather_values(alloc, values.as_slice()),
+    }
+}
+
+fn gather_cells(
+    alloc: Global,
+    rules: &TableRules<'_>,
+    attr: usize,
+) -> Result<Gathered, AllocError>
+    ensures { IfOk result (λ found. found ≡ record { values = once_after [] (flat_map constants_of (cells_at rules.now attr)); other = list_any is_set (cells_at rules.now attr) }) }
+{
+    let mut found = Gathered {
+        values: Pool::new(alloc),
+        other: false,
+    };
+    found.add_cells_at(rules, attr)?;
+    Ok(found)
+}
+
+fn gather_values(alloc: Global, values: &[Text]) -> Result<Gathered, AllocError>
+    requires { AreDistinct values.now }
+    ensures { IfOk result (λ found. found ≡ record { values = values.now; other = false }) }
+{
+    let mut found = Pool::new(alloc);
+    intern_all(&mut found, values)?;
+    Ok(Gathered {
+        values: found,
+        other: false,
+    })
+}
+
+fn is_finite(domain: &Domain) -> bool
+    ensures { result ≡ is_finite domain.now }
+{
+    matches!(domain, Domain::Finite(_))
 }
 
 /// Appends the texts that are new.
@@ -115,6 +174,18 @@ struct Gathered {
 }
 
 impl Gathered {
+    // Appends the other-value to the constants, where there is one.
+    fn add_other(&mut self, alloc: Global) -> Result<(), AllocError>
+        ensures values { OnOk result (self.new.values ≡ with_other self.old.other self.old.values) }
+        ensures other { self.new.other ≡ self.old.other }
+    {
+        if self.other {
+            let other = fresh_past(alloc, 0, &self.values)?;
+            self.values.intern(other.as_str())?;
+        }
+        Ok(())
+    }
+
     fn add_cells_at(&mut self, rules: &TableRules<'_>, attr: usize) -> Result<(), AllocError>
         ensures { OnOk result (self.new ≡ gather self.old (cells_at rules.now attr)) }
     {
@@ -137,12 +208,18 @@ impl Gathered {
         ensures { OnOk result (self.new ≡ gather self.old (cells_in_row attr rule.now row.now)) }
     {
         for (at, cell) in rule.x.as_slice().iter().zip(row.x.as_slice()) {
-            if *at == attr {
-                self.add(cell)?;
-            }
+            self.add_at(*at, cell, attr)?;
         }
-        if rule.a == attr {
-            self.add(&row.a)?;
+        self.add_at(rule.a, &row.a, attr)?;
+        Ok(())
+    }
+
+    // Adds a cell that stands at the attribute.
+    fn add_at(&mut self, at: usize, cell: &Cell, attr: usize) -> Result<(), AllocError>
+        ensures { OnOk result (self.new ≡ gather self.old (cells_for attr ((at, cell.now) ∷ []))) }
+    {
+        if at == attr {
+            self.add(cell)?;
         }
         Ok(())
     }

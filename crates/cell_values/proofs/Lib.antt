@@ -1,0 +1,9 @@
+pub mod Lists
+pub mod Among
+pub mod FreshTexts
+pub mod Tildes
+pub mod LiteralLists
+pub mod Gathering
+pub mod Counting
+pub mod Anys
+pub mod Meaning
