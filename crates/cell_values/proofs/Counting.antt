@@ -6,13 +6,13 @@ use Rattle.std.proofs.lemmas.List.Elements.{filter_more}
 use Rattle.cell_values.specs.declared.values.CellValues.{CellValues}
 use Rattle.cell_values.specs.Values.{values_before}
 
-abbrev size : CellValues → ℕ
+abbrev pub size : CellValues → ℕ
 size cell = length cell.values
 
 abbrev pub room : CellValues → ℕ
 room cell = length cell.values + 1
 
-sum_cond : (cell : CellValues) (cells : List CellValues) (b : Bool) → sum_by size (cond b (cell ∷ cells) cells) ≡ cond b (size cell) 0 + sum_by size cells
+pub sum_cond : (cell : CellValues) (cells : List CellValues) (b : Bool) → sum_by size (cond b (cell ∷ cells) cells) ≡ cond b (size cell) 0 + sum_by size cells
 sum_cond cell cells true = sum_by-cons size cell cells
 sum_cond cell cells false = omega arith
 

@@ -7,3 +7,6 @@ pub mod Gathering
 pub mod Counting
 pub mod Anys
 pub mod Meaning
+pub mod Choices
+pub mod ValueFacts
+pub mod ValueOrder

@@ -11,7 +11,7 @@ use Rattle.std.proofs.lemmas.Slice.Eq.{bytes_eq-Decides}
 use Rattle.cfd_semantics.specs.declared.pattern.Pattern.{Pattern}
 use Rattle.cfd_semantics.specs.declared.pattern.Pattern.TheVariants as patterns
 use Rattle.cfd_semantics.specs.Pattern.{matches}
-use Rattle.schema_core.specs.Repeats.{is_among}
+use Rattle.schema_core.specs.Repeats.{AreDistinct, is_among}
 use Rattle.rule_model.specs.Books.{is_set}
 use Rattle.rule_model.specs.Declarations.{constants_of}
 use Rattle.case_tree.specs.declared.clauses.Literal.{Literal}
@@ -21,12 +21,17 @@ use Rattle.cell_values.specs.Literals.{literals_where, matches_as, meets, misses
 use Rattle.cell_values.specs.Standing.{counts_as, Agrees}
 use Rattle.cell_values.proofs.Among.{among_if_Contains, Contains_if_among, not_among, absent_if_not, bytes_same}
 
-abbrev constants : CellValues → List (List ℕ)
+abbrev pub constants : CellValues → List (List ℕ)
 constants v = take v.constants v.values
 
--- the values of an attribute: constants, and at most one more, which is none of them
+-- The values of an attribute are distinct: constants, and at most one more, which is none of them. Where it is demanded
+-- that a tuple has one there is one, and where it isn't all are constants.
 pub record AreValues (v : CellValues) : Type 0 where
   pub bound : v.constants ≤ length v.values
+  pub few : length v.values ≤ v.constants + 1
+  pub distinct : AreDistinct v.values
+  pub some : v.demanded ≡ true → 0 < length v.values
+  pub all_constants : v.demanded ≡ false → length v.values ≤ v.constants
   pub other : (place : ℕ) → v.constants ≤ place → place < length v.values → ¬ Contains (constants v) (get_or v.values place [])
 
 -- the constants of the cell are among those of the attribute, and a set is only where each text counts as some value
@@ -97,10 +102,10 @@ module _ (truth : ℕ → Bool) (test : List ℕ → Bool) (positive : Bool) whe
 
 module _ (v : CellValues) (text : List ℕ) where
   -- a constant
-  counts_constant : (place : ℕ) → place < v.constants → counts_as v text place ≡ bytes_eq (get_or v.values place []) text
+  pub counts_constant : (place : ℕ) → place < v.constants → counts_as v text place ≡ bytes_eq (get_or v.values place []) text
   counts_constant place low = let test : nat_lt place v.constants ≡ true = lt-ltb place v.constants low in rw test refl
 
-  counts_other : (place : ℕ) → v.constants ≤ place → counts_as v text place ≡ not (is_among bytes_eq (constants v) text)
+  pub counts_other : (place : ℕ) → v.constants ≤ place → counts_as v text place ≡ not (is_among bytes_eq (constants v) text)
   counts_other place high = let test : nat_lt place v.constants ≡ false = le-ltb place v.constants high in rw test refl
 
   pub is_constant : (place : ℕ) → place < v.constants → counts_as v text place ≡ true → get_or v.values place [] ≡ text

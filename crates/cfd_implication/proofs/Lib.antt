@@ -4,3 +4,8 @@ pub mod Order
 pub mod Told
 pub mod Allowed
 pub mod Texts
+pub mod Asked
+pub mod Occurs
+pub mod Heard
+pub mod Main
+pub mod Room

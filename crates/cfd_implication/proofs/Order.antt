@@ -4,7 +4,7 @@ use Rattle.std.specs.Prelude.{filter, find, sum_by, count_by, nat_lt, nat_eq, Co
 use Rattle.std.specs.Option.{option_map_or}
 use Rattle.std.proofs.lemmas.Bool.{lt-ltb, le-ltb, eq-eqb, ne_eqb}
 use Rattle.std.proofs.lemmas.List.Sums.{sum_by-cons}
-use Rattle.cfd_semantics.proofs.Members.{contains_cases, contains_nothing}
+use Rattle.cfd_semantics.proofs.Members.{contains_cases, contains_nothing, contains-here, contains-there}
 use Rattle.cell_values.specs.declared.values.CellValues.{CellValues}
 use Rattle.cell_values.specs.Values.{attrs_before, values_before, values_for}
 use Rattle.cfd_implication.specs.declared.side.Side.TheVariants.{First, Second}
@@ -21,7 +21,7 @@ size cell = length cell.values
 abbrev before : ℕ → CellValues → Bool
 before attr cell = nat_lt cell.attr attr
 
-equal_cons : (attr : ℕ) (c : CellValues) (cs : List CellValues) (b : Bool) → nat_lt c.attr attr ≡ b → equal_var (c ∷ cs) attr ≡ cond b (1 + 2 * size c) 0 + equal_var cs attr
+pub equal_cons : (attr : ℕ) (c : CellValues) (cs : List CellValues) (b : Bool) → nat_lt c.attr attr ≡ b → equal_var (c ∷ cs) attr ≡ cond b (1 + 2 * size c) 0 + equal_var cs attr
 equal_cons attr c cs true is =
     let counted : attrs_before (c ∷ cs) attr ≡ 1 + attrs_before cs attr = sum_by-cons (λ (x : CellValues). cond (before attr x) 1 0) c cs ∙ ap (λ b. cond b 1 0 + attrs_before cs attr) is in
     let valued : values_before (c ∷ cs) attr ≡ size c + values_before cs attr = ap (λ b. sum_by size (cond b (c ∷ filter (before attr) cs) (filter (before attr) cs))) is ∙ sum_by-cons size c (filter (before attr) cs) in
@@ -100,3 +100,14 @@ placed_both P Q first (c ∷ cs) left right = ((left.0, right.0), placed_both P 
 
 pub second_at : (low : ℕ) (cells : List CellValues) (c : CellValues) → RisesFrom low cells → Contains cells c → value_var Second cells c.attr ≡ equal_var cells c.attr + 1 + length c.values
 second_at low cells c rises there = ap (λ (vs : List (List ℕ)). equal_var cells c.attr + 1 + length vs) (values_at low cells c rises there)
+
+pub placed_by : (P : ℕ → CellValues → Type 0) (first low : ℕ) (cells : List CellValues) → RisesFrom low cells → ((c : CellValues) → Contains cells c → P (first + equal_var cells c.attr) c) → Placed P first cells
+placed_by P first low [] rises each = tt
+placed_by P first low (d ∷ ds) rises each =
+    let here : first + equal_var (d ∷ ds) d.attr ≡ first = omega (arith, equal_here low d ds rises) in (
+      subst (λ n. P n d) here (each d (contains-here d ds)),
+      placed_by P (first + 1 + 2 * length d.values) (d.attr + 1) ds rises.1 (λ c there.
+          let above = rises_above (d.attr + 1) ds c rises.1 there in
+          let next : first + equal_var (d ∷ ds) c.attr ≡ first + 1 + 2 * length d.values + equal_var ds c.attr = omega (arith, equal_next c.attr d ds (omega arith)) in
+          subst (λ n. P n c) next (each c (contains-there c d ds there))),
+    )

@@ -1,8 +1,14 @@
-//! Whether the dependencies of a table imply one more.
+//! Whether the dependencies of a table imply one more: the question as clauses about two tuples, and a decider that answers
+//! with two tuples, with a tree of cases that refutes the question, or with the tree so far.
 #![tactic(auto)]
 
 pub mod answer;
+mod clause_list;
+mod literals;
+mod rows;
 pub mod side;
+mod variables;
 
 pub use answer::Implication;
+
 pub use side::Side;

@@ -1,0 +1,22 @@
+-- What may be answered to the question whether the dependencies of a table are consistent.
+use Rattle.std.specs.Prelude.{◌≡◌, ℕ, ◌<◌, ◌≤◌, List, length, All, IfSome}
+use Rattle.case_tree.specs.CaseTree.{IsPartial, Refutes, leaf_count}
+use Rattle.case_search.specs.Enough.{enough_of}
+use Rattle.rule_model.specs.Books.{Book}
+use Rattle.schema_core.specs.Schemas.{table_place}
+use Rattle.cell_values.specs.Tuples.{answer_bytes}
+use Rattle.cfd_consistency.specs.Consistent.{IsWitness, IsConsistent}
+use Rattle.cfd_consistency.specs.Question.{question}
+use Rattle.cfd_consistency.specs.declared.decider.Consistency.{Consistency}
+use Rattle.cfd_consistency.specs.declared.decider.Consistency.TheVariants.{Witness, Never, Spent}
+
+-- A tuple that shows it, of texts that aren't long. A tree that refutes the question, and then there is no such tuple. A
+-- tree as far as it goes, with as many leaves as the budget, which is less than enough.
+abbrev pub IsAnswer : Book → ℕ → ℕ → Consistency → Type 0
+IsAnswer rules budget table (Witness tuple) = IsWitness rules table tuple × All (λ (text : List ℕ). length text ≤ answer_bytes) tuple
+IsAnswer rules budget table (Never tree) = Refutes (question rules table) tree × (leaf_count tree ≤ budget) × ¬ IsConsistent rules table
+IsAnswer rules budget table (Spent tree) = IsPartial (question rules table) tree × (leaf_count tree ≡ budget) × (budget < enough_of (question rules table).cells)
+
+-- the answer is one for the table of that name
+abbrev pub IsAnswerFor : Book → List ℕ → ℕ → Consistency → Type 0
+IsAnswerFor rules name budget answer = IfSome (table_place rules.schema name) (λ table. IsAnswer rules budget table answer)

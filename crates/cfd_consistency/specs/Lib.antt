@@ -1,0 +1,4 @@
+pub mod Consistent
+pub mod Question
+pub mod Witness
+pub mod Answer

@@ -1,0 +1,83 @@
+//! The decider.
+
+ghost use Rattle.std.specs.Prelude.{◌≡◌, ◌≤◌, ◌↔◌, ◌<◌, None, Err, length, IfOk};
+ghost use Rattle.schema_core.specs.Schemas.{table_place};
+ghost use Rattle.cfd_consistency.specs.Answer.{IsAnswer, IsAnswerFor};
+
+use crate::question::{Question, attrs_at};
+use crate::witness::tuple_of;
+use case_search::{Found, decide};
+use case_tree::Tree;
+use rule_model::RuleBook;
+use schema_core::Texts;
+use std::alloc::{AllocError, Global};
+use thiserror::Error;
+
+/// A tuple that alone satisfies all dependencies; a tree that refutes the question, and then none does; or the tree so
+/// far, where the budget is spent.
+#[derive(Debug, Drop)]
+pub enum Consistency {
+    Witness(Texts),
+    Never(Tree),
+    Spent(Tree),
+}
+
+#[derive(Clone, Copy, Debug, PartialEq, Eq, Error)]
+pub enum DecideFault {
+    #[error("no table has this name")]
+    UnknownTable,
+    #[error("out of memory")]
+    Memory,
+}
+
+impl From<AllocError> for DecideFault {
+    ghost use Rattle.std.specs.Prelude.{◌≡◌};
+    ghost use Rattle.cfd_consistency.specs.declared.decider.DecideFault.TheVariants.{Memory};
+
+    ghost from_gives = { λ error fault. fault ≡ Memory };
+
+    fn from(error: AllocError) -> DecideFault {
+        DecideFault::Memory
+    }
+}
+
+/// Whether the dependencies of the table of that name are consistent, within a budget of leaves.
+pub fn consistent(
+    alloc: Global,
+    rules: &RuleBook,
+    table: &str,
+    budget: u64,
+) -> Result<Consistency, DecideFault>
+    requires some { 1 ≤ budget }
+    requires within { budget ≤ 1000000 }
+    ensures answer { IfOk result (IsAnswerFor rules.now table.now budget) }
+    ensures unknown { (result ≡ Err DecideFault.UnknownTable) ↔ (table_place rules.now.schema table.now ≡ None) }
+{
+    let Some(number) = rules.schema().table_named(table) else {
+        return Err(DecideFault::UnknownTable);
+    };
+    Ok(decide_table(alloc, rules, number, budget)?)
+}
+
+fn decide_table(
+    alloc: Global,
+    rules: &RuleBook,
+    table: usize,
+    budget: u64,
+) -> Result<Consistency, AllocError>
+    requires there { table < length rules.now.schema.tables }
+    requires some { 1 ≤ budget }
+    requires within { budget ≤ 1000000 }
+    ensures { IfOk result (IsAnswer rules.now budget table) }
+{
+    let question = Question::new(alloc, rules, table)?;
+    match decide(alloc, &question.clauses, budget)? {
+        Found::Model(truth) => {
+            let attrs = attrs_at(rules.schema(), table);
+            let tuple = tuple_of(alloc, attrs, question.values.as_slice(), &truth)?;
+            Ok(Consistency::Witness(tuple))
+        }
+        Found::Refuted(tree) => Ok(Consistency::Never(tree)),
+        Found::Spent(tree) => Ok(Consistency::Spent(tree)),
+    }
+}
