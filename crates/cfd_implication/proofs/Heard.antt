@@ -31,7 +31,7 @@ use Rattle.cfd_implication.specs.declared.side.Side.{Side}
 use Rattle.cfd_implication.specs.declared.side.Side.TheVariants.{First, Second}
 use Rattle.cfd_implication.specs.Question.{equal_var, value_var, meets_at, misses_at}
 use Rattle.cfd_implication.proofs.Tests.{lit_true, clause_true, text_of, Misses, Meets, Equates}
-use Rattle.cfd_implication.proofs.Rows.{MeetsCell, Hears}
+use Rattle.cfd_implication.proofs.TwoTuples.{MeetsCell, Hears}
 use Rattle.cfd_implication.proofs.Asked.{HearsAsked}
 use Rattle.cfd_implication.proofs.Order.{Placed, placed_at, values_at, second_at}
 use Rattle.cfd_implication.proofs.Told.{Tells}
@@ -107,13 +107,13 @@ listed : (P : ℕ → Type 0) (xs : List ℕ) → ((x : ℕ) → Contains xs x �
 listed P [] each = tt
 listed P (x ∷ xs) each = (each x (contains-here x xs), listed P xs (λ y there. each y (contains-there y x xs there)))
 
-zip_left : (xs : List ℕ) (ps : List (Pattern (List ℕ))) (at : ℕ × Pattern (List ℕ)) → Contains (zip xs ps) at → Contains xs at.0
+pub zip_left : (xs : List ℕ) (ps : List (Pattern (List ℕ))) (at : ℕ × Pattern (List ℕ)) → Contains (zip xs ps) at → Contains xs at.0
 zip_left [] ps at (k, within, is) = absurd (omega arith)
 zip_left (x ∷ xs) [] at (k, within, is) = absurd (omega arith)
 zip_left (x ∷ xs) (p ∷ ps) at (zero, within, is) = subst (λ (z : ℕ × Pattern (List ℕ)). Contains (x ∷ xs) z.0) is (contains-here x xs)
 zip_left (x ∷ xs) (p ∷ ps) at (suc k, within, is) = contains-there at.0 x xs (zip_left xs ps at (k, omega arith, is))
 
-zip_cell : (attrs : List Attr) (xs : List ℕ) (ps : List (Pattern (List ℕ))) (at : ℕ × Pattern (List ℕ)) → AllZip (λ attr cell. IsCellOf (domain_at attrs attr) cell) xs ps → Contains (zip xs ps) at → IsCellOf (domain_at attrs at.0) at.1
+pub zip_cell : (attrs : List Attr) (xs : List ℕ) (ps : List (Pattern (List ℕ))) (at : ℕ × Pattern (List ℕ)) → AllZip (λ attr cell. IsCellOf (domain_at attrs attr) cell) xs ps → Contains (zip xs ps) at → IsCellOf (domain_at attrs at.0) at.1
 zip_cell attrs [] ps at are (k, within, is) = absurd (omega arith)
 zip_cell attrs (x ∷ xs) [] at are (k, within, is) = absurd (omega arith)
 zip_cell attrs (x ∷ xs) (p ∷ ps) at are (zero, within, is) = subst (λ (z : ℕ × Pattern (List ℕ)). IsCellOf (domain_at attrs z.0) z.1) is are.0

@@ -1,11 +1,15 @@
 pub mod Tests
-pub mod Rows
+pub mod TwoTuples
 pub mod Order
 pub mod Told
 pub mod Allowed
-pub mod Texts
+pub mod Chosen
 pub mod Asked
 pub mod Occurs
 pub mod Heard
 pub mod Main
 pub mod Room
+pub mod Theorems
+pub mod Loops
+pub mod Bounds
+pub mod WellFormed

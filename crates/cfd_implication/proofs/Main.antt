@@ -31,12 +31,12 @@ use Rattle.cell_values.proofs.ValueFacts.{values_good, covered_if_admitted}
 use Rattle.cfd_implication.specs.declared.side.Side.TheVariants.{First, Second}
 use Rattle.cfd_implication.specs.Question.{equal_var, value_var, var_cells, constant_clauses, agreeing_at, rule_clauses, row_clauses, asked_clauses, clauses_of}
 use Rattle.cfd_implication.proofs.Tests.{clause_true, all_true, all_flat, text_of, left_of}
-use Rattle.cfd_implication.proofs.Rows.{RowHolds, row_from_clauses, clauses_from_row, sides_in, sides_there, sides_are, satisfies_from, satisfies_to, same_list, list_same, same_text, text_same}
+use Rattle.cfd_implication.proofs.TwoTuples.{RowHolds, row_from_clauses, clauses_from_row, sides_in, sides_there, sides_are, satisfies_from, satisfies_to, same_list, list_same, same_text, text_same}
 use Rattle.cfd_implication.proofs.Asked.{Breaks, asked_is}
 use Rattle.cfd_implication.proofs.Order.{Placed, placed_at, placed_by, values_at, second_at}
 use Rattle.cfd_implication.proofs.Told.{Tells, truth_of, told}
 use Rattle.cfd_implication.proofs.Allowed.{IsOfValues, HasOne, HasSome, whole_cell, Stands, has_one, has_some, var_cells_at}
-use Rattle.cfd_implication.proofs.Texts.{IsChosen, Matched, AreTexts, text_agrees, equal_texts}
+use Rattle.cfd_implication.proofs.Chosen.{IsChosen, Matched, AreTexts, text_agrees, equal_texts}
 use Rattle.cfd_implication.proofs.Occurs.{rises, occurring_from, IsOccurring}
 use Rattle.cfd_implication.proofs.Heard.{any_of_clause, clause_of_any, admitted_at, valid_domain_at, IsRuleOf, hears, hears_asked}
 
@@ -62,7 +62,7 @@ all_of_true truth clauses holds = All-from_recursion (Any (IsTrueUnder truth)) c
 
 -- ---- the three clauses of a constant
 
-abbrev three : Bool → Bool → Bool → Bool
+abbrev pub three : Bool → Bool → Bool → Bool
 three e p q = (not e || (not p || (q || false))) && ((not e || (not q || (p || false))) && ((not p || (not q || (e || false))) && true))
 
 three_true : (e p q : Bool) → (e ≡ true → p ≡ true → q ≡ true) → (e ≡ true → q ≡ true → p ≡ true) → (p ≡ true → q ≡ true → e ≡ true) → three e p q ≡ true
@@ -75,19 +75,19 @@ three_true false true false f g h = refl
 three_true false false true f g h = refl
 three_true false false false f g h = refl
 
-three_there : (e p q : Bool) → three e p q ≡ true → e ≡ true → p ≡ true → q ≡ true
+pub three_there : (e p q : Bool) → three e p q ≡ true → e ≡ true → p ≡ true → q ≡ true
 three_there true true true holds a b = refl
 three_there true true false holds a b = holds
 three_there true false q holds a b = absurd cc
 three_there false p q holds a b = absurd cc
 
-three_back : (e p q : Bool) → three e p q ≡ true → e ≡ true → q ≡ true → p ≡ true
+pub three_back : (e p q : Bool) → three e p q ≡ true → e ≡ true → q ≡ true → p ≡ true
 three_back true true true holds a b = refl
 three_back true false true holds a b = holds
 three_back true p false holds a b = absurd cc
 three_back false p q holds a b = absurd cc
 
-three_agree : (e p q : Bool) → three e p q ≡ true → p ≡ true → q ≡ true → e ≡ true
+pub three_agree : (e p q : Bool) → three e p q ≡ true → p ≡ true → q ≡ true → e ≡ true
 three_agree true p q holds a b = refl
 three_agree false true true holds a b = holds
 three_agree false false q holds a b = absurd cc
@@ -120,12 +120,12 @@ module _ (attrs : List Attr) (valid : AllByRecursion IsValidAttr attrs) (rules :
   abbrev pub question_of : ClauseSet
   question_of = record { cells = var_cells 0 cells; clauses = clauses_of cells rules asked }
 
-  good_at : (c : CellValues) → Contains cells c → IsOfValues c
+  pub good_at : (c : CellValues) → Contains cells c → IsOfValues c
   good_at c there =
       let from = occurring_from attrs every c there in
       subst IsOfValues from.is (of_values (cell_values every from.attr (domain_at attrs from.attr)) (values_good every from.attr (domain_at attrs from.attr) (valid_domain_at attrs from.attr valid)))
 
-  covered_at : (tuple : List (List ℕ)) → IsTupleOf attrs tuple → (c : CellValues) → Contains cells c → IsCovered c (text_of tuple c.attr)
+  pub covered_at : (tuple : List (List ℕ)) → IsTupleOf attrs tuple → (c : CellValues) → Contains cells c → IsCovered c (text_of tuple c.attr)
   covered_at tuple is c there =
       let from = occurring_from attrs every c there in
       subst (λ (x : CellValues). IsCovered x (text_of tuple x.attr)) from.is
@@ -196,13 +196,13 @@ module _ (attrs : List Attr) (valid : AllByRecursion IsValidAttr attrs) (rules :
 
 -- ---- breaking
 
-breaks_if_no_match : (one other : List (List ℕ)) (attr : ℕ) (p : Pattern (List ℕ)) → matches bytes_eq p (text_of one attr) ≡ false → Breaks one other attr p ≡ true
+pub breaks_if_no_match : (one other : List (List ℕ)) (attr : ℕ) (p : Pattern (List ℕ)) → matches bytes_eq p (text_of one attr) ≡ false → Breaks one other attr p ≡ true
 breaks_if_no_match one other attr patterns.Any fails = absurd cc
 breaks_if_no_match one other attr (patterns.Is constant) fails = ap not fails
 breaks_if_no_match one other attr (patterns.In members) fails = or_right (not (bytes_eq (text_of one attr) (text_of other attr))) (not (matches bytes_eq (patterns.In members) (text_of one attr))) (ap not fails)
 breaks_if_no_match one other attr (patterns.NotIn members) fails = or_right (not (bytes_eq (text_of one attr) (text_of other attr))) (not (matches bytes_eq (patterns.NotIn members) (text_of one attr))) (ap not fails)
 
-breaks_if_differ : (one other : List (List ℕ)) (attr : ℕ) (p : Pattern (List ℕ)) → bytes_eq (text_of one attr) (text_of other attr) ≡ false → matches bytes_eq p (text_of one attr) ≡ true → matches bytes_eq p (text_of other attr) ≡ true → Breaks one other attr p ≡ true
+pub breaks_if_differ : (one other : List (List ℕ)) (attr : ℕ) (p : Pattern (List ℕ)) → bytes_eq (text_of one attr) (text_of other attr) ≡ false → matches bytes_eq p (text_of one attr) ≡ true → matches bytes_eq p (text_of other attr) ≡ true → Breaks one other attr p ≡ true
 breaks_if_differ one other attr patterns.Any fails left right = ap not fails
 breaks_if_differ one other attr (patterns.Is constant) fails left right =
     absurd (false≢true (sym fails ∙ text_same (text_of one attr) (text_of other attr) (sym (same_text constant (text_of one attr) left) ∙ same_text constant (text_of other attr) right)))

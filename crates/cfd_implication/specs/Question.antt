@@ -2,7 +2,7 @@
 -- variable that says that the tuples agree on it, and then one for each value that the first tuple may have there, and one
 -- for each that the second may have.
 use Rattle.std.specs.Prelude.{ℕ, ◌+◌, ◌*◌, ◌==◌, Bool, true, false, if◌then◌else◌, List, [], ◌∷◌, ◌++◌, length, map, zip}
-use Rattle.std.specs.List.{flat_map, range_with_len}
+use Rattle.std.specs.List.{flat_map, range_with_len, sum_by}
 use Rattle.schema_core.specs.Lookups.{attrs_at}
 use Rattle.schema_core.specs.declared.schema.Attr.{Attr}
 use Rattle.schema_core.specs.declared.schema.Schema.{Schema}
@@ -30,6 +30,10 @@ equal_var cells attr = attrs_before cells attr + 2 * values_before cells attr
 abbrev pub value_var : Side → List CellValues → ℕ → ℕ
 value_var First cells attr = equal_var cells attr + 1
 value_var Second cells attr = equal_var cells attr + 1 + length (values_for cells attr)
+
+-- how many variables there are
+abbrev pub var_total : List CellValues → ℕ
+var_total cells = sum_by (λ (cell : CellValues). 1 + 2 * length cell.values) cells
 
 abbrev pub yes : ℕ → Literal
 yes v = record { var = v; positive = true }
