@@ -69,7 +69,7 @@ fresh_there count texts = elim (search_first (λ j. not (is_among bytes_eq texts
 -- ---- one value
 
 module _ (v : CellValues) (good : AreValues v) where
-  same_place : (p q : ℕ) → p < length v.values → q < length v.values → get_or v.values p [] ≡ get_or v.values q [] → p ≡ q
+  pub same_place : (p q : ℕ) → p < length v.values → q < length v.values → get_or v.values p [] ≡ get_or v.values q [] → p ≡ q
   same_place p q p_in q_in same = elim (cases_order p q) [
     | inl equal ↦ equal
     | inr differ ↦ absurd (⊎_elim (λ less. good.distinct p q [] less q_in same) (λ more. good.distinct q p [] more p_in (sym same)) differ)

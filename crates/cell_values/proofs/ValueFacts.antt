@@ -28,7 +28,7 @@ use Rattle.cell_values.proofs.Choices.{fresh_there}
 
 -- ---- texts each once
 
-with_text_cases : (texts : List (List ℕ)) (text : List ℕ) → ((with_text texts text ≡ texts) × Contains texts text) ⊎ ((with_text texts text ≡ texts ++ text ∷ []) × (is_among bytes_eq texts text ≡ false))
+pub with_text_cases : (texts : List (List ℕ)) (text : List ℕ) → ((with_text texts text ≡ texts) × Contains texts text) ⊎ ((with_text texts text ≡ texts ++ text ∷ []) × (is_among bytes_eq texts text ≡ false))
 with_text_cases texts text = elim (cases_Bool (is_among bytes_eq texts text)) [
   | inl there ↦ inl (rw there refl, Contains_if_among texts text there)
   | inr new ↦ inr (rw new refl, new)

@@ -9,5 +9,5 @@ abbrev pub IsTupleOf : List Attr → List (List ℕ) → Type 0
 IsTupleOf attrs tuple = AllZip (λ (attr : Attr) (text : List ℕ). Admits attr.domain text) attrs tuple
 
 -- The texts of the tuples that the deciders answer have at most so many bytes.
-pub answer_bytes : ℕ
+abbrev pub answer_bytes : ℕ
 answer_bytes = 65535

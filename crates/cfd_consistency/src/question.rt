@@ -3,7 +3,7 @@
 ghost use Rattle.std.specs.Prelude.{◌≡◌, ◌+◌, ◌<◌, ◌++◌, ◌↔◌, [], ◌∷◌, length, All, IfOk, OnOk};
 ghost use Rattle.std.specs.List.{flat_map};
 ghost use Rattle.schema_core.specs.Lookups.{attrs_at};
-ghost use Rattle.rule_model.specs.Books.{book_deps};
+ghost use Rattle.rule_model.specs.Books.{IsBook, book_deps};
 ghost use Rattle.case_search.specs.Answer.{HasOneFree};
 ghost use Rattle.cell_values.specs.TableRules.{rules_with};
 ghost use Rattle.cell_values.specs.Values.{AreFew, occurring};
@@ -44,6 +44,7 @@ impl Question {
         ensures values { IfOk result (λ q. q.values ≡ occurring (attrs_at rules.now.schema table) (rules_with table (book_deps rules.now) [])) }
         ensures few { IfOk result (λ q. AreFew q.values) }
         ensures clauses { IfOk result (λ q. q.clauses ≡ question rules.now table) }
+        ensures valid { IsBook rules.now }
     {
         let deps = rules.deps().as_slice();
         let attrs = attrs_at(rules.schema(), table);
