@@ -13,3 +13,5 @@ pub mod Theorems
 pub mod Loops
 pub mod Bounds
 pub mod WellFormed
+pub mod PairFacts
+pub mod Questions

@@ -54,11 +54,11 @@ module _ (P : Literal → Type 0) (test : List ℕ → Bool) (positive : Bool) w
       let next : first + suc place ≡ first + 1 + place = omega arith in
       subst (λ (var : ℕ). P (record { var = var; positive = positive })) next (each (suc place) (omega arith) passes)))
 
-all_flat_map : {X Y : Type 0} (P : Y → Type 0) (f : X → List Y) (xs : List X) → ((x : X) → Contains xs x → All P (f x)) → All P (flat_map f xs)
+pub all_flat_map : {X Y : Type 0} (P : Y → Type 0) (f : X → List Y) (xs : List X) → ((x : X) → Contains xs x → All P (f x)) → All P (flat_map f xs)
 all_flat_map P f [] each = All-nil P
 all_flat_map P f (x ∷ xs) each = All-append P (f x) (flat_map f xs) (each x (contains-here x xs)) (all_flat_map P f xs (λ y there. each y (contains-there y x xs there)))
 
-all_map : {X Y : Type 0} (P : Y → Type 0) (f : X → Y) (xs : List X) → ((x : X) → Contains xs x → P (f x)) → All P (map f xs)
+pub all_map : {X Y : Type 0} (P : Y → Type 0) (f : X → Y) (xs : List X) → ((x : X) → Contains xs x → P (f x)) → All P (map f xs)
 all_map P f [] each = All-nil P
 all_map P f (x ∷ xs) each = All-cons P (f x) (map f xs) (each x (contains-here x xs)) (all_map P f xs (λ y there. each y (contains-there y x xs there)))
 
@@ -122,25 +122,25 @@ module _ (attrs : List Attr) (valid : AllByRecursion IsValidAttr attrs) (rules :
 
   -- a value's variable of a demanded cell lies in no other
   not_free : (c : CellValues) → Contains cells c → (v : ℕ) → equal_var cells c.attr + 1 ≤ v → v < equal_var cells c.attr + 1 + 2 * length c.values → c.demanded ≡ true → IsFree set v → ⊥
-  not_free c there v from to demanded (j, x, j_in, j_is, free, x_in) =
-      let all = var_cells_all (λ (cell : VarCell). cell.demanded ≡ false → IsIn cell v → ⊥) 0 cells (placed_by (λ e d. (false ≡ false → IsIn (equal_cell e) v → ⊥) × ((d.demanded ≡ false → IsIn (whole_cell (e + 1) d) v → ⊥) × (d.demanded ≡ false → IsIn (whole_cell (e + 1 + length d.values) d) v → ⊥))) 0 0 cells (rises attrs all_rules) each) in
+  not_free c there v from to demanded (j, x, j_in, j_is, (free, x_in)) =
+      let all = var_cells_all (λ (cell : VarCell). cell.demanded ≡ false → IsIn cell v → ⊥) 0 cells (placed_by (λ e d. (false ≡ false → IsIn (equal_cell e) v → ⊥) × (d.demanded ≡ false → IsIn (whole_cell (e + 1) d) v → ⊥) × (d.demanded ≡ false → IsIn (whole_cell (e + 1 + length d.values) d) v → ⊥)) 0 0 cells (rises attrs all_rules) each) in
       all_at j x all j_in j_is free x_in where
     all_at : (k : ℕ) (y : VarCell) → All (λ (cell : VarCell). cell.demanded ≡ false → IsIn cell v → ⊥) (var_cells 0 cells) → k < length (var_cells 0 cells) → get_or (var_cells 0 cells) k y ≡ y → y.demanded ≡ false → IsIn y v → ⊥
     all_at k y every k_in is = subst (λ (cell : VarCell). cell.demanded ≡ false → IsIn cell v → ⊥) is (every k y k_in)
-    each : (d : CellValues) → Contains cells d → (false ≡ false → IsIn (equal_cell (0 + equal_var cells d.attr)) v → ⊥) × ((d.demanded ≡ false → IsIn (whole_cell (0 + equal_var cells d.attr + 1) d) v → ⊥) × (d.demanded ≡ false → IsIn (whole_cell (0 + equal_var cells d.attr + 1 + length d.values) d) v → ⊥))
+    each : (d : CellValues) → Contains cells d → (false ≡ false → IsIn (equal_cell (0 + equal_var cells d.attr)) v → ⊥) × (d.demanded ≡ false → IsIn (whole_cell (0 + equal_var cells d.attr + 1) d) v → ⊥) × (d.demanded ≡ false → IsIn (whole_cell (0 + equal_var cells d.attr + 1 + length d.values) d) v → ⊥)
     each d d_there = elim (cases_order c.attr d.attr) [
       | inl same ↦ (
           let is = same_attr 0 cells c d (rises attrs all_rules) there d_there same in
           let at : equal_var cells c.attr ≡ equal_var cells d.attr = ap (equal_var cells) same in
           let wanted : d.demanded ≡ true = ap (λ (z : CellValues). z.demanded) (sym is) ∙ demanded in
-          (λ e within. let a = within.0 in let b = within.1 in omega arith, (λ off within. absurd (true≢false (sym wanted ∙ off)), λ off within. absurd (true≢false (sym wanted ∙ off)))))
+          (λ e within. let a = within.0 in let b = within.1 in omega arith, λ off within. absurd (true≢false (sym wanted ∙ off)), λ off within. absurd (true≢false (sym wanted ∙ off))))
       | inr other ↦ elim other [
           | inl less ↦ (
               let later = apart 0 cells c d (rises attrs all_rules) there d_there less in
-              (λ e within. let a = within.0 in omega arith, (λ off within. let a = within.0 in omega arith, λ off within. let a = within.0 in omega arith)))
+              (λ e within. let a = within.0 in omega arith, λ off within. let a = within.0 in omega arith, λ off within. let a = within.0 in omega arith))
           | inr more ↦ (
               let before = apart 0 cells d c (rises attrs all_rules) d_there there more in
-              (λ e within. let b = within.1 in omega arith, (λ off within. let b = within.1 in omega arith, λ off within. let b = within.1 in omega arith)))
+              (λ e within. let b = within.1 in omega arith, λ off within. let b = within.1 in omega arith, λ off within. let b = within.1 in omega arith))
       ]
     ]
 

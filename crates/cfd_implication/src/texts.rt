@@ -5,6 +5,7 @@ ghost use Rattle.schema_core.specs.Schemas.{IsValidAttr, IsValidDomain};
 ghost use Rattle.cell_values.specs.Values.{AreFew};
 ghost use Rattle.cfd_implication.specs.Pairs.{plain_text, new_text, text_for, constant_of, second_new, value_text, text_at, tuple_of};
 ghost use Rattle.cfd_implication.specs.Question.{equal_var, value_var, var_total};
+ghost use Rattle.cfd_implication.specs.declared.side.Side.TheVariants.{First, Second};
 
 use crate::side::Side;
 use crate::variables::{equal_var, value_var};
@@ -66,6 +67,65 @@ fn text_for(
     }
 }
 
+/// Whether the variable of an attribute says that the tuples agree on it.
+fn is_equal(cells: &[CellValues], truth: &[bool], attr: usize) -> bool
+    requires few { AreFew cells.now }
+    requires told { equal_var cells.now attr < length truth.now }
+    ensures { result ≡ slice_index_or truth.now (equal_var cells.now attr) false }
+{
+    truth[equal_var(cells, attr)]
+}
+
+/// The first constant whose variable is true. The variable of the first one is `first`.
+fn constant_of(truth: &[bool], first: usize, cell: &CellValues) -> Option<usize>
+    requires told { first + cell.now.constants ≤ length truth.now }
+    requires bound { cell.now.constants ≤ length cell.now.values }
+    ensures constant { result ≡ constant_of (λ var. slice_index_or truth.now var false) first cell.now }
+    ensures within { IfSome result (λ p. p < length cell.now.values) }
+{
+    chosen(truth, first, cell.constants)
+}
+
+/// The text of the first tuple at an attribute that occurs.
+fn first_text(
+    alloc: Global,
+    cells: &[CellValues],
+    truth: &[bool],
+    cell: &CellValues,
+) -> Result<Text, AllocError>
+    requires few { AreFew cells.now }
+    requires bound { cell.now.constants ≤ length cell.now.values }
+    requires told { value_var First cells.now cell.now.attr + length cell.now.values ≤ length truth.now }
+    ensures { IfOk result (λ text. text ≡ value_text First cells.now (λ var. slice_index_or truth.now var false) cell.now.attr cell.now) }
+{
+    let first = value_var(cells, Side::First, cell.attr);
+    let one = constant_of(truth, first, cell);
+    let new = new_text(alloc, cell)?;
+    text_for(alloc, cell, new, one)
+}
+
+/// The text of the second.
+fn second_text(
+    alloc: Global,
+    cells: &[CellValues],
+    truth: &[bool],
+    cell: &CellValues,
+) -> Result<Text, AllocError>
+    requires few { AreFew cells.now }
+    requires bound { cell.now.constants ≤ length cell.now.values }
+    requires told { value_var First cells.now cell.now.attr + length cell.now.values ≤ length truth.now }
+    requires told_second { value_var Second cells.now cell.now.attr + length cell.now.values ≤ length truth.now }
+    ensures { IfOk result (λ text. text ≡ value_text Second cells.now (λ var. slice_index_or truth.now var false) cell.now.attr cell.now) }
+{
+    let first = value_var(cells, Side::First, cell.attr);
+    let second = value_var(cells, Side::Second, cell.attr);
+    let one = constant_of(truth, first, cell);
+    let other = constant_of(truth, second, cell);
+    let equal = is_equal(cells, truth, cell.attr);
+    let new = second_new(alloc, cell, equal, one)?;
+    text_for(alloc, cell, new, other)
+}
+
 /// The text of a tuple at an attribute that occurs.
 fn value_text(
     alloc: Global,
@@ -75,19 +135,14 @@ fn value_text(
     cell: &CellValues,
 ) -> Result<Text, AllocError>
     requires few { AreFew cells.now }
-    requires constants { cell.now.constants ≤ length cell.now.values }
-    requires told { value_var Side.Second cells.now cell.now.attr + length cell.now.values ≤ length truth.now }
+    requires bound { cell.now.constants ≤ length cell.now.values }
+    requires told { value_var First cells.now cell.now.attr + length cell.now.values ≤ length truth.now }
+    requires told_second { value_var Second cells.now cell.now.attr + length cell.now.values ≤ length truth.now }
     ensures { IfOk result (λ text. text ≡ value_text side cells.now (λ var. slice_index_or truth.now var false) cell.now.attr cell.now) }
 {
-    let attr = cell.attr;
-    let one = chosen(truth, value_var(cells, Side::First, attr), cell.constants);
     match side {
-        Side::First => text_for(alloc, cell, new_text(alloc, cell)?, one),
-        Side::Second => {
-            let other = chosen(truth, value_var(cells, Side::Second, attr), cell.constants);
-            let equal = truth[equal_var(cells, attr)];
-            text_for(alloc, cell, second_new(alloc, cell, equal, one)?, other)
-        }
+        Side::First => first_text(alloc, cells, truth, cell),
+        Side::Second => second_text(alloc, cells, truth, cell),
     }
 }
 
