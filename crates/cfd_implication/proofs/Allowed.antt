@@ -30,10 +30,10 @@ constant_at c good place low =
     let bound = good.bound in
     let size = length-take-le c.constants c.values good.bound in
     (place, omega arith, get_or-take c.constants c.values place (get_or c.values place []) low ∙ same c.values place (omega arith)) where
-  same : (xs : List (List ℕ)) (k : ℕ) → k < length xs → get_or xs k (get_or xs k []) ≡ get_or xs k []
-  same [] k within = absurd (omega arith)
-  same (x ∷ xs) zero within = refl
-  same (x ∷ xs) (suc k) within = same xs k (omega arith)
+      same : (xs : List (List ℕ)) (k : ℕ) → k < length xs → get_or xs k (get_or xs k []) ≡ get_or xs k []
+      same [] k within = absurd (omega arith)
+      same (x ∷ xs) zero within = refl
+      same (x ∷ xs) (suc k) within = same xs k (omega arith)
 
 -- two places below the constants with one text are one
 pub distinct_places : (c : CellValues) → IsOfValues c → (p q : ℕ) → p < c.constants → q < c.constants → get_or c.values p [] ≡ get_or c.values q [] → p ≡ q
@@ -45,8 +45,8 @@ distinct_places c is p q p_low q_low same =
     elim (cases_order p q) [
       | inl equal ↦ equal
       | inr differ ↦ elim differ [
-          | inl less ↦ absurd (is.distinct p q [] less (omega arith) (at_p ∙ same ∙ sym at_q))
-          | inr more ↦ absurd (is.distinct q p [] more (omega arith) (at_q ∙ sym same ∙ sym at_p))
+        | inl less ↦ absurd (is.distinct p q [] less (omega arith) (at_p ∙ same ∙ sym at_q))
+        | inr more ↦ absurd (is.distinct q p [] more (omega arith) (at_q ∙ sym same ∙ sym at_p))
       ]
     ]
 
@@ -54,12 +54,12 @@ distinct_places c is p q p_low q_low same =
 pub counts_once : (c : CellValues) → IsOfValues c → (text : List ℕ) (p q : ℕ) → p < length c.values → q < length c.values → counts_as c text p ≡ true → counts_as c text q ≡ true → p ≡ q
 counts_once c is text p q p_in q_in p_counts q_counts = elim (cases_lt p c.constants) [
   | inl p_low ↦ elim (cases_lt q c.constants) [
-      | inl q_low ↦ distinct_places c is p q p_low q_low (is_constant c text p p_low p_counts ∙ sym (is_constant c text q q_low q_counts))
-      | inr q_high ↦ absurd (is_other c text q q_high q_counts (subst (Contains (take c.constants c.values)) (is_constant c text p p_low p_counts) (constant_at c is.values p p_low)))
+    | inl q_low ↦ distinct_places c is p q p_low q_low (is_constant c text p p_low p_counts ∙ sym (is_constant c text q q_low q_counts))
+    | inr q_high ↦ absurd (is_other c text q q_high q_counts (subst (Contains (take c.constants c.values)) (is_constant c text p p_low p_counts) (constant_at c is.values p p_low)))
   ]
   | inr p_high ↦ elim (cases_lt q c.constants) [
-      | inl q_low ↦ absurd (is_other c text p p_high p_counts (subst (Contains (take c.constants c.values)) (is_constant c text q q_low q_counts) (constant_at c is.values q q_low)))
-      | inr q_high ↦ let few = is.single in omega arith
+    | inl q_low ↦ absurd (is_other c text p p_high p_counts (subst (Contains (take c.constants c.values)) (is_constant c text q q_low q_counts) (constant_at c is.values q q_low)))
+    | inr q_high ↦ let few = is.single in omega arith
   ]
 ]
 

@@ -74,11 +74,11 @@ count_attr first c =
     let left = value_cell (first + 1) c in
     let right = value_cell (first + 1 + n) c in
     omega (
-    arith,
-    var_count-cons (record { first = first; count = 1; demanded = false }) (left ++ right),
-    sum_by-append (λ (cell : VarCell). cell.count) left right,
-    count_value (first + 1) c (nat_eq n 0) refl,
-    count_value (first + 1 + n) c (nat_eq n 0) refl
+      arith,
+      var_count-cons (record { first = first; count = 1; demanded = false }) (left ++ right),
+      sum_by-append (λ (cell : VarCell). cell.count) left right,
+      count_value (first + 1) c (nat_eq n 0) refl,
+      count_value (first + 1 + n) c (nat_eq n 0) refl,
     )
 
 pub cells_count : (first : ℕ) (cells : List CellValues) → var_count (var_cells first cells) ≡ var_total cells
@@ -95,9 +95,9 @@ follow_value first next c rest true is at follow =
     subst (λ n. FollowFrom n rest) same follow
 follow_value first next c rest false is at follow =
     (refl, some (length c.values) is, subst (λ n. FollowFrom n rest) (sym at) follow) where
-  some : (n : ℕ) → nat_eq n 0 ≡ false → 0 < n
-  some zero e = absurd cc
-  some (suc n) e = omega arith
+      some : (n : ℕ) → nat_eq n 0 ≡ false → 0 < n
+      some zero e = absurd cc
+      some (suc n) e = omega arith
 
 pub cells_follow : (first : ℕ) (cells : List CellValues) → FollowFrom first (var_cells first cells)
 cells_follow first [] = tt

@@ -295,8 +295,8 @@ module _ (attrs : List Attr) (valid : AllByRecursion IsValidAttr attrs) (rules :
       elim (Contains-append_cases (zip rule.x row.x) ((rule.a, row.a) ∷ []) at listed) [
         | inl left ↦ cell_short (domain_at attrs at.0) at.1 (zip_cell attrs rule.x row.x at good.x left)
         | inr right ↦ elim (contains_cases at (rule.a, row.a) [] right) [
-            | inl same ↦ subst (λ (z : ℕ × Pattern (List ℕ)). Short 1024 (constants_of z.1)) same (cell_short (domain_at attrs rule.a) row.a good.a)
-            | inr none ↦ absurd (contains_nothing at none)
+          | inl same ↦ subst (λ (z : ℕ × Pattern (List ℕ)). Short 1024 (constants_of z.1)) same (cell_short (domain_at attrs rule.a) row.a good.a)
+          | inr none ↦ absurd (contains_nothing at none)
         ]
       ])
 

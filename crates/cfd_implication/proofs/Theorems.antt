@@ -75,8 +75,8 @@ module _ (attrs : List Attr) (valid : AllByRecursion IsValidAttr attrs) (rules :
   only_row [] row other one there other_there = absurd (omega arith)
   only_row (r ∷ []) row other one there other_there = elim (contains_cases row r [] there) [
     | inl here ↦ elim (contains_cases other r [] other_there) [
-        | inl also ↦ sym here ∙ also
-        | inr none ↦ absurd (contains_nothing other none)
+      | inl also ↦ sym here ∙ also
+      | inr none ↦ absurd (contains_nothing other none)
     ]
     | inr none ↦ absurd (contains_nothing row none)
   ]
@@ -98,7 +98,7 @@ module _ (attrs : List Attr) (valid : AllByRecursion IsValidAttr attrs) (rules :
         let c = flat_map (asked_clauses cells asked) asked.rows in
         let a_holds : all_true truth a ≡ true = agreeing_hold attrs valid rules asked truth one other one_tuple other_tuple tells each_rule (λ d t u place there low t_counts u_counts. sym (is_constant d t place low t_counts) ∙ is_constant d u place low u_counts) in
         let b_holds : all_true truth b ≡ true = clauses_hold attrs valid rules asked truth one other one_tuple other_tuple tells each_rule (λ rule there r r_there.
-            satisfies_to rule tuples one other r (satisfy rule there) one_there other_there (has_sides rule one (Contains-append_left rules (asked ∷ []) rule there) one_tuple) (has_sides rule other (Contains-append_left rules (asked ∷ []) rule there) other_tuple) r_there) in
+        satisfies_to rule tuples one other r (satisfy rule there) one_there other_there (has_sides rule one (Contains-append_left rules (asked ∷ []) rule there) one_tuple) (has_sides rule other (Contains-append_left rules (asked ∷ []) rule there) other_tuple) r_there) in
         let c_holds : all_true truth c ≡ true =
         all_flat (clause_true truth) (asked_clauses cells asked) asked.rows
         ∙ all_by (λ r. all_true truth (asked_clauses cells asked r)) asked.rows (λ r r_there.
@@ -121,11 +121,11 @@ module _ (attrs : List Attr) (valid : AllByRecursion IsValidAttr attrs) (rules :
         elim (cases_Bool (matches bytes_eq row.a (text_of t asked.a))) [
           | inr fails ↦ absurd (refuted t u row t_there u_there row_there same match (breaks_if_no_match t u asked.a row.a fails))
           | inl left ↦ elim (cases_Bool (matches bytes_eq row.a (text_of u asked.a))) [
-              | inr fails ↦ absurd (refuted u t row u_there t_there row_there (sym same) match_other (breaks_if_no_match u t asked.a row.a fails))
-              | inl right ↦ elim (cases_Bool (bytes_eq (text_of t asked.a) (text_of u asked.a))) [
-                  | inl equal ↦ (equal, left)
-                  | inr differ ↦ absurd (refuted t u row t_there u_there row_there same match (breaks_if_differ t u asked.a row.a differ left right))
-              ]
+            | inr fails ↦ absurd (refuted u t row u_there t_there row_there (sym same) match_other (breaks_if_no_match u t asked.a row.a fails))
+            | inl right ↦ elim (cases_Bool (bytes_eq (text_of t asked.a) (text_of u asked.a))) [
+              | inl equal ↦ (equal, left)
+              | inr differ ↦ absurd (refuted t u row t_there u_there row_there same match (breaks_if_differ t u asked.a row.a differ left right))
+            ]
           ]
         ]
 
@@ -195,8 +195,8 @@ module _ (attrs : List Attr) (valid : AllByRecursion IsValidAttr attrs) (rules :
         let first_chosen = subst (λ n. IsChosen truth n c fit.first) p_is fit.first_chosen in
         let second_chosen = subst (λ n. IsChosen truth n c fit.second) q_is fit.second_chosen in (
           ap truth (sym e_is)
-          ∙ equal_texts truth c good (equal_var cells c.attr) (value_var First cells c.attr) (value_var Second cells c.attr) fit.first fit.second (text_of one c.attr) (text_of other c.attr) (matched c there)
-          (subst (λ n. HasOne truth (whole_cell n c)) (sym q_is) one_second) fit.first_chosen fit.second_chosen fit.texts,
+              ∙ equal_texts truth c good (equal_var cells c.attr) (value_var First cells c.attr) (value_var Second cells c.attr) fit.first fit.second (text_of one c.attr) (text_of other c.attr) (matched c there)
+              (subst (λ n. HasOne truth (whole_cell n c)) (sym q_is) one_second) fit.first_chosen fit.second_chosen fit.texts,
           text_agrees truth c good (0 + equal_var cells c.attr + 1) fit.first (text_of one c.attr) one_first some_first first_chosen fit.texts.one_is,
           text_agrees truth c good (0 + equal_var cells c.attr + 1 + length c.values) fit.second (text_of other c.attr) one_second some_second second_chosen fit.texts.other_is,
         )
@@ -251,8 +251,8 @@ each_valid schema deps dep valid dep_valid rule there = elim (Contains-append_ca
       let from = from_table dep.table deps rule of_table in
       subst (IsRuleOf (attrs_at schema dep.table)) from.is (rule_of_dep schema dep.table from.dep from.of_table (All-contains (IsValidDep schema) deps from.dep valid from.there)))
   | inr itself ↦ elim (contains_cases rule dep.rule [] itself) [
-      | inl same ↦ subst (IsRuleOf (attrs_at schema dep.table)) same (rule_of_dep schema dep.table dep refl dep_valid)
-      | inr none ↦ absurd (contains_nothing rule none)
+    | inl same ↦ subst (IsRuleOf (attrs_at schema dep.table)) same (rule_of_dep schema dep.table dep refl dep_valid)
+    | inr none ↦ absurd (contains_nothing rule none)
   ]
 ]
 

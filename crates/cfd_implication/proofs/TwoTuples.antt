@@ -254,7 +254,7 @@ satisfies_from rule one other holds row t u first second there one_there other_t
     let a_first : first.a ≡ text_of t rule.a = ap (λ (s : Sides (List ℕ)). s.a) left in
     let a_second : second.a ≡ text_of u rule.a = ap (λ (s : Sides (List ℕ)). s.a) right in
     let given = asked_of one other t u rule row (holds row there) (one_of_two one other t one_there) (one_of_two one other u other_there)
-        (sym x_first ∙ same_list first.x second.x same ∙ x_second) (ap (all_match bytes_eq row.x) (sym x_first) ∙ match) in
+    (sym x_first ∙ same_list first.x second.x same ∙ x_second) (ap (all_match bytes_eq row.x) (sym x_first) ∙ match) in
     (text_same first.a second.a (a_first ∙ given.0 ∙ sym a_second), ap (matches bytes_eq row.a) a_first ∙ given.1)
 
 pub satisfies_to : (rule : Rule) (tuples : List (List (List ℕ))) (one other : List (List ℕ)) (row : TableauRow (List ℕ)) → Satisfies bytes_eq rule tuples → Contains tuples one → Contains tuples other

@@ -72,8 +72,8 @@ apart : (low : ℕ) (cells : List CellValues) (c d : CellValues) → RisesFrom l
 apart low [] c d rising c_there d_there less = absurd (contains_nothing c c_there)
 apart low (e ∷ es) c d rising c_there d_there less = elim (contains_cases d e es d_there) [
   | inl d_here ↦ elim (contains_cases c e es c_there) [
-      | inl c_here ↦ (let same = ap (λ (x : CellValues). x.attr) (sym c_here ∙ d_here) in absurd (omega arith))
-      | inr c_later ↦ (let above = rises_above (e.attr + 1) es c rising.1 c_later in let same = ap (λ (x : CellValues). x.attr) d_here in absurd (omega arith))
+    | inl c_here ↦ (let same = ap (λ (x : CellValues). x.attr) (sym c_here ∙ d_here) in absurd (omega arith))
+    | inr c_later ↦ (let above = rises_above (e.attr + 1) es c rising.1 c_later in let same = ap (λ (x : CellValues). x.attr) d_here in absurd (omega arith))
   ]
   | inr d_later ↦ (
       let d_above = rises_above (e.attr + 1) es d rising.1 d_later in
@@ -90,12 +90,12 @@ same_attr : (low : ℕ) (cells : List CellValues) (c d : CellValues) → RisesFr
 same_attr low [] c d rising c_there d_there same = absurd (contains_nothing c c_there)
 same_attr low (e ∷ es) c d rising c_there d_there same = elim (contains_cases c e es c_there) [
   | inl c_here ↦ elim (contains_cases d e es d_there) [
-      | inl d_here ↦ sym c_here ∙ d_here
-      | inr d_later ↦ (let above = rises_above (e.attr + 1) es d rising.1 d_later in let is = ap (λ (x : CellValues). x.attr) c_here in absurd (omega arith))
+    | inl d_here ↦ sym c_here ∙ d_here
+    | inr d_later ↦ (let above = rises_above (e.attr + 1) es d rising.1 d_later in let is = ap (λ (x : CellValues). x.attr) c_here in absurd (omega arith))
   ]
   | inr c_later ↦ elim (contains_cases d e es d_there) [
-      | inl d_here ↦ (let above = rises_above (e.attr + 1) es c rising.1 c_later in let is = ap (λ (x : CellValues). x.attr) d_here in absurd (omega arith))
-      | inr d_later ↦ same_attr (e.attr + 1) es c d rising.1 c_later d_later same
+    | inl d_here ↦ (let above = rises_above (e.attr + 1) es c rising.1 c_later in let is = ap (λ (x : CellValues). x.attr) d_here in absurd (omega arith))
+    | inr d_later ↦ same_attr (e.attr + 1) es c d rising.1 c_later d_later same
   ]
 ]
 
@@ -125,24 +125,25 @@ module _ (attrs : List Attr) (valid : AllByRecursion IsValidAttr attrs) (rules :
   not_free c there v from to demanded (j, x, j_in, j_is, (free, x_in)) =
       let all = var_cells_all (λ (cell : VarCell). cell.demanded ≡ false → IsIn cell v → ⊥) 0 cells (placed_by (λ e d. (false ≡ false → IsIn (equal_cell e) v → ⊥) × (d.demanded ≡ false → IsIn (whole_cell (e + 1) d) v → ⊥) × (d.demanded ≡ false → IsIn (whole_cell (e + 1 + length d.values) d) v → ⊥)) 0 0 cells (rises attrs all_rules) each) in
       all_at j x all j_in j_is free x_in where
-    all_at : (k : ℕ) (y : VarCell) → All (λ (cell : VarCell). cell.demanded ≡ false → IsIn cell v → ⊥) (var_cells 0 cells) → k < length (var_cells 0 cells) → get_or (var_cells 0 cells) k y ≡ y → y.demanded ≡ false → IsIn y v → ⊥
-    all_at k y every k_in is = subst (λ (cell : VarCell). cell.demanded ≡ false → IsIn cell v → ⊥) is (every k y k_in)
-    each : (d : CellValues) → Contains cells d → (false ≡ false → IsIn (equal_cell (0 + equal_var cells d.attr)) v → ⊥) × (d.demanded ≡ false → IsIn (whole_cell (0 + equal_var cells d.attr + 1) d) v → ⊥) × (d.demanded ≡ false → IsIn (whole_cell (0 + equal_var cells d.attr + 1 + length d.values) d) v → ⊥)
-    each d d_there = elim (cases_order c.attr d.attr) [
-      | inl same ↦ (
-          let is = same_attr 0 cells c d (rises attrs all_rules) there d_there same in
-          let at : equal_var cells c.attr ≡ equal_var cells d.attr = ap (equal_var cells) same in
-          let wanted : d.demanded ≡ true = ap (λ (z : CellValues). z.demanded) (sym is) ∙ demanded in
-          (λ e within. let a = within.0 in let b = within.1 in omega arith, λ off within. absurd (true≢false (sym wanted ∙ off)), λ off within. absurd (true≢false (sym wanted ∙ off))))
-      | inr other ↦ elim other [
-          | inl less ↦ (
-              let later = apart 0 cells c d (rises attrs all_rules) there d_there less in
-              (λ e within. let a = within.0 in omega arith, λ off within. let a = within.0 in omega arith, λ off within. let a = within.0 in omega arith))
-          | inr more ↦ (
-              let before = apart 0 cells d c (rises attrs all_rules) d_there there more in
-              (λ e within. let b = within.1 in omega arith, λ off within. let b = within.1 in omega arith, λ off within. let b = within.1 in omega arith))
-      ]
-    ]
+        all_at : (k : ℕ) (y : VarCell) → All (λ (cell : VarCell). cell.demanded ≡ false → IsIn cell v → ⊥) (var_cells 0 cells) → k < length (var_cells 0 cells) → get_or (var_cells 0 cells) k y ≡ y → y.demanded ≡ false → IsIn y v → ⊥
+        all_at k y every k_in is = subst (λ (cell : VarCell). cell.demanded ≡ false → IsIn cell v → ⊥) is (every k y k_in)
+
+        each : (d : CellValues) → Contains cells d → (false ≡ false → IsIn (equal_cell (0 + equal_var cells d.attr)) v → ⊥) × (d.demanded ≡ false → IsIn (whole_cell (0 + equal_var cells d.attr + 1) d) v → ⊥) × (d.demanded ≡ false → IsIn (whole_cell (0 + equal_var cells d.attr + 1 + length d.values) d) v → ⊥)
+        each d d_there = elim (cases_order c.attr d.attr) [
+          | inl same ↦ (
+              let is = same_attr 0 cells c d (rises attrs all_rules) there d_there same in
+              let at : equal_var cells c.attr ≡ equal_var cells d.attr = ap (equal_var cells) same in
+              let wanted : d.demanded ≡ true = ap (λ (z : CellValues). z.demanded) (sym is) ∙ demanded in
+              (λ e within. let a = within.0 in let b = within.1 in omega arith, λ off within. absurd (true≢false (sym wanted ∙ off)), λ off within. absurd (true≢false (sym wanted ∙ off))))
+          | inr other ↦ elim other [
+            | inl less ↦ (
+                let later = apart 0 cells c d (rises attrs all_rules) there d_there less in
+                (λ e within. let a = within.0 in omega arith, λ off within. let a = within.0 in omega arith, λ off within. let a = within.0 in omega arith))
+            | inr more ↦ (
+                let before = apart 0 cells d c (rises attrs all_rules) d_there there more in
+                (λ e within. let b = within.1 in omega arith, λ off within. let b = within.1 in omega arith, λ off within. let b = within.1 in omega arith))
+          ]
+        ]
 
   -- a literal of the variables, and free and positive only with a variable of which Q holds
   pub record Fine (Q : ℕ → Type 0) (literal : Literal) : Type 0 where
@@ -355,8 +356,8 @@ module _ (attrs : List Attr) (valid : AllByRecursion IsValidAttr attrs) (rules :
   three_of e p q e_in p_in q_in =
       let clause : (a b c : ℕ) → a < var_total cells → b < var_total cells → c < var_total cells → Good (no a ∷ no b ∷ yes c ∷ []) =
       λ a b c a_in b_in c_in. good_by (λ v. v ≡ c) (no a ∷ no b ∷ yes c ∷ []) (λ v w l r. l ∙ sym r)
-          (All-cons (Fine (λ v. v ≡ c)) (no a) (no b ∷ yes c ∷ []) (negative (λ v. v ≡ c) a a_in)
-          (All-cons (Fine (λ v. v ≡ c)) (no b) (yes c ∷ []) (negative (λ v. v ≡ c) b b_in) (one_item (Fine (λ v. v ≡ c)) (yes c) (positive_as (λ v. v ≡ c) c c_in refl)))) in
+      (All-cons (Fine (λ v. v ≡ c)) (no a) (no b ∷ yes c ∷ []) (negative (λ v. v ≡ c) a a_in)
+      (All-cons (Fine (λ v. v ≡ c)) (no b) (yes c ∷ []) (negative (λ v. v ≡ c) b b_in) (one_item (Fine (λ v. v ≡ c)) (yes c) (positive_as (λ v. v ≡ c) c c_in refl)))) in
       All-cons Good (no e ∷ no p ∷ yes q ∷ []) ((no e ∷ no q ∷ yes p ∷ []) ∷ (no p ∷ no q ∷ yes e ∷ []) ∷ []) (clause e p q e_in p_in q_in)
       (All-cons Good (no e ∷ no q ∷ yes p ∷ []) ((no p ∷ no q ∷ yes e ∷ []) ∷ []) (clause e q p e_in q_in p_in) (one_item Good (no p ∷ no q ∷ yes e ∷ []) (clause p q e p_in q_in e_in)))
 

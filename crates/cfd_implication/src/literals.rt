@@ -43,12 +43,7 @@ pub fn push_meets_at(
     ensures { OnOk result (clause.new.items ≡ clause.old.items ++ meets_at cells.now side (attr, cell.now)) }
 {
     match cell_of(cells, attr) {
-        Some(found) => push_meets(
-            clause,
-            value_var(cells, side, attr),
-            &found.values,
-            cell,
-        ),
+        Some(found) => push_meets(clause, value_var(cells, side, attr), &found.values, cell),
         None => Ok(()),
     }
 }
@@ -65,12 +60,7 @@ pub fn push_misses_at(
     ensures { OnOk result (clause.new.items ≡ clause.old.items ++ misses_at cells.now side (attr, cell.now)) }
 {
     match cell_of(cells, attr) {
-        Some(found) => push_misses(
-            clause,
-            value_var(cells, side, attr),
-            &found.values,
-            cell,
-        ),
+        Some(found) => push_misses(clause, value_var(cells, side, attr), &found.values, cell),
         None => Ok(()),
     }
 }

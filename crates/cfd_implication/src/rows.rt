@@ -72,7 +72,12 @@ pub fn push_rules(
     Ok(())
 }
 
-fn three(alloc: Global, one: Literal, two: Literal, other: Literal) -> Result<Vec<Literal>, AllocError>
+fn three(
+    alloc: Global,
+    one: Literal,
+    two: Literal,
+    other: Literal,
+) -> Result<Vec<Literal>, AllocError>
     ensures { IfOk result (λ clause. clause.items ≡ one ∷ two ∷ other ∷ []) }
 {
     let mut clause = Vec::new(alloc);

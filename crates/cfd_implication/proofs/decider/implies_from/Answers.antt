@@ -53,12 +53,12 @@ tuple_of-requires-clause-told c =
     let answer = subst (search.IsAnswer c.in_ok-question.question.clauses c.args.budget) c.in-Model.is c.in_ok-truth.ensures in
     let cells-here : c.as_slice-cells.result.now ≡ cells_for schema deps dep = c.as_slice-cells.ensures ∙ cells-are in
     omega (
-    arith,
-    ap (λ (bits : List Bool). length bits) c.deref.ensures.value,
-    answer.0,
-    ap (λ (set : ClauseSet). var_count set.cells) set-is,
-    question_vars schema deps dep c.requires.schema c.requires.deps c.requires.dep,
-    ap var_total cells-here
+      arith,
+      ap (λ (bits : List Bool). length bits) c.deref.ensures.value,
+      answer.0,
+      ap (λ (set : ClauseSet). var_count set.cells) set-is,
+      question_vars schema deps dep c.requires.schema c.requires.deps c.requires.dep,
+      ap var_total cells-here,
     )
 
 pub tuple_of-requires-in-Model-clause-valid : goal.tuple_of-requires-in-Model-clause-valid
@@ -85,12 +85,12 @@ tuple_of-requires-in-Model-clause-told c =
     let answer = subst (search.IsAnswer c.in_ok-question.question.clauses c.args.budget) c.in-Model.is c.in_ok-truth.ensures in
     let cells-here : c.as_slice-cells.result.now ≡ cells_for schema deps dep = c.as_slice-cells.ensures ∙ cells-are in
     omega (
-    arith,
-    ap (λ (bits : List Bool). length bits) c.deref-in-Model.ensures.value,
-    answer.0,
-    ap (λ (set : ClauseSet). var_count set.cells) set-is,
-    question_vars schema deps dep c.requires.schema c.requires.deps c.requires.dep,
-    ap var_total cells-here
+      arith,
+      ap (λ (bits : List Bool). length bits) c.deref-in-Model.ensures.value,
+      answer.0,
+      ap (λ (set : ClauseSet). var_count set.cells) set-is,
+      question_vars schema deps dep c.requires.schema c.requires.deps c.requires.dep,
+      ap var_total cells-here,
     )
 
 pub returns-in-Model : goal.returns-in-Model
@@ -126,4 +126,3 @@ returns-in-Refuted c =
     let answer = subst (search.IsAnswer c.in_ok-question.question.clauses c.args.budget) c.in-Refuted.is c.in_ok-truth.ensures in
     let refutes = subst (λ (set : ClauseSet). Refutes set c.in-Refuted.tree) set-is answer.0 in
     (refutes, answer.1, implied_if_none schema deps dep (attrs_each schema dep.table c.requires.schema) c.requires.deps c.requires.dep c.requires.row (sound (question schema deps dep) c.in-Refuted.tree refutes))
-

@@ -30,12 +30,12 @@ value_text-requires-clause-told_second c =
     let found : find (λ (x : CellValues). nat_eq x.attr c.args.attr) cells ≡ Some cell = sym c.in-Some.ensures in
     let named = (found_attr cells c.args.attr cell found).0 in
     omega (
-    arith,
-    ap (equal_var cells) named,
-    ap (λ (n : ℕ). length (values_for cells n)) named,
-    ap (λ (vs : List (List ℕ)). length vs) (values_for_by c.args.attr cells cell found),
-    found_within cells c.args.attr cell found,
-    c.requires.told
+      arith,
+      ap (equal_var cells) named,
+      ap (λ (n : ℕ). length (values_for cells n)) named,
+      ap (λ (vs : List (List ℕ)). length vs) (values_for_by c.args.attr cells cell found),
+      found_within cells c.args.attr cell found,
+      c.requires.told,
     )
 
 pub returns-in-Some : goal.returns-in-Some
