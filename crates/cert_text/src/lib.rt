@@ -1,5 +1,5 @@
 //! Certificates as text: the answer to a question about the rules of a table, with what shows it. One is read from the
-//! lines of a file, and printed in its canonical text, which is read again.
+//! lines of a file.
 #![tactic(auto)]
 
 pub mod answers;
@@ -8,7 +8,6 @@ pub mod fault;
 pub mod names;
 mod nodes;
 mod parse;
-//mod print;
 mod questions;
 mod variables;
 
@@ -16,7 +15,6 @@ pub use cert::{Answer, Asked, Cert, CertParts, NodeLine, Question, TreeLines, Tu
 pub use fault::{CertCause, CertFault};
 pub use names::{CellName, NodeName, ReasonName, VarName, Which};
 pub use parse::parse_cert;
-//pub use print::print_cert;
 
-//#[cfg(test)]
-//mod tests;
+#[cfg(test)]
+mod tests;

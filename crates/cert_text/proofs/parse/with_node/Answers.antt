@@ -13,8 +13,7 @@ returns-clause-fit c =
     let P : NodeLine → Type 0 = λ n. IsNodeOf (kind_of c.args.asked.question) n.node in
     let last : NodeLine = record { line = c.args.line.number; node = c.in_ok-node.node } in
     let some : 1 ≤ c.args.missing = omega arith in
-    let node : IsNodeOf (kind_of c.args.asked.question) c.in_ok-node.node = subst (λ k. IsNodeOf k c.in_ok-node.node) c.kind_of.ensures c.in_ok-node.ensures.fit in
-    (
+    let node : IsNodeOf (kind_of c.args.asked.question) c.in_ok-node.node = subst (λ k. IsNodeOf k c.in_ok-node.node) c.kind_of.ensures c.in_ok-node.ensures.fit in (
       c.requires.question,
       record {
         budget = c.requires.tree.budget;
