@@ -13,7 +13,7 @@ use Rattle.cell_values.specs.Standing.{counts_as, Agrees}
 use Rattle.schema_core.specs.Repeats.{AreDistinct}
 use Rattle.cell_values.proofs.Meaning.{AreValues, IsCovered, is_constant, is_other}
 use Rattle.cfd_implication.specs.Question.{value_cell, attr_cells, var_cells}
-use Rattle.cfd_implication.proofs.Tests.{text_of}
+use Rattle.cfd_implication.proofs.Truths.{text_of}
 use Rattle.cfd_implication.proofs.Order.{Placed}
 use Rattle.cfd_implication.proofs.Told.{Tells}
 

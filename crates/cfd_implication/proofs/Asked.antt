@@ -14,7 +14,7 @@ use Rattle.cell_values.specs.declared.values.CellValues.{CellValues}
 use Rattle.cell_values.specs.TableRules.{Rule}
 use Rattle.cfd_implication.specs.declared.side.Side.TheVariants.{First, Second}
 use Rattle.cfd_implication.specs.Question.{equal_var, meets_at, misses_at, agree_on, asked_cell, breaks, asked_clauses}
-use Rattle.cfd_implication.proofs.Tests.{or_false, clause_true, all_true, text_of, left_of, Misses, Meets, Equates}
+use Rattle.cfd_implication.proofs.Truths.{or_false, clause_true, all_true, text_of, left_of, Misses, Meets, Equates}
 use Rattle.cfd_implication.proofs.TwoTuples.{MeetsCell, Hears, same_list, list_same, same_text, text_same}
 
 -- the tuples don't agree on the right, or the first doesn't match the cell there; of a constant the latter alone

@@ -30,7 +30,7 @@ use Rattle.cell_values.proofs.ValueFacts.{values_good, covered_if_admitted, know
 use Rattle.cfd_implication.specs.declared.side.Side.{Side}
 use Rattle.cfd_implication.specs.declared.side.Side.TheVariants.{First, Second}
 use Rattle.cfd_implication.specs.Question.{equal_var, value_var, meets_at, misses_at}
-use Rattle.cfd_implication.proofs.Tests.{lit_true, clause_true, text_of, Misses, Meets, Equates}
+use Rattle.cfd_implication.proofs.Truths.{lit_true, clause_true, text_of, Misses, Meets, Equates}
 use Rattle.cfd_implication.proofs.TwoTuples.{MeetsCell, Hears}
 use Rattle.cfd_implication.proofs.Asked.{HearsAsked}
 use Rattle.cfd_implication.proofs.Order.{Placed, placed_at, values_at, second_at}

@@ -1,4 +1,4 @@
-pub mod Tests
+pub mod Truths
 pub mod TwoTuples
 pub mod Order
 pub mod Told

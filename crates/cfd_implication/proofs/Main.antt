@@ -30,7 +30,7 @@ use Rattle.cell_values.proofs.Meaning.{AreValues, IsCovered}
 use Rattle.cell_values.proofs.ValueFacts.{values_good, covered_if_admitted}
 use Rattle.cfd_implication.specs.declared.side.Side.TheVariants.{First, Second}
 use Rattle.cfd_implication.specs.Question.{equal_var, value_var, var_cells, constant_clauses, agreeing_at, rule_clauses, row_clauses, asked_clauses, clauses_of}
-use Rattle.cfd_implication.proofs.Tests.{clause_true, all_true, all_flat, text_of, left_of}
+use Rattle.cfd_implication.proofs.Truths.{clause_true, all_true, all_flat, text_of, left_of}
 use Rattle.cfd_implication.proofs.TwoTuples.{RowHolds, row_from_clauses, clauses_from_row, sides_in, sides_there, sides_are, satisfies_from, satisfies_to, same_list, list_same, same_text, text_same}
 use Rattle.cfd_implication.proofs.Asked.{Breaks, asked_is}
 use Rattle.cfd_implication.proofs.Order.{Placed, placed_at, placed_by, values_at, second_at}

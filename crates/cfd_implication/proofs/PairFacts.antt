@@ -33,7 +33,7 @@ use Rattle.cfd_implication.specs.declared.side.Side.{Side}
 use Rattle.cfd_implication.specs.declared.side.Side.TheVariants.{First, Second}
 use Rattle.cfd_implication.specs.Pairs.{plain_text, new_text, text_for, constant_of, second_new, value_text, text_at, tuple_of}
 use Rattle.cfd_implication.specs.Question.{equal_var, value_var, var_cells}
-use Rattle.cfd_implication.proofs.Tests.{text_of}
+use Rattle.cfd_implication.proofs.Truths.{text_of}
 use Rattle.cfd_implication.proofs.Order.{RisesFrom, placed_at, rises_above, second_at}
 use Rattle.cfd_implication.proofs.Allowed.{HasSome, equal_cell, whole_cell, var_cells_at}
 use Rattle.cfd_implication.proofs.Bounds.{found_attr}

@@ -30,7 +30,7 @@ use Rattle.cell_values.proofs.Meaning.{is_constant}
 use Rattle.cfd_implication.specs.declared.side.Side.TheVariants.{First, Second}
 use Rattle.cfd_implication.specs.Implied.{SatisfyTable, IsImplied}
 use Rattle.cfd_implication.specs.Question.{equal_var, value_var, var_cells, agreeing_at, constant_clauses, rule_clauses, asked_clauses, clauses_of, question}
-use Rattle.cfd_implication.proofs.Tests.{clause_true, all_true, all_flat, text_of, left_of}
+use Rattle.cfd_implication.proofs.Truths.{clause_true, all_true, all_flat, text_of, left_of}
 use Rattle.cfd_implication.proofs.TwoTuples.{RowHolds, sides_in, sides_there, sides_are, satisfies_to, same_list, list_same, same_text, text_same}
 use Rattle.cfd_implication.proofs.Asked.{Breaks}
 use Rattle.cfd_implication.proofs.Order.{Placed, placed_at, placed_by, placed_both, second_at}

@@ -7,7 +7,7 @@ use Rattle.std.proofs.lemmas.List.{get_or-append-add, get_or_append_left}
 use Rattle.std.proofs.lemmas.List.FromFn.{length-map-range_with_len, get_or-map-range_with_len}
 use Rattle.cell_values.specs.declared.values.CellValues.{CellValues}
 use Rattle.cell_values.specs.Standing.{counts_as, Agrees}
-use Rattle.cfd_implication.proofs.Tests.{text_of}
+use Rattle.cfd_implication.proofs.Truths.{text_of}
 use Rattle.cfd_implication.proofs.Order.{Placed}
 
 module _ (one other : List (List ℕ)) where

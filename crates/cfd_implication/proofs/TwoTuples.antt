@@ -21,7 +21,7 @@ use Rattle.cell_values.specs.TableRules.{Rule}
 use Rattle.cfd_implication.specs.declared.side.Side.{Side}
 use Rattle.cfd_implication.specs.declared.side.Side.TheVariants.{First, Second}
 use Rattle.cfd_implication.specs.Question.{alone, together, clauses_for}
-use Rattle.cfd_implication.proofs.Tests.{clause_true, all_true, text_of, left_of, Misses, Meets, Equates, alone_is, together_is}
+use Rattle.cfd_implication.proofs.Truths.{clause_true, all_true, text_of, left_of, Misses, Meets, Equates, alone_is, together_is}
 
 -- ---- tests
 
