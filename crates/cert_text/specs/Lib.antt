@@ -1,0 +1,3 @@
+pub mod CertLines
+pub mod CertFiles
+pub mod Written

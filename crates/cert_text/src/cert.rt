@@ -1,0 +1,90 @@
+//! Certificates: a question, its answer, and the number of the line on which each part stands.
+
+ghost use Rattle.std.specs.Prelude.{◌≡◌};
+ghost use Rattle.cert_text.specs.Written.{IsWrittenCert};
+
+use crate::names::NodeName;
+use rule_model::CfdDecl;
+use schema_core::{List, Text, Texts};
+use std::marker::Model;
+
+/// Whether the rules of a table are consistent, or imply a dependency. It is a declaration without a name, of one attribute
+/// on the right and one tableau row.
+#[derive(Debug, Drop)]
+pub enum Question {
+    Consistent(Text),
+    Implies(CfdDecl),
+}
+
+#[derive(Debug, Drop)]
+pub struct Asked {
+    pub line: usize,
+    pub question: Question,
+}
+
+#[derive(Debug, Drop)]
+pub struct TupleLine {
+    pub line: usize,
+    pub values: Texts,
+}
+
+#[derive(Debug, Drop)]
+pub struct NodeLine {
+    pub line: usize,
+    pub node: NodeName,
+}
+
+/// A tree of cases, which leaves none open, or of which the budget of leaves was spent.
+#[derive(Debug, Drop)]
+pub struct TreeLines {
+    pub line: usize,
+    pub budget: Option<u64>,
+    pub nodes: List<NodeLine>,
+}
+
+#[derive(Debug, Drop)]
+pub enum Answer {
+    Witness(TupleLine),
+    Counter(TupleLine, TupleLine),
+    Tree(TreeLines),
+}
+
+/// What a certificate says.
+#[derive(Debug, Drop)]
+pub struct CertParts {
+    pub asked: Asked,
+    pub answer: Answer,
+}
+
+/// A certificate that can be written: the answer is one to the question, its nodes are one tree, and its names are names.
+#[derive(Debug, Drop)]
+pub struct Cert {
+    parts: CertParts,
+}
+
+impl Model for Cert {
+    ghost use Rattle.cert_text.specs.Written.{IsWrittenCert};
+    ghost use Rattle.cert_text.specs.declared.cert.CertParts.{CertParts};
+
+    ghost Value = { CertParts };
+
+    ghost view = { λ cert. cert.parts };
+
+    ghost invariant = { λ cert. IsWrittenCert cert.parts };
+}
+
+impl Cert {
+    pub(crate) fn new(parts: CertParts) -> Cert
+        requires { IsWrittenCert parts }
+        ensures { result ≡ parts }
+    {
+        Cert { parts }
+    }
+
+    pub fn parts(&self) -> &CertParts
+        ensures parts { result.now ≡ self.now }
+        ensures written { IsWrittenCert self.now }
+    {
+        &self.parts
+    }
+}

@@ -1,0 +1,20 @@
+//! Certificates as text: the answer to a question about the rules of a table, with what shows it. One is read from the
+//! lines of a file.
+#![tactic(auto)]
+
+pub mod answers;
+pub mod cert;
+pub mod fault;
+pub mod names;
+mod nodes;
+mod parse;
+mod questions;
+mod variables;
+
+pub use cert::{Answer, Asked, Cert, CertParts, NodeLine, Question, TreeLines, TupleLine};
+pub use fault::{CertCause, CertFault};
+pub use names::{CellName, NodeName, ReasonName, VarName, Which};
+pub use parse::parse_cert;
+
+#[cfg(test)]
+mod tests;

@@ -1,0 +1,42 @@
+//! The parts of a tree of cases by their names.
+
+use schema_core::Text;
+
+/// Whose value: that of the one tuple which a question of consistency is about, or of one of the two tuples which a
+/// question of implication is about.
+#[derive(Clone, Copy, Debug, PartialEq, Eq)]
+pub enum Which {
+    Only,
+    First,
+    Second,
+}
+
+/// The values of an attribute in a tuple.
+#[derive(Debug, Drop)]
+pub struct CellName {
+    pub tuple: Which,
+    pub attr: Text,
+}
+
+#[derive(Debug, Drop)]
+pub enum VarName {
+    /// The tuple has the value there.
+    Value(CellName, Text),
+    /// The two tuples agree on the attribute.
+    Equal(Text),
+}
+
+/// Why no assignment goes on from a leaf. Clauses are numbered from 1.
+#[derive(Debug, Drop)]
+pub enum ReasonName {
+    Clause(u64),
+    Two(VarName, VarName),
+    NoneOf(CellName),
+}
+
+#[derive(Debug, Drop)]
+pub enum NodeName {
+    Split(VarName),
+    Leaf(ReasonName),
+    Open,
+}

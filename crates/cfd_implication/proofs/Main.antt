@@ -1,0 +1,217 @@
+-- The question has an allowed assignment exactly where two tuples satisfy the rules and not the asked dependency.
+use Rattle.std.proofs.Common.{◌≡◌, ◌≢◌, ◌⊎◌, ℕ, zero, suc, ◌+◌, ◌*◌, ◌<◌, ◌≤◌, Bool, true, false, cond, not, ◌&&◌, ◌||◌, List, [], ◌∷◌, ◌++◌, length, get_or, map, take, Option, Some, None, refl, sym, ap, ◌∙◌, subst, inl, inr, arith}
+use Rattle.std.specs.Prelude.{Contains, IsTrue}
+use Rattle.std.specs.List.{flat_map, list_all, list_any, range_with_len, All, Any, AllByRecursion}
+use Rattle.std.specs.Str.{bytes_eq}
+use Rattle.std.proofs.lemmas.Bool.{cases_Bool, cases_lt, false_from_ne_true, false≢true, and_parts, and_from, not_from_false, or_left, or_right}
+use Rattle.std.proofs.lemmas.List.{length-take-le, get_or-take}
+use Rattle.std.proofs.lemmas.List.Elements.{All-from_recursion, recursion_from_All, All-contains, Contains-append_left, Contains-append_right}
+use Rattle.std.proofs.lemmas.List.Folds.{list_all-append}
+use Rattle.std.proofs.lemmas.List.FromFn.{length-range_with_len, get_or-range_with_len}
+use Rattle.cfd_semantics.proofs.Members.{contains-here, contains-there}
+use Rattle.cfd_semantics.specs.declared.pattern.Pattern.{Pattern}
+use Rattle.cfd_semantics.specs.declared.pattern.Pattern.TheVariants as patterns
+use Rattle.cfd_semantics.specs.declared.dependency.TableauRow.{TableauRow}
+use Rattle.cfd_semantics.specs.Pattern.{matches, all_match}
+use Rattle.cfd_semantics.specs.Tuple.{same_values}
+use Rattle.cfd_semantics.specs.Violation.{sides_of}
+use Rattle.cfd_semantics.specs.Satisfaction.{Satisfies}
+use Rattle.case_tree.specs.declared.clauses.Literal.{Literal}
+use Rattle.case_tree.specs.CaseTree.{ClauseSet, IsAllowed, IsTrueUnder, HasNoneAllowed}
+use Rattle.schema_core.specs.Lookups.{domain_at}
+use Rattle.schema_core.specs.Schemas.{IsValidAttr}
+use Rattle.schema_core.specs.declared.schema.Attr.{Attr}
+use Rattle.cell_values.specs.declared.values.CellValues.{CellValues}
+use Rattle.cell_values.specs.Standing.{counts_as, Agrees}
+use Rattle.cell_values.specs.TableRules.{Rule}
+use Rattle.cell_values.specs.Tuples.{IsTupleOf}
+use Rattle.cell_values.specs.Values.{occurring, cell_values}
+use Rattle.cell_values.proofs.Meaning.{AreValues, IsCovered}
+use Rattle.cell_values.proofs.ValueFacts.{values_good, covered_if_admitted}
+use Rattle.cfd_implication.specs.declared.side.Side.TheVariants.{First, Second}
+use Rattle.cfd_implication.specs.Question.{equal_var, value_var, var_cells, constant_clauses, agreeing_at, rule_clauses, row_clauses, asked_clauses, clauses_of}
+use Rattle.cfd_implication.proofs.Truths.{clause_true, all_true, all_flat, text_of, left_of}
+use Rattle.cfd_implication.proofs.TwoTuples.{RowHolds, row_from_clauses, clauses_from_row, sides_in, sides_there, sides_are, satisfies_from, satisfies_to, same_list, list_same, same_text, text_same}
+use Rattle.cfd_implication.proofs.Asked.{Breaks, asked_is}
+use Rattle.cfd_implication.proofs.Order.{Placed, placed_at, placed_by, values_at, second_at}
+use Rattle.cfd_implication.proofs.Told.{Tells, truth_of, told}
+use Rattle.cfd_implication.proofs.Allowed.{IsOfValues, HasOne, HasSome, whole_cell, Stands, has_one, has_some, var_cells_at}
+use Rattle.cfd_implication.proofs.Chosen.{IsChosen, Matched, AreTexts, text_agrees, equal_texts}
+use Rattle.cfd_implication.proofs.Occurs.{rises, occurring_from, IsOccurring}
+use Rattle.cfd_implication.proofs.Heard.{any_of_clause, clause_of_any, admitted_at, valid_domain_at, IsRuleOf, hears, hears_asked}
+
+-- ---- lists of tests
+
+pub all_contained : {X : Type 0} (p : X → Bool) (xs : List X) → list_all p xs ≡ true → (x : X) → Contains xs x → p x ≡ true
+all_contained p [] all x (k, within, is) = absurd (omega arith)
+all_contained p (y ∷ ys) all x (zero, within, is) = subst (λ z. p z ≡ true) is (and_parts (p y) (list_all p ys) all).0
+all_contained p (y ∷ ys) all x (suc k, within, is) = all_contained p ys (and_parts (p y) (list_all p ys) all).1 x (k, omega arith, is)
+
+pub all_by : {X : Type 0} (p : X → Bool) (xs : List X) → ((x : X) → Contains xs x → p x ≡ true) → list_all p xs ≡ true
+all_by p [] each = refl
+all_by p (y ∷ ys) each = and_from (p y) (list_all p ys) (each y (contains-here y ys)) (all_by p ys (λ x there. each x (contains-there x y ys there)))
+
+pub true_of_all : (truth : ℕ → Bool) (clauses : List (List Literal)) → All (Any (IsTrueUnder truth)) clauses → all_true truth clauses ≡ true
+true_of_all truth clauses all = all_by (clause_true truth) clauses (λ clause there. clause_of_any truth clause (All-contains (Any (IsTrueUnder truth)) clauses clause all there))
+
+pub all_of_true : (truth : ℕ → Bool) (clauses : List (List Literal)) → all_true truth clauses ≡ true → All (Any (IsTrueUnder truth)) clauses
+all_of_true truth clauses holds = All-from_recursion (Any (IsTrueUnder truth)) clauses (each clauses holds) where
+  each : (cs : List (List Literal)) → all_true truth cs ≡ true → AllByRecursion (Any (IsTrueUnder truth)) cs
+  each [] e = tt
+  each (c ∷ cs) e = let both = and_parts (clause_true truth c) (all_true truth cs) e in (any_of_clause truth c both.0, each cs both.1)
+
+-- ---- the three clauses of a constant
+
+abbrev pub three : Bool → Bool → Bool → Bool
+three e p q = (not e || (not p || (q || false))) && ((not e || (not q || (p || false))) && ((not p || (not q || (e || false))) && true))
+
+three_true : (e p q : Bool) → (e ≡ true → p ≡ true → q ≡ true) → (e ≡ true → q ≡ true → p ≡ true) → (p ≡ true → q ≡ true → e ≡ true) → three e p q ≡ true
+three_true true true true f g h = refl
+three_true true true false f g h = f refl refl
+three_true true false true f g h = g refl refl
+three_true true false false f g h = refl
+three_true false true true f g h = h refl refl
+three_true false true false f g h = refl
+three_true false false true f g h = refl
+three_true false false false f g h = refl
+
+pub three_there : (e p q : Bool) → three e p q ≡ true → e ≡ true → p ≡ true → q ≡ true
+three_there true true true holds a b = refl
+three_there true true false holds a b = holds
+three_there true false q holds a b = absurd cc
+three_there false p q holds a b = absurd cc
+
+pub three_back : (e p q : Bool) → three e p q ≡ true → e ≡ true → q ≡ true → p ≡ true
+three_back true true true holds a b = refl
+three_back true false true holds a b = holds
+three_back true p false holds a b = absurd cc
+three_back false p q holds a b = absurd cc
+
+pub three_agree : (e p q : Bool) → three e p q ≡ true → p ≡ true → q ≡ true → e ≡ true
+three_agree true p q holds a b = refl
+three_agree false true true holds a b = holds
+three_agree false false q holds a b = absurd cc
+three_agree false true false holds a b = absurd cc
+
+-- ---- values
+
+pub of_values : (c : CellValues) → AreValues c → IsOfValues c
+of_values c good = record {
+  values = good;
+  distinct = λ i j d less within same.
+      let bound = length-take-le c.constants c.values good.bound in
+      let most = good.bound in
+      good.distinct i j d less (omega arith) (sym (get_or-take c.constants c.values i d (omega arith)) ∙ same ∙ get_or-take c.constants c.values j d (omega arith));
+  single = good.few;
+  other_demanded = λ more. elim (cases_Bool c.demanded) [
+    | inl wanted ↦ wanted
+    | inr free ↦ (let low = good.all_constants free in absurd (omega arith))
+  ];
+  some_demanded = good.some;
+}
+
+module _ (attrs : List Attr) (valid : AllByRecursion IsValidAttr attrs) (rules : List Rule) (asked : Rule) where
+  abbrev pub every : List Rule
+  every = rules ++ asked ∷ []
+
+  abbrev pub cells : List CellValues
+  cells = occurring attrs (rules ++ asked ∷ [])
+
+  abbrev pub question_of : ClauseSet
+  question_of = record { cells = var_cells 0 cells; clauses = clauses_of cells rules asked }
+
+  pub good_at : (c : CellValues) → Contains cells c → IsOfValues c
+  good_at c there =
+      let from = occurring_from attrs every c there in
+      subst IsOfValues from.is (of_values (cell_values every from.attr (domain_at attrs from.attr)) (values_good every from.attr (domain_at attrs from.attr) (valid_domain_at attrs from.attr valid)))
+
+  pub covered_at : (tuple : List (List ℕ)) → IsTupleOf attrs tuple → (c : CellValues) → Contains cells c → IsCovered c (text_of tuple c.attr)
+  covered_at tuple is c there =
+      let from = occurring_from attrs every c there in
+      subst (λ (x : CellValues). IsCovered x (text_of tuple x.attr)) from.is
+      (covered_if_admitted every from.attr (domain_at attrs from.attr) (text_of tuple from.attr) (valid_domain_at attrs from.attr valid) (admitted_at attrs tuple from.attr is from.within))
+
+  module _ (truth : ℕ → Bool) (one other : List (List ℕ)) (one_tuple : IsTupleOf attrs one) (other_tuple : IsTupleOf attrs other) (tells : Placed (Tells one other truth) 0 cells)
+      (each_rule : (rule : Rule) → Contains every rule → IsRuleOf attrs rule) where
+    in_every : (rule : Rule) → Contains rules rule → Contains every rule
+    in_every rule there = Contains-append_left rules (asked ∷ []) rule there
+
+    asked_in : Contains every asked
+    asked_in = Contains-append_right rules (asked ∷ []) asked (contains-here asked [])
+
+    rule_is : (rule : Rule) → all_true truth (rule_clauses cells rule) ≡ list_all (λ row. all_true truth (row_clauses cells rule row)) rule.rows
+    rule_is rule = all_flat (clause_true truth) (row_clauses cells rule) rule.rows
+
+    -- where the clauses of rules are true, the tuples satisfy them
+    pub satisfied : all_true truth (flat_map (rule_clauses cells) rules) ≡ true → (rule : Rule) → Contains rules rule → Satisfies bytes_eq rule (one ∷ other ∷ [])
+    satisfied holds rule there =
+        let rule_holds = all_contained (λ r. all_true truth (rule_clauses cells r)) rules (sym (all_flat (clause_true truth) (rule_clauses cells) rules) ∙ holds) rule there in
+        satisfies_from rule one other (λ row row_there.
+        row_from_clauses truth cells one other rule row row.a refl (hears attrs valid every one other one_tuple other_tuple truth tells rule row (each_rule rule (in_every rule there)) (in_every rule there) row_there)
+        (all_contained (λ r. all_true truth (row_clauses cells rule r)) rule.rows (sym (rule_is rule) ∙ rule_holds) row row_there))
+
+    -- and the other way round
+    pub clauses_hold : ((rule : Rule) → Contains rules rule → (row : TableauRow (List ℕ)) → Contains rule.rows row → RowHolds one other rule row) → all_true truth (flat_map (rule_clauses cells) rules) ≡ true
+    clauses_hold holds =
+        all_flat (clause_true truth) (rule_clauses cells) rules
+        ∙ all_by (λ r. all_true truth (rule_clauses cells r)) rules (λ rule there.
+        rule_is rule ∙ all_by (λ r. all_true truth (row_clauses cells rule r)) rule.rows (λ row row_there.
+        clauses_from_row truth cells one other rule row row.a refl (hears attrs valid every one other one_tuple other_tuple truth tells rule row (each_rule rule (in_every rule there)) (in_every rule there) row_there) (holds rule there row row_there)))
+
+    pub asked_holds : (row : TableauRow (List ℕ)) → Contains asked.rows row
+        → all_true truth (asked_clauses cells asked row)
+        ≡ ((same_values bytes_eq (left_of one asked.x) (left_of other asked.x) && all_match bytes_eq row.x (left_of one asked.x)) && Breaks one other asked.a row.a)
+    asked_holds row row_there = asked_is truth cells one other asked row (hears_asked attrs valid every one other one_tuple other_tuple truth tells asked row (each_rule asked asked_in) asked_in row_there)
+
+    -- tuples that agree both have a constant or neither has it
+    same_counts : (c : CellValues) (t u : List ℕ) (place : ℕ) → bytes_eq t u ≡ true → counts_as c t place ≡ true → counts_as c u place ≡ true
+    same_counts c t u place same counts = subst (λ z. counts_as c z place ≡ true) (same_text t u same) counts
+
+    pub agreeing_hold : ((c : CellValues) (t u : List ℕ) (place : ℕ) → Contains cells c → place < c.constants → counts_as c t place ≡ true → counts_as c u place ≡ true → t ≡ u) → all_true truth (flat_map (agreeing_at cells) cells) ≡ true
+    agreeing_hold constant_same =
+        all_flat (clause_true truth) (agreeing_at cells) cells
+        ∙ all_by (λ c. all_true truth (agreeing_at cells c)) cells (λ c there.
+        all_flat (clause_true truth) (constant_clauses cells c.attr) (range_with_len 0 c.constants)
+        ∙ all_by (λ place. all_true truth (constant_clauses cells c.attr place)) (range_with_len 0 c.constants) (λ place ranged.
+        let size = length-range_with_len 0 c.constants in
+        let (k, k_in, k_is) = ranged in
+        let at : 0 + k ≡ place = sym (get_or-range_with_len 0 c.constants k place (omega arith)) ∙ k_is in
+        let good = good_at c there in
+        let bound = good.values.bound in
+        let low : place < c.constants = omega arith in
+        let within : place < length c.values = omega arith in
+        let told_here = placed_at (Tells one other truth) 0 0 cells c (rises attrs every) tells there in
+        let t = text_of one c.attr in
+        let u = text_of other c.attr in
+        let e_at : 0 + equal_var cells c.attr ≡ equal_var cells c.attr = omega arith in
+        let p_at : 0 + equal_var cells c.attr + 1 + place ≡ value_var First cells c.attr + place = omega arith in
+        let q_at : 0 + equal_var cells c.attr + 1 + length c.values + place ≡ value_var Second cells c.attr + place = omega (arith, second_at 0 cells c (rises attrs every) there) in
+        let e_is : truth (equal_var cells c.attr) ≡ bytes_eq t u = ap truth (sym e_at) ∙ told_here.0 in
+        let p_is : truth (value_var First cells c.attr + place) ≡ counts_as c t place = ap truth (sym p_at) ∙ told_here.1 place within in
+        let q_is : truth (value_var Second cells c.attr + place) ≡ counts_as c u place = ap truth (sym q_at) ∙ told_here.2 place within in
+        three_true (truth (equal_var cells c.attr)) (truth (value_var First cells c.attr + place)) (truth (value_var Second cells c.attr + place))
+        (λ e p. q_is ∙ same_counts c t u place (sym e_is ∙ e) (sym p_is ∙ p))
+        (λ e q. p_is ∙ same_counts c u t place (text_same u t (sym (same_text t u (sym e_is ∙ e)))) (sym q_is ∙ q))
+        (λ p q. e_is ∙ text_same t u (constant_same c t u place there low (sym p_is ∙ p) (sym q_is ∙ q)))))
+
+-- ---- breaking
+
+pub breaks_if_no_match : (one other : List (List ℕ)) (attr : ℕ) (p : Pattern (List ℕ)) → matches bytes_eq p (text_of one attr) ≡ false → Breaks one other attr p ≡ true
+breaks_if_no_match one other attr patterns.Any fails = absurd cc
+breaks_if_no_match one other attr (patterns.Is constant) fails = ap not fails
+breaks_if_no_match one other attr (patterns.In members) fails = or_right (not (bytes_eq (text_of one attr) (text_of other attr))) (not (matches bytes_eq (patterns.In members) (text_of one attr))) (ap not fails)
+breaks_if_no_match one other attr (patterns.NotIn members) fails = or_right (not (bytes_eq (text_of one attr) (text_of other attr))) (not (matches bytes_eq (patterns.NotIn members) (text_of one attr))) (ap not fails)
+
+pub breaks_if_differ : (one other : List (List ℕ)) (attr : ℕ) (p : Pattern (List ℕ)) → bytes_eq (text_of one attr) (text_of other attr) ≡ false → matches bytes_eq p (text_of one attr) ≡ true → matches bytes_eq p (text_of other attr) ≡ true → Breaks one other attr p ≡ true
+breaks_if_differ one other attr patterns.Any fails left right = ap not fails
+breaks_if_differ one other attr (patterns.Is constant) fails left right =
+    absurd (false≢true (sym fails ∙ text_same (text_of one attr) (text_of other attr) (sym (same_text constant (text_of one attr) left) ∙ same_text constant (text_of other attr) right)))
+breaks_if_differ one other attr (patterns.In members) fails left right = or_left (not (bytes_eq (text_of one attr) (text_of other attr))) (not (matches bytes_eq (patterns.In members) (text_of one attr))) (ap not fails)
+breaks_if_differ one other attr (patterns.NotIn members) fails left right = or_left (not (bytes_eq (text_of one attr) (text_of other attr))) (not (matches bytes_eq (patterns.NotIn members) (text_of one attr))) (ap not fails)
+
+-- two tuples that agree on the right and match there don't break it
+pub keeps_if_both : (one other : List (List ℕ)) (attr : ℕ) (p : Pattern (List ℕ)) → bytes_eq (text_of one attr) (text_of other attr) ≡ true → matches bytes_eq p (text_of one attr) ≡ true → Breaks one other attr p ≡ false
+keeps_if_both one other attr patterns.Any same match = ap not same
+keeps_if_both one other attr (patterns.Is constant) same match = ap not match
+keeps_if_both one other attr (patterns.In members) same match = rw (same, match) refl
+keeps_if_both one other attr (patterns.NotIn members) same match = rw (same, match) refl

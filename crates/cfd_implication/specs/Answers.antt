@@ -1,0 +1,18 @@
+-- What a decider of implication may answer.
+use Rattle.std.specs.Prelude.{◌≡◌, ℕ, ◌<◌, ◌≤◌, List}
+use Rattle.schema_core.specs.declared.schema.Schema.{Schema}
+use Rattle.case_tree.specs.CaseTree.{IsPartial, Refutes, leaf_count}
+use Rattle.case_search.specs.Enough.{enough_of}
+use Rattle.rule_model.specs.declared.dep.Dep.{Dep}
+use Rattle.cfd_implication.specs.Implied.{IsCounter, IsImplied}
+use Rattle.cfd_implication.specs.Question.{question}
+use Rattle.cfd_implication.specs.declared.answer.Implication.{Implication}
+use Rattle.cfd_implication.specs.declared.answer.Implication.TheVariants.{Counter, Implied, Spent}
+
+-- Two tuples that show that it isn't implied; a tree that refutes the question, and it is implied; or a tree that is right
+-- as far as it goes, with as many leaves as the budget, which is less than enough.
+abbrev pub IsAnswer : Schema → List Dep → Dep → ℕ → Implication → Type 0
+IsAnswer schema deps dep budget (Counter one other) = IsCounter schema deps dep one other
+IsAnswer schema deps dep budget (Implied tree) = Refutes (question schema deps dep) tree × (leaf_count tree ≤ budget) × IsImplied schema deps dep
+IsAnswer schema deps dep budget (Spent tree) =
+    IsPartial (question schema deps dep) tree × (leaf_count tree ≡ budget) × (budget < enough_of (question schema deps dep).cells)

@@ -1,0 +1,4 @@
+pub mod Implied
+pub mod Question
+pub mod Pairs
+pub mod Answers

@@ -1,0 +1,22 @@
+//! Whether the dependencies of a table imply one more: the question as clauses about two tuples, and a decider that answers
+//! with two tuples, with a tree of cases that refutes the question, or with the tree so far.
+#![tactic(auto)]
+
+pub mod answer;
+mod clause_list;
+mod decider;
+mod literals;
+mod question;
+mod rows;
+pub mod side;
+mod texts;
+mod var_cells;
+mod variables;
+
+pub use answer::Implication;
+pub use decider::{implies, implies_from};
+pub use question::{clauses_from, implication_clauses};
+pub use side::Side;
+
+#[cfg(test)]
+mod tests;

@@ -1,0 +1,188 @@
+//! The two tuples that an assignment stands for.
+
+ghost use Rattle.std.specs.Prelude.{◌≡◌, ◌+◌, ◌*◌, ◌<◌, ◌≤◌, ◌==◌, false, find, length, All, IfOk, IfSome, slice_index_or, sum_by};
+ghost use Rattle.schema_core.specs.Schemas.{IsValidAttr, IsValidDomain};
+ghost use Rattle.cell_values.specs.Values.{AreFew};
+ghost use Rattle.cfd_implication.specs.Pairs.{plain_text, new_text, text_for, constant_of, second_new, value_text, text_at, tuple_of};
+ghost use Rattle.cfd_implication.specs.Question.{equal_var, value_var, var_total};
+ghost use Rattle.cfd_implication.specs.declared.side.Side.TheVariants.{First, Second};
+
+use crate::side::Side;
+use crate::variables::{equal_var, value_var};
+use cell_values::{CellValues, cell_of, chosen, fresh_past};
+use schema_core::{Attr, Domain, List, Text, Texts};
+use std::alloc::{AllocError, Global};
+use value_pool::Pool;
+
+fn plain_text(alloc: Global, domain: &Domain) -> Result<Text, AllocError>
+    requires { IsValidDomain domain.now }
+    ensures { IfOk result (λ text. text ≡ plain_text domain.now) }
+{
+    match domain {
+        Domain::AnyText => fresh_past(alloc, 0, &Pool::new(alloc)),
+        Domain::Finite(values) => values.as_slice()[0].clone(),
+    }
+}
+
+/// The text that is no constant.
+fn new_text(alloc: Global, cell: &CellValues) -> Result<Text, AllocError>
+    ensures { IfOk result (λ text. text ≡ new_text cell.now) }
+{
+    if cell.constants < cell.values.len() {
+        Text::new(alloc, cell.values.text(cell.constants))
+    } else {
+        fresh_past(alloc, 0, &cell.values)
+    }
+}
+
+/// The same, but longer where the second tuple's is to be another one than the first's.
+fn second_new(
+    alloc: Global,
+    cell: &CellValues,
+    equal: bool,
+    one: Option<usize>,
+) -> Result<Text, AllocError>
+    ensures { IfOk result (λ text. text ≡ second_new cell.now equal one) }
+{
+    let text = new_text(alloc, cell)?;
+    if equal || one.is_some() {
+        return Ok(text);
+    }
+    fresh_past(alloc, text.as_str().len(), &cell.values)
+}
+
+/// The text of a constant, or else that text.
+fn text_for(
+    alloc: Global,
+    cell: &CellValues,
+    new: Text,
+    place: Option<usize>,
+) -> Result<Text, AllocError>
+    requires { IfSome place (λ p. p < length cell.now.values) }
+    ensures { IfOk result (λ text. text ≡ text_for cell.now new place) }
+{
+    match place {
+        Some(place) => Text::new(alloc, cell.values.text(place)),
+        None => Ok(new),
+    }
+}
+
+/// Whether the variable of an attribute says that the tuples agree on it.
+fn is_equal(cells: &[CellValues], truth: &[bool], attr: usize) -> bool
+    requires few { AreFew cells.now }
+    requires told { equal_var cells.now attr < length truth.now }
+    ensures { result ≡ slice_index_or truth.now (equal_var cells.now attr) false }
+{
+    truth[equal_var(cells, attr)]
+}
+
+/// The first constant whose variable is true. The variable of the first one is `first`.
+fn constant_of(truth: &[bool], first: usize, cell: &CellValues) -> Option<usize>
+    requires told { first + cell.now.constants ≤ length truth.now }
+    requires bound { cell.now.constants ≤ length cell.now.values }
+    ensures constant { result ≡ constant_of (λ var. slice_index_or truth.now var false) first cell.now }
+    ensures within { IfSome result (λ p. p < length cell.now.values) }
+{
+    chosen(truth, first, cell.constants)
+}
+
+/// The text of the first tuple at an attribute that occurs.
+fn first_text(
+    alloc: Global,
+    cells: &[CellValues],
+    truth: &[bool],
+    cell: &CellValues,
+) -> Result<Text, AllocError>
+    requires few { AreFew cells.now }
+    requires bound { cell.now.constants ≤ length cell.now.values }
+    requires told { value_var First cells.now cell.now.attr + length cell.now.values ≤ length truth.now }
+    ensures { IfOk result (λ text. text ≡ value_text First cells.now (λ var. slice_index_or truth.now var false) cell.now.attr cell.now) }
+{
+    let first = value_var(cells, Side::First, cell.attr);
+    let one = constant_of(truth, first, cell);
+    let new = new_text(alloc, cell)?;
+    text_for(alloc, cell, new, one)
+}
+
+/// The text of the second.
+fn second_text(
+    alloc: Global,
+    cells: &[CellValues],
+    truth: &[bool],
+    cell: &CellValues,
+) -> Result<Text, AllocError>
+    requires few { AreFew cells.now }
+    requires bound { cell.now.constants ≤ length cell.now.values }
+    requires told { value_var First cells.now cell.now.attr + length cell.now.values ≤ length truth.now }
+    requires told_second { value_var Second cells.now cell.now.attr + length cell.now.values ≤ length truth.now }
+    ensures { IfOk result (λ text. text ≡ value_text Second cells.now (λ var. slice_index_or truth.now var false) cell.now.attr cell.now) }
+{
+    let first = value_var(cells, Side::First, cell.attr);
+    let second = value_var(cells, Side::Second, cell.attr);
+    let one = constant_of(truth, first, cell);
+    let other = constant_of(truth, second, cell);
+    let equal = is_equal(cells, truth, cell.attr);
+    let new = second_new(alloc, cell, equal, one)?;
+    text_for(alloc, cell, new, other)
+}
+
+/// The text of a tuple at an attribute that occurs.
+fn value_text(
+    alloc: Global,
+    side: Side,
+    cells: &[CellValues],
+    truth: &[bool],
+    cell: &CellValues,
+) -> Result<Text, AllocError>
+    requires few { AreFew cells.now }
+    requires bound { cell.now.constants ≤ length cell.now.values }
+    requires told { value_var First cells.now cell.now.attr + length cell.now.values ≤ length truth.now }
+    requires told_second { value_var Second cells.now cell.now.attr + length cell.now.values ≤ length truth.now }
+    ensures { IfOk result (λ text. text ≡ value_text side cells.now (λ var. slice_index_or truth.now var false) cell.now.attr cell.now) }
+{
+    match side {
+        Side::First => first_text(alloc, cells, truth, cell),
+        Side::Second => second_text(alloc, cells, truth, cell),
+    }
+}
+
+fn text_at(
+    alloc: Global,
+    side: Side,
+    cells: &[CellValues],
+    truth: &[bool],
+    attr: usize,
+    domain: &Domain,
+) -> Result<Text, AllocError>
+    requires valid { IsValidDomain domain.now }
+    requires few { AreFew cells.now }
+    requires constants { All (λ cell. cell.constants ≤ length cell.values) cells.now }
+    requires told { var_total cells.now ≤ length truth.now }
+    ensures { IfOk result (λ text. text ≡ text_at side cells.now (λ var. slice_index_or truth.now var false) attr domain.now (find (λ cell. cell.attr == attr) cells.now)) }
+{
+    match cell_of(cells, attr) {
+        Some(cell) => value_text(alloc, side, cells, truth, cell),
+        None => plain_text(alloc, domain),
+    }
+}
+
+/// One of the two tuples.
+pub fn tuple_of(
+    alloc: Global,
+    side: Side,
+    attrs: &[Attr],
+    cells: &[CellValues],
+    truth: &[bool],
+) -> Result<Texts, AllocError>
+    requires valid { All IsValidAttr attrs.now }
+    requires few { AreFew cells.now }
+    requires constants { All (λ cell. cell.constants ≤ length cell.values) cells.now }
+    requires told { var_total cells.now ≤ length truth.now }
+    ensures { IfOk result (λ tuple. tuple ≡ tuple_of side attrs.now cells.now (λ var. slice_index_or truth.now var false)) }
+{
+    let mut tuple = List::new(alloc);
+    for attr in 0..attrs.len() {
+        tuple.push(text_at(alloc, side, cells, truth, attr, &attrs[attr].domain)?)?;
+    }
+    Ok(tuple)
+}
