@@ -1,8 +1,8 @@
 -- How a tree grows by one node.
-use Rattle.std.proofs.Common.{◌≡◌, ℕ, suc, ◌+◌, ◌-◌, ◌≤◌, List, [], ◌∷◌, ◌++◌, length, map, refl, sym, ap, ◌∙◌, subst, append_assoc, arith}
+use Rattle.std.proofs.Common.{◌≡◌, ℕ, ◌+◌, ◌-◌, ◌≤◌, List, [], ◌∷◌, ◌++◌, sym, ap, ◌∙◌, subst, append_assoc, arith}
 use Rattle.std.specs.List.{flat_map}
 use Rattle.std.proofs.lemmas.List.{append-nil, map-append}
-use Rattle.case_tree.specs.CaseTree.{CaseTree, split, leaf, unclosed, preorder, IsOneTree}
+use Rattle.case_tree.specs.CaseTree.{split, leaf, unclosed, preorder, IsOneTree}
 use Rattle.case_tree.specs.declared.tree.Node.{Node}
 use Rattle.case_tree.specs.declared.tree.Node.TheVariants as shape
 use Rattle.case_tree.specs.declared.tree.Reason.TheVariants as reasons

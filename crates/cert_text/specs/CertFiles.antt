@@ -1,6 +1,6 @@
 -- Certificate files: the certificate that one spells, or its first faulty line. Lines come in order: a question, an answer,
 -- and behind it a second tuple or the nodes of one tree in preorder. No line follows, and none is missing.
-use Rattle.std.specs.Prelude.{ℕ, ◌+◌, ◌-◌, Bool, List, [], ◌∷◌, ◌++◌, length, Option, Some, None, Ok, if◌then◌else◌, ◌==◌}
+use Rattle.std.specs.Prelude.{ℕ, ◌+◌, ◌-◌, List, [], ◌∷◌, ◌++◌, length, Option, Some, None, Ok, if◌then◌else◌, ◌==◌}
 use Rattle.schema_core.specs.Faults.{Causes, Reading, faulty, ◌>>=◌}
 use Rattle.schema_core.specs.FileLines.{read_line}
 use Rattle.schema_core.specs.Groups.{read_lines}
@@ -15,7 +15,6 @@ use Rattle.cert_text.specs.declared.cert.Question.{Question}
 use Rattle.cert_text.specs.declared.cert.Question.TheVariants.{Consistent, Implies}
 use Rattle.cert_text.specs.declared.cert.Asked.{Asked}
 use Rattle.cert_text.specs.declared.cert.TupleLine.{TupleLine}
-use Rattle.cert_text.specs.declared.cert.NodeLine.{NodeLine}
 use Rattle.cert_text.specs.declared.cert.TreeLines.{TreeLines}
 use Rattle.cert_text.specs.declared.cert.Answer.TheVariants.{Witness, Counter, Tree}
 use Rattle.cert_text.specs.declared.cert.CertParts.{CertParts}

@@ -1,10 +1,9 @@
 -- What the clauses of the asked dependency say of two tuples.
-use Rattle.std.proofs.Common.{◌≡◌, ℕ, Bool, true, false, List, [], ◌∷◌, ◌++◌, length, map, refl, sym, ap, ◌∙◌, subst, arith}
+use Rattle.std.proofs.Common.{◌≡◌, ℕ, Bool, true, false, List, [], ◌∷◌, ◌++◌, length, map, refl, ap, ◌∙◌, arith}
 use Rattle.std.specs.Prelude.{not, ◌&&◌, ◌||◌, zip}
-use Rattle.std.specs.List.{flat_map, list_any, list_all, AllByRecursion}
+use Rattle.std.specs.List.{flat_map, AllByRecursion}
 use Rattle.std.specs.Str.{bytes_eq}
-use Rattle.std.proofs.lemmas.Bool.{and_parts, and_from}
-use Rattle.std.proofs.lemmas.List.Folds.{list_any-append, list_all-append}
+use Rattle.std.proofs.lemmas.List.Folds.{list_all-append}
 use Rattle.cfd_semantics.specs.declared.pattern.Pattern.{Pattern}
 use Rattle.cfd_semantics.specs.declared.pattern.Pattern.TheVariants.{Any, Is, In, NotIn}
 use Rattle.cfd_semantics.specs.declared.dependency.TableauRow.{TableauRow}
@@ -12,10 +11,10 @@ use Rattle.cfd_semantics.specs.Pattern.{matches, all_match}
 use Rattle.cfd_semantics.specs.Tuple.{same_values}
 use Rattle.cell_values.specs.declared.values.CellValues.{CellValues}
 use Rattle.cell_values.specs.TableRules.{Rule}
-use Rattle.cfd_implication.specs.declared.side.Side.TheVariants.{First, Second}
+use Rattle.cfd_implication.specs.declared.side.Side.TheVariants.{First}
 use Rattle.cfd_implication.specs.Question.{equal_var, meets_at, misses_at, agree_on, asked_cell, breaks, asked_clauses}
-use Rattle.cfd_implication.proofs.Truths.{or_false, clause_true, all_true, text_of, left_of, Misses, Meets, Equates}
-use Rattle.cfd_implication.proofs.TwoTuples.{MeetsCell, Hears, same_list, list_same, same_text, text_same}
+use Rattle.cfd_implication.proofs.Truths.{or_false, clause_true, all_true, text_of, left_of, Misses, Equates}
+use Rattle.cfd_implication.proofs.TwoTuples.{MeetsCell, Hears}
 
 -- the tuples don't agree on the right, or the first doesn't match the cell there; of a constant the latter alone
 abbrev pub Breaks : List (List ℕ) → List (List ℕ) → ℕ → Pattern (List ℕ) → Bool

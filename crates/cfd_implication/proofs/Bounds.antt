@@ -1,18 +1,17 @@
 -- How many variables there are, and where those of an attribute lie.
-use Rattle.std.proofs.Common.{◌≡◌, ℕ, zero, suc, ◌+◌, ◌*◌, ◌^◌, ◌<◌, ◌≤◌, Bool, true, false, cond, List, [], ◌∷◌, ◌++◌, length, Option, Some, None, refl, sym, ap, ◌∙◌, subst, append_assoc, arith}
+use Rattle.std.proofs.Common.{◌≡◌, ℕ, zero, suc, ◌+◌, ◌*◌, ◌^◌, ◌<◌, ◌≤◌, Bool, true, false, cond, List, [], ◌∷◌, ◌++◌, length, Option, Some, refl, sym, ap, ◌∙◌, subst, append_assoc, arith}
 use Rattle.std.specs.Prelude.{find, sum_by, nat_lt, nat_eq, Contains}
 use Rattle.std.specs.Option.{option_map_or}
-use Rattle.std.proofs.lemmas.Bool.{eqb-true, le-ltb, lt-ltb, cond-true, cond-false, eq-eqb, ne_eqb}
+use Rattle.std.proofs.lemmas.Bool.{eqb-true, le-ltb}
 use Rattle.std.proofs.lemmas.List.Sums.{sum_by-cons, sum_by-append}
 use Rattle.std.proofs.lemmas.Option.{none-some}
-use Rattle.cfd_semantics.proofs.Members.{contains_cases, contains_nothing, contains-here, contains-there}
+use Rattle.cfd_semantics.proofs.Members.{contains-here, contains-there}
 use Rattle.case_tree.specs.declared.clauses.VarCell.{VarCell}
 use Rattle.case_tree.specs.CaseTree.{FollowFrom, var_count}
 use Rattle.case_tree.proofs.Cells.{var_count-cons}
 use Rattle.cell_values.specs.declared.values.CellValues.{CellValues}
 use Rattle.cell_values.specs.Values.{AreFew, values_for}
-use Rattle.cfd_implication.specs.declared.side.Side.TheVariants.{First, Second}
-use Rattle.cfd_implication.specs.Question.{equal_var, value_var, value_cell, attr_cells, var_cells, var_total}
+use Rattle.cfd_implication.specs.Question.{equal_var, value_cell, attr_cells, var_cells, var_total}
 use Rattle.cfd_implication.proofs.Order.{equal_cons}
 
 total_cons : (c : CellValues) (cs : List CellValues) → var_total (c ∷ cs) ≡ 1 + 2 * length c.values + var_total cs

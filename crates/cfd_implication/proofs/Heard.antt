@@ -1,10 +1,10 @@
 -- Variables that tell of two tuples are heard in every row.
-use Rattle.std.proofs.Common.{◌≡◌, ◌≢◌, ◌⊎◌, ◌↔◌, ℕ, zero, suc, ◌+◌, ◌*◌, ◌<◌, ◌≤◌, Bool, true, false, cond, not, List, [], ◌∷◌, ◌++◌, length, get_or, map, refl, sym, ap, ◌∙◌, subst, inl, inr, arith}
+use Rattle.std.proofs.Common.{◌≡◌, ◌≢◌, ℕ, zero, suc, ◌+◌, ◌<◌, Bool, true, false, cond, not, List, [], ◌∷◌, length, refl, sym, ap, ◌∙◌, subst, inl, inr, arith}
 use Rattle.std.specs.Prelude.{Contains, zip}
-use Rattle.std.specs.List.{list_any, list_all, AllZip, All, Any, AllByRecursion}
+use Rattle.std.specs.List.{AllZip, All, Any, AllByRecursion}
 use Rattle.std.specs.Str.{bytes_eq}
-use Rattle.std.proofs.lemmas.Bool.{cases_Bool, false_from_ne_true, false≢true, true≢false}
-use Rattle.std.proofs.lemmas.List.Elements.{length_all_zip, All-contains, recursion_from_All, All-from_recursion, AllZip-get_or}
+use Rattle.std.proofs.lemmas.Bool.{cases_Bool, false_from_ne_true, false≢true}
+use Rattle.std.proofs.lemmas.List.Elements.{All-contains}
 use Rattle.std.proofs.lemmas.List.Folds.{Any-from_list_any, list_any-from_Any}
 use Rattle.cfd_semantics.specs.declared.pattern.Pattern.{Pattern}
 use Rattle.cfd_semantics.specs.declared.pattern.Pattern.TheVariants as patterns
@@ -16,20 +16,17 @@ use Rattle.case_tree.specs.CaseTree.{IsTrueUnder}
 use Rattle.schema_core.specs.Lookups.{domain_at}
 use Rattle.schema_core.specs.Schemas.{Admits, IsValidAttr, IsValidDomain}
 use Rattle.schema_core.specs.declared.schema.Attr.{Attr}
-use Rattle.schema_core.specs.declared.schema.Domain.{Domain}
-use Rattle.schema_core.specs.declared.schema.Domain.TheVariants.{AnyText}
 use Rattle.rule_model.specs.Rules.{IsCellOf, IsValidRow}
 use Rattle.cell_values.specs.declared.values.CellValues.{CellValues}
 use Rattle.cell_values.specs.Literals.{meets, misses}
 use Rattle.cell_values.specs.Standing.{Agrees}
-use Rattle.cell_values.specs.TableRules.{Rule, occurs, cells_at, row_cells}
+use Rattle.cell_values.specs.TableRules.{Rule, occurs, cells_at}
 use Rattle.cell_values.specs.Tuples.{IsTupleOf}
 use Rattle.cell_values.specs.Values.{cell_values, occurring, values_for}
 use Rattle.cell_values.proofs.Meaning.{AreValues, IsKnownCell, IsCovered, match_if_meets, meets_if_matches, differ_if_misses, misses_if_differ}
 use Rattle.cell_values.proofs.ValueFacts.{values_good, covered_if_admitted, known_if_there}
-use Rattle.cfd_implication.specs.declared.side.Side.{Side}
 use Rattle.cfd_implication.specs.declared.side.Side.TheVariants.{First, Second}
-use Rattle.cfd_implication.specs.Question.{equal_var, value_var, meets_at, misses_at}
+use Rattle.cfd_implication.specs.Question.{equal_var, value_var}
 use Rattle.cfd_implication.proofs.Truths.{lit_true, clause_true, text_of, Misses, Meets, Equates}
 use Rattle.cfd_implication.proofs.TwoTuples.{MeetsCell, Hears}
 use Rattle.cfd_implication.proofs.Asked.{HearsAsked}

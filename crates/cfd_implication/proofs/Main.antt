@@ -1,12 +1,11 @@
 -- The question has an allowed assignment exactly where two tuples satisfy the rules and not the asked dependency.
-use Rattle.std.proofs.Common.{◌≡◌, ◌≢◌, ◌⊎◌, ℕ, zero, suc, ◌+◌, ◌*◌, ◌<◌, ◌≤◌, Bool, true, false, cond, not, ◌&&◌, ◌||◌, List, [], ◌∷◌, ◌++◌, length, get_or, map, take, Option, Some, None, refl, sym, ap, ◌∙◌, subst, inl, inr, arith}
-use Rattle.std.specs.Prelude.{Contains, IsTrue}
-use Rattle.std.specs.List.{flat_map, list_all, list_any, range_with_len, All, Any, AllByRecursion}
+use Rattle.std.proofs.Common.{◌≡◌, ◌≢◌, ℕ, zero, suc, ◌+◌, ◌<◌, Bool, true, false, not, ◌&&◌, ◌||◌, List, [], ◌∷◌, ◌++◌, length, refl, sym, ap, ◌∙◌, subst, inl, inr, arith}
+use Rattle.std.specs.Prelude.{Contains}
+use Rattle.std.specs.List.{flat_map, list_all, range_with_len, All, Any, AllByRecursion}
 use Rattle.std.specs.Str.{bytes_eq}
-use Rattle.std.proofs.lemmas.Bool.{cases_Bool, cases_lt, false_from_ne_true, false≢true, and_parts, and_from, not_from_false, or_left, or_right}
+use Rattle.std.proofs.lemmas.Bool.{cases_Bool, false≢true, and_parts, and_from, or_left, or_right}
 use Rattle.std.proofs.lemmas.List.{length-take-le, get_or-take}
-use Rattle.std.proofs.lemmas.List.Elements.{All-from_recursion, recursion_from_All, All-contains, Contains-append_left, Contains-append_right}
-use Rattle.std.proofs.lemmas.List.Folds.{list_all-append}
+use Rattle.std.proofs.lemmas.List.Elements.{All-from_recursion, All-contains, Contains-append_left, Contains-append_right}
 use Rattle.std.proofs.lemmas.List.FromFn.{length-range_with_len, get_or-range_with_len}
 use Rattle.cfd_semantics.proofs.Members.{contains-here, contains-there}
 use Rattle.cfd_semantics.specs.declared.pattern.Pattern.{Pattern}
@@ -14,15 +13,14 @@ use Rattle.cfd_semantics.specs.declared.pattern.Pattern.TheVariants as patterns
 use Rattle.cfd_semantics.specs.declared.dependency.TableauRow.{TableauRow}
 use Rattle.cfd_semantics.specs.Pattern.{matches, all_match}
 use Rattle.cfd_semantics.specs.Tuple.{same_values}
-use Rattle.cfd_semantics.specs.Violation.{sides_of}
 use Rattle.cfd_semantics.specs.Satisfaction.{Satisfies}
 use Rattle.case_tree.specs.declared.clauses.Literal.{Literal}
-use Rattle.case_tree.specs.CaseTree.{ClauseSet, IsAllowed, IsTrueUnder, HasNoneAllowed}
+use Rattle.case_tree.specs.CaseTree.{ClauseSet, IsTrueUnder}
 use Rattle.schema_core.specs.Lookups.{domain_at}
 use Rattle.schema_core.specs.Schemas.{IsValidAttr}
 use Rattle.schema_core.specs.declared.schema.Attr.{Attr}
 use Rattle.cell_values.specs.declared.values.CellValues.{CellValues}
-use Rattle.cell_values.specs.Standing.{counts_as, Agrees}
+use Rattle.cell_values.specs.Standing.{counts_as}
 use Rattle.cell_values.specs.TableRules.{Rule}
 use Rattle.cell_values.specs.Tuples.{IsTupleOf}
 use Rattle.cell_values.specs.Values.{occurring, cell_values}
@@ -31,13 +29,12 @@ use Rattle.cell_values.proofs.ValueFacts.{values_good, covered_if_admitted}
 use Rattle.cfd_implication.specs.declared.side.Side.TheVariants.{First, Second}
 use Rattle.cfd_implication.specs.Question.{equal_var, value_var, var_cells, constant_clauses, agreeing_at, rule_clauses, row_clauses, asked_clauses, clauses_of}
 use Rattle.cfd_implication.proofs.Truths.{clause_true, all_true, all_flat, text_of, left_of}
-use Rattle.cfd_implication.proofs.TwoTuples.{RowHolds, row_from_clauses, clauses_from_row, sides_in, sides_there, sides_are, satisfies_from, satisfies_to, same_list, list_same, same_text, text_same}
+use Rattle.cfd_implication.proofs.TwoTuples.{RowHolds, row_from_clauses, clauses_from_row, satisfies_from, same_text, text_same}
 use Rattle.cfd_implication.proofs.Asked.{Breaks, asked_is}
-use Rattle.cfd_implication.proofs.Order.{Placed, placed_at, placed_by, values_at, second_at}
-use Rattle.cfd_implication.proofs.Told.{Tells, truth_of, told}
-use Rattle.cfd_implication.proofs.Allowed.{IsOfValues, HasOne, HasSome, whole_cell, Stands, has_one, has_some, var_cells_at}
-use Rattle.cfd_implication.proofs.Chosen.{IsChosen, Matched, AreTexts, text_agrees, equal_texts}
-use Rattle.cfd_implication.proofs.Occurs.{rises, occurring_from, IsOccurring}
+use Rattle.cfd_implication.proofs.Order.{Placed, placed_at, second_at}
+use Rattle.cfd_implication.proofs.Told.{Tells}
+use Rattle.cfd_implication.proofs.Allowed.{IsOfValues}
+use Rattle.cfd_implication.proofs.Occurs.{rises, occurring_from}
 use Rattle.cfd_implication.proofs.Heard.{any_of_clause, clause_of_any, admitted_at, valid_domain_at, IsRuleOf, hears, hears_asked}
 
 -- ---- lists of tests

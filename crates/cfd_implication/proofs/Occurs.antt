@@ -1,11 +1,11 @@
 -- The attributes that occur in rules.
-use Rattle.std.proofs.Common.{◌≡◌, ◌⊎◌, ℕ, zero, suc, ◌+◌, ◌<◌, ◌≤◌, Bool, true, false, cond, List, [], ◌∷◌, ◌++◌, length, get_or, map, refl, sym, ap, ◌∙◌, subst, inl, inr, arith}
-use Rattle.std.specs.Prelude.{filter, Contains, zip, ◌||◌, ◌==◌, nat_eq}
-use Rattle.std.specs.List.{flat_map, list_any, range_with_len, AllZip, All, AllByRecursion}
+use Rattle.std.proofs.Common.{◌≡◌, ℕ, zero, suc, ◌+◌, ◌<◌, Bool, true, cond, List, [], ◌∷◌, length, map, refl, sym, ◌∙◌, subst, inl, inr, arith}
+use Rattle.std.specs.Prelude.{filter, Contains, zip, nat_eq}
+use Rattle.std.specs.List.{list_any, range_with_len}
 use Rattle.std.proofs.lemmas.Bool.{cases_Bool, or_left, or_right, eq-eqb}
 use Rattle.std.proofs.lemmas.List.FromFn.{length-range_with_len, get_or-range_with_len}
-use Rattle.std.proofs.lemmas.List.Elements.{Contains-append_left, Contains-append_right, All-contains}
-use Rattle.cfd_semantics.proofs.Members.{contains_cases, contains_nothing, contains-map, contains_from_map, contains-here, contains-there}
+use Rattle.std.proofs.lemmas.List.Elements.{Contains-append_left, Contains-append_right}
+use Rattle.cfd_semantics.proofs.Members.{contains-map, contains_from_map, contains-here}
 use Rattle.cfd_semantics.proofs.SetFacts.{contains-filter, contains_from_filter}
 use Rattle.cfd_semantics.proofs.InclusionLaw.{any_from_found}
 use Rattle.cfd_semantics.specs.declared.pattern.Pattern.{Pattern}
@@ -13,7 +13,7 @@ use Rattle.cfd_semantics.specs.declared.dependency.TableauRow.{TableauRow}
 use Rattle.schema_core.specs.Lookups.{domain_at}
 use Rattle.schema_core.specs.declared.schema.Attr.{Attr}
 use Rattle.cell_values.specs.declared.values.CellValues.{CellValues}
-use Rattle.cell_values.specs.TableRules.{Rule, occurs, stands_in, row_cells, cells_for, cells_in_row, cells_in_rule, cells_at}
+use Rattle.cell_values.specs.TableRules.{Rule, occurs, stands_in, row_cells, cells_in_row, cells_in_rule, cells_at}
 use Rattle.cell_values.specs.Values.{cell_values, occurring}
 use Rattle.cell_values.proofs.ValueFacts.{Contains-flat_map}
 use Rattle.cfd_implication.proofs.Order.{RisesFrom}

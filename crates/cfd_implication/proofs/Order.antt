@@ -1,13 +1,13 @@
 -- Where the variables of each attribute begin.
-use Rattle.std.proofs.Common.{◌≡◌, ◌⊎◌, ℕ, zero, suc, ◌+◌, ◌*◌, ◌<◌, ◌≤◌, Bool, true, false, cond, List, [], ◌∷◌, length, Option, Some, None, refl, sym, ap, ◌∙◌, subst, inl, inr, arith, eqb}
-use Rattle.std.specs.Prelude.{filter, find, sum_by, count_by, nat_lt, nat_eq, Contains}
+use Rattle.std.proofs.Common.{◌≡◌, ℕ, ◌+◌, ◌*◌, ◌<◌, ◌≤◌, Bool, true, false, cond, List, [], ◌∷◌, length, Option, Some, refl, ap, ◌∙◌, subst, inl, inr, arith}
+use Rattle.std.specs.Prelude.{filter, find, sum_by, nat_lt, nat_eq, Contains}
 use Rattle.std.specs.Option.{option_map_or}
 use Rattle.std.proofs.lemmas.Bool.{lt-ltb, le-ltb, eq-eqb, ne_eqb}
 use Rattle.std.proofs.lemmas.List.Sums.{sum_by-cons}
 use Rattle.cfd_semantics.proofs.Members.{contains_cases, contains_nothing, contains-here, contains-there}
 use Rattle.cell_values.specs.declared.values.CellValues.{CellValues}
 use Rattle.cell_values.specs.Values.{attrs_before, values_before, values_for}
-use Rattle.cfd_implication.specs.declared.side.Side.TheVariants.{First, Second}
+use Rattle.cfd_implication.specs.declared.side.Side.TheVariants.{Second}
 use Rattle.cfd_implication.specs.Question.{equal_var, value_var}
 
 -- the attributes rise, and the first is at least so much

@@ -1,17 +1,16 @@
 -- The two tuples that an allowed assignment stands for: in the domains, with the texts for the true variables, and short.
-use Rattle.std.proofs.Common.{inl, inr, ◌⊎◌, ◌≡◌, ◌≢◌, ℕ, zero, suc, ◌+◌, ◌*◌, ◌-◌, ◌<◌, ◌≤◌, Bool, true, false, cond, List, [], ◌∷◌, ◌++◌, length, get_or, map, take, Option, Some, None, refl, sym, ap, ◌∙◌, subst, arith}
+use Rattle.std.proofs.Common.{inl, inr, ◌≡◌, ◌≢◌, ℕ, suc, ◌+◌, ◌-◌, ◌<◌, ◌≤◌, Bool, true, false, cond, List, [], ◌∷◌, ◌++◌, length, get_or, map, take, Option, Some, None, refl, sym, ap, ◌∙◌, subst, arith}
 use Rattle.std.specs.Prelude.{Contains, find, filter, zip, nat_eq, nat_lt}
-use Rattle.std.specs.List.{All, AllByRecursion, AllZip, flat_map, range_with_len}
-use Rattle.std.proofs.lemmas.Bool.{cases_Bool, cases_lt, cond-true, cond-false, eq-eqb, ne_eqb, ltb-true, ltb-false, false≢true, true≢false}
-use Rattle.std.proofs.lemmas.List.{length-replicate, length-take, get_or-take, get_or_past, take_all}
-use Rattle.std.proofs.lemmas.List.Elements.{All-nil, All-cons, All-head, All-tail, All-push, All-map, All-contains, Contains-get_or, Contains-append_cases}
-use Rattle.std.proofs.lemmas.List.FromFn.{length-range_with_len, get_or-range_with_len, get_or-map-range_with_len}
+use Rattle.std.specs.List.{All, AllByRecursion, flat_map, range_with_len}
+use Rattle.std.proofs.lemmas.Bool.{cases_lt, cond-true, cond-false, eq-eqb, ne_eqb, ltb-true, false≢true}
+use Rattle.std.proofs.lemmas.List.{length-replicate, length-take, get_or-take, get_or_past}
+use Rattle.std.proofs.lemmas.List.Elements.{All-nil, All-cons, All-head, All-tail, All-push, All-contains, Contains-get_or, Contains-append_cases}
+use Rattle.std.proofs.lemmas.List.FromFn.{get_or-map-range_with_len}
 use Rattle.cfd_semantics.proofs.Members.{contains_cases, contains_nothing}
 use Rattle.cfd_semantics.proofs.SetFacts.{contains_from_filter}
 use Rattle.cfd_semantics.specs.declared.pattern.Pattern.{Pattern}
 use Rattle.cfd_semantics.specs.declared.pattern.Pattern.TheVariants as patterns
 use Rattle.cfd_semantics.specs.declared.dependency.TableauRow.{TableauRow}
-use Rattle.case_tree.specs.CaseTree.{IsIn}
 use Rattle.schema_core.specs.Lookups.{domain_at}
 use Rattle.schema_core.specs.Schemas.{Admits, IsValidAttr, IsValidDomain}
 use Rattle.schema_core.specs.declared.schema.Attr.{Attr}
@@ -20,12 +19,11 @@ use Rattle.schema_core.specs.declared.schema.Domain.TheVariants.{AnyText, Finite
 use Rattle.rule_model.specs.Declarations.{constants_of}
 use Rattle.rule_model.specs.Rules.{IsCellOf, IsValidRow}
 use Rattle.cell_values.specs.declared.values.CellValues.{CellValues}
-use Rattle.cell_values.specs.Fresh.{fresh_past, longest, IsFreshPast}
-use Rattle.cell_values.specs.Standing.{chosen}
-use Rattle.cell_values.specs.TableRules.{Rule, cells_at, cells_for, cells_in_row, cells_in_rule, row_cells}
+use Rattle.cell_values.specs.Fresh.{fresh_past, longest}
+use Rattle.cell_values.specs.TableRules.{Rule, cells_at, cells_in_row, cells_in_rule, row_cells}
 use Rattle.cell_values.specs.Tuples.{IsTupleOf, answer_bytes}
 use Rattle.cell_values.specs.Values.{cell_values, constants_at, has_other, occurring, once_after, with_other, with_text}
-use Rattle.cell_values.proofs.Choices.{fresh_there, search_first, IsFirst}
+use Rattle.cell_values.proofs.Choices.{fresh_there, search_first}
 use Rattle.cell_values.proofs.Lists.{find_first, find_none}
 use Rattle.cell_values.proofs.Meaning.{AreValues}
 use Rattle.cell_values.proofs.ValueFacts.{with_text_cases, values_good}
@@ -38,7 +36,7 @@ use Rattle.cfd_implication.proofs.Order.{RisesFrom, placed_at, rises_above, seco
 use Rattle.cfd_implication.proofs.Allowed.{HasSome, equal_cell, whole_cell, var_cells_at}
 use Rattle.cfd_implication.proofs.Bounds.{found_attr}
 use Rattle.cfd_implication.proofs.Chosen.{IsChosen, IsText, AreTexts}
-use Rattle.cfd_implication.proofs.Occurs.{rises, occurring_from, IsOccurring}
+use Rattle.cfd_implication.proofs.Occurs.{rises, occurring_from}
 use Rattle.cfd_implication.proofs.Heard.{IsRuleOf, valid_domain_at, zip_cell}
 use Rattle.cfd_implication.proofs.Theorems.{Fits}
 use Rattle.cfd_implication.proofs.WellFormed.{all_flat_map, all_map}

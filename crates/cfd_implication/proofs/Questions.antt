@@ -1,16 +1,15 @@
 -- The question over a schema.
-use Rattle.std.proofs.Common.{◌≡◌, ℕ, ◌+◌, ◌<◌, ◌≤◌, Bool, List, [], ◌∷◌, ◌++◌, length, get_or, Option, Some, None, refl, sym, ap, ◌∙◌, subst, arith}
+use Rattle.std.proofs.Common.{◌≡◌, ℕ, ◌≤◌, Bool, List, [], ◌∷◌, length, get_or, Option, Some, None, refl, ap, subst, arith}
 use Rattle.std.specs.Prelude.{Contains, slice_get}
 use Rattle.std.specs.Option.{option_map_or}
 use Rattle.std.specs.List.{All, AllByRecursion}
 use Rattle.std.proofs.lemmas.List.Elements.{All-nil, All-from_recursion, recursion_from_All, Contains-get_or}
 use Rattle.std.proofs.lemmas.Option.{slice_get_within, get_or_from_slice_get}
 use Rattle.cfd_semantics.proofs.Members.{contains-here, contains-there}
-use Rattle.case_tree.specs.CaseTree.{ClauseSet, IsAllowed, IsWellFormed, var_count}
+use Rattle.case_tree.specs.CaseTree.{IsAllowed, IsWellFormed, var_count}
 use Rattle.case_search.specs.Answer.{HasOneFree}
 use Rattle.schema_core.specs.Lookups.{attrs_at}
 use Rattle.schema_core.specs.Schemas.{IsValidAttr, IsValidTable, IsValidSchema}
-use Rattle.schema_core.specs.declared.schema.Attr.{Attr}
 use Rattle.schema_core.specs.declared.schema.Table.{Table}
 use Rattle.schema_core.specs.declared.schema.Schema.{Schema}
 use Rattle.rule_model.specs.declared.dep.Dep.{Dep}

@@ -1,7 +1,7 @@
 -- Two tuples from an allowed assignment, and no counterexample where there is none.
-use Rattle.std.proofs.Common.{◌≡◌, ◌≢◌, ◌⊎◌, ℕ, zero, suc, ◌+◌, ◌*◌, ◌<◌, ◌≤◌, Bool, true, false, not, ◌&&◌, List, [], ◌∷◌, ◌++◌, length, get_or, map, Option, Some, None, refl, sym, ap, ◌∙◌, subst, inl, inr, arith}
-use Rattle.std.specs.Prelude.{Contains, IsTrue, filter, nat_eq}
-use Rattle.std.specs.List.{flat_map, list_all, All, Any, AllByRecursion, AllZip}
+use Rattle.std.proofs.Common.{◌≡◌, ◌≢◌, ℕ, suc, ◌+◌, ◌<◌, Bool, true, false, ◌&&◌, List, [], ◌∷◌, ◌++◌, length, Option, Some, refl, sym, ap, ◌∙◌, subst, inl, inr, arith}
+use Rattle.std.specs.Prelude.{Contains, filter, nat_eq}
+use Rattle.std.specs.List.{flat_map, All, AllByRecursion}
 use Rattle.std.specs.Str.{bytes_eq}
 use Rattle.std.proofs.lemmas.Bool.{cases_Bool, false≢true, and_parts, and_from, eq-eqb, eqb-true}
 use Rattle.std.proofs.lemmas.List.Elements.{All-contains, recursion_from_All, Contains-append_left, Contains-append_right, Contains-append_cases}
@@ -13,29 +13,27 @@ use Rattle.cfd_semantics.specs.Pattern.{matches, all_match}
 use Rattle.cfd_semantics.specs.Tuple.{same_values}
 use Rattle.cfd_semantics.specs.Violation.{Sides, sides_of}
 use Rattle.cfd_semantics.specs.Satisfaction.{Satisfies}
-use Rattle.case_tree.specs.CaseTree.{ClauseSet, IsAllowed, HasNoneAllowed}
-use Rattle.schema_core.specs.Lookups.{attrs_at, domain_at}
-use Rattle.schema_core.specs.Schemas.{IsValidAttr, IsValidSchema}
+use Rattle.case_tree.specs.CaseTree.{IsAllowed, HasNoneAllowed}
+use Rattle.schema_core.specs.Lookups.{attrs_at}
+use Rattle.schema_core.specs.Schemas.{IsValidAttr}
 use Rattle.schema_core.specs.declared.schema.Attr.{Attr}
 use Rattle.schema_core.specs.declared.schema.Schema.{Schema}
 use Rattle.rule_model.specs.declared.dep.Dep.{Dep}
 use Rattle.rule_model.specs.Rules.{IsValidDep}
-use Rattle.rule_model.specs.Satisfied.{SatisfyDep}
 use Rattle.cell_values.specs.declared.values.CellValues.{CellValues}
-use Rattle.cell_values.specs.Standing.{counts_as, Agrees}
 use Rattle.cell_values.specs.TableRules.{Rule, rule_of, table_rules}
 use Rattle.cell_values.specs.Tuples.{IsTupleOf}
 use Rattle.cell_values.specs.Values.{occurring}
 use Rattle.cell_values.proofs.Meaning.{is_constant}
 use Rattle.cfd_implication.specs.declared.side.Side.TheVariants.{First, Second}
-use Rattle.cfd_implication.specs.Implied.{SatisfyTable, IsImplied}
-use Rattle.cfd_implication.specs.Question.{equal_var, value_var, var_cells, agreeing_at, constant_clauses, rule_clauses, asked_clauses, clauses_of, question}
+use Rattle.cfd_implication.specs.Implied.{IsImplied}
+use Rattle.cfd_implication.specs.Question.{equal_var, value_var, agreeing_at, constant_clauses, rule_clauses, asked_clauses, question}
 use Rattle.cfd_implication.proofs.Truths.{clause_true, all_true, all_flat, text_of, left_of}
-use Rattle.cfd_implication.proofs.TwoTuples.{RowHolds, sides_in, sides_there, sides_are, satisfies_to, same_list, list_same, same_text, text_same}
+use Rattle.cfd_implication.proofs.TwoTuples.{sides_in, sides_there, sides_are, satisfies_to, same_list, list_same, same_text, text_same}
 use Rattle.cfd_implication.proofs.Asked.{Breaks}
-use Rattle.cfd_implication.proofs.Order.{Placed, placed_at, placed_by, placed_both, second_at}
+use Rattle.cfd_implication.proofs.Order.{Placed, placed_at, placed_by, second_at}
 use Rattle.cfd_implication.proofs.Told.{Tells, truth_of, told}
-use Rattle.cfd_implication.proofs.Allowed.{IsOfValues, HasOne, HasSome, equal_cell, whole_cell, Stands, has_one, has_some, var_cells_at}
+use Rattle.cfd_implication.proofs.Allowed.{HasOne, HasSome, equal_cell, whole_cell, Stands, has_one, has_some, var_cells_at}
 use Rattle.cfd_implication.proofs.Chosen.{IsChosen, Matched, AreTexts, text_agrees, equal_texts}
 use Rattle.cfd_implication.proofs.Occurs.{rises}
 use Rattle.cfd_implication.proofs.Heard.{IsRuleOf}

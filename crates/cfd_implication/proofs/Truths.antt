@@ -1,20 +1,19 @@
 -- What clauses say under truth values, as tests of two tuples.
-use Rattle.std.proofs.Common.{◌≡◌, ℕ, zero, suc, Bool, true, false, cond, List, [], ◌∷◌, ◌++◌, length, map, get_or, refl, sym, ap, ◌∙◌, arith}
+use Rattle.std.proofs.Common.{◌≡◌, ℕ, Bool, true, false, cond, List, [], ◌∷◌, ◌++◌, length, map, refl, sym, ap, ◌∙◌, arith}
 use Rattle.std.specs.Prelude.{not, ◌&&◌, ◌||◌, slice_index_or, zip}
 use Rattle.std.specs.List.{flat_map, list_any, list_all, AllByRecursion}
 use Rattle.std.specs.Str.{bytes_eq}
 use Rattle.std.proofs.lemmas.List.Folds.{list_any-append, list_all-append}
 use Rattle.case_tree.specs.declared.clauses.Literal.{Literal}
 use Rattle.cfd_semantics.specs.declared.pattern.Pattern.{Pattern}
-use Rattle.cfd_semantics.specs.declared.pattern.Pattern.TheVariants.{Any, Is, In, NotIn}
 use Rattle.cfd_semantics.specs.declared.dependency.TableauRow.{TableauRow}
 use Rattle.cfd_semantics.specs.Pattern.{matches, all_match}
 use Rattle.cfd_semantics.specs.Tuple.{same_values}
 use Rattle.cell_values.specs.declared.values.CellValues.{CellValues}
 use Rattle.cell_values.specs.TableRules.{Rule}
 use Rattle.cfd_implication.specs.declared.side.Side.{Side}
-use Rattle.cfd_implication.specs.declared.side.Side.TheVariants.{First, Second}
-use Rattle.cfd_implication.specs.Question.{equal_var, yes, no, differ_on, meets_at, misses_at, misses_left, alone, together}
+use Rattle.cfd_implication.specs.declared.side.Side.TheVariants.{First}
+use Rattle.cfd_implication.specs.Question.{equal_var, yes, differ_on, meets_at, misses_at, misses_left, alone, together}
 
 -- ---- tests
 

@@ -1,12 +1,11 @@
 -- The clauses are over the variables of the cells, and no clause has two positive literals of cells that aren't demanded.
-use Rattle.std.proofs.Common.{inl, inr, ◌⊎◌, ◌≡◌, ℕ, zero, suc, ◌+◌, ◌*◌, ◌^◌, ◌<◌, ◌≤◌, Bool, true, false, cond, List, [], ◌∷◌, ◌++◌, length, get_or, map, Option, Some, refl, sym, ap, ◌∙◌, subst, arith}
+use Rattle.std.proofs.Common.{inl, inr, ◌≡◌, ℕ, suc, ◌+◌, ◌*◌, ◌<◌, ◌≤◌, Bool, true, false, cond, List, [], ◌∷◌, ◌++◌, length, get_or, map, refl, sym, ap, ◌∙◌, subst, arith}
 use Rattle.std.specs.Prelude.{Contains, zip}
 use Rattle.std.specs.List.{All, AllByRecursion, flat_map, range_with_len}
 use Rattle.std.specs.Str.{bytes_eq}
-use Rattle.std.proofs.lemmas.Bool.{cases_lt, cases_order, true≢false}
+use Rattle.std.proofs.lemmas.Bool.{cases_order, true≢false}
 use Rattle.std.proofs.lemmas.List.Sums.{sum_by-cons}
-use Rattle.std.proofs.lemmas.List.{get_or_default}
-use Rattle.std.proofs.lemmas.List.Elements.{All-nil, All-cons, All-append, All-contains, All-weaker, All-from_recursion, recursion_from_All, Contains-append_left, Contains-append_right}
+use Rattle.std.proofs.lemmas.List.Elements.{All-nil, All-cons, All-append, All-contains, All-weaker, Contains-append_left, Contains-append_right}
 use Rattle.std.proofs.lemmas.List.FromFn.{length-range_with_len, get_or-range_with_len}
 use Rattle.std.proofs.lemmas.Slice.Eq.{bytes_eq-Decides}
 use Rattle.cfd_semantics.proofs.Members.{contains-here, contains-there, contains_cases, contains_nothing}
@@ -15,14 +14,14 @@ use Rattle.cfd_semantics.specs.declared.pattern.Pattern.TheVariants as patterns
 use Rattle.cfd_semantics.specs.declared.dependency.TableauRow.{TableauRow}
 use Rattle.case_tree.specs.declared.clauses.Literal.{Literal}
 use Rattle.case_tree.specs.declared.clauses.VarCell.{VarCell}
-use Rattle.case_tree.specs.CaseTree.{ClauseSet, IsIn, IsWellFormed, var_count}
+use Rattle.case_tree.specs.CaseTree.{ClauseSet, IsIn, IsWellFormed}
 use Rattle.case_search.specs.Answer.{IsFree, HasOneFree}
 use Rattle.schema_core.specs.Lookups.{domain_at}
 use Rattle.schema_core.specs.Schemas.{IsValidAttr}
 use Rattle.schema_core.specs.declared.schema.Attr.{Attr}
 use Rattle.rule_model.specs.Rules.{IsValidRow}
 use Rattle.cell_values.specs.declared.values.CellValues.{CellValues}
-use Rattle.cell_values.specs.TableRules.{Rule, occurs, cells_at}
+use Rattle.cell_values.specs.TableRules.{Rule, occurs}
 use Rattle.cell_values.specs.Values.{AreFew, cell_values, occurring, values_for}
 use Rattle.cell_values.specs.Literals.{literals_where, matches_as, meets, misses}
 use Rattle.cell_values.proofs.Meaning.{AreValues, IsKnownCell}
@@ -31,10 +30,10 @@ use Rattle.cell_values.proofs.ValueFacts.{values_good, known_if_there}
 use Rattle.cfd_implication.specs.declared.side.Side.{Side}
 use Rattle.cfd_implication.specs.declared.side.Side.TheVariants.{First, Second}
 use Rattle.cfd_implication.specs.Question.{equal_var, value_var, yes, no, var_cells, var_total, constant_clauses, agreeing_at, differ_on, meets_at, misses_at, misses_left, alone, together, clauses_for, row_clauses, rule_clauses, agree_on, asked_cell, breaks, asked_clauses, clauses_of}
-use Rattle.cfd_implication.proofs.Order.{RisesFrom, Placed, placed_by, values_at, second_at, rises_above, equal_here, equal_next}
+use Rattle.cfd_implication.proofs.Order.{RisesFrom, placed_by, values_at, second_at, rises_above, equal_here, equal_next}
 use Rattle.cfd_implication.proofs.Allowed.{equal_cell, whole_cell, var_cells_all}
-use Rattle.cfd_implication.proofs.Bounds.{cells_count, cells_follow, total_fits, found_within}
-use Rattle.cfd_implication.proofs.Occurs.{rises, occurring_has, occurring_from, IsOccurring, left_occurs, right_occurs, cell_there, left_cell, right_cell}
+use Rattle.cfd_implication.proofs.Bounds.{cells_count, cells_follow, total_fits}
+use Rattle.cfd_implication.proofs.Occurs.{rises, occurring_has, occurring_from, left_occurs, right_occurs, cell_there, left_cell, right_cell}
 use Rattle.cfd_implication.proofs.Heard.{IsRuleOf, valid_domain_at, zip_left, zip_cell}
 
 -- ---- what holds of all literals

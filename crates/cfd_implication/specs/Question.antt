@@ -1,10 +1,9 @@
 -- The question whether dependencies imply one more, as clauses about two tuples. For each attribute that occurs there is a
 -- variable that says that the tuples agree on it, and then one for each value that the first tuple may have there, and one
 -- for each that the second may have.
-use Rattle.std.specs.Prelude.{ℕ, ◌+◌, ◌*◌, ◌==◌, Bool, true, false, if◌then◌else◌, List, [], ◌∷◌, ◌++◌, length, map, zip}
+use Rattle.std.specs.Prelude.{ℕ, ◌+◌, ◌*◌, ◌==◌, true, false, if◌then◌else◌, List, [], ◌∷◌, ◌++◌, length, map, zip}
 use Rattle.std.specs.List.{flat_map, range_with_len, sum_by}
 use Rattle.schema_core.specs.Lookups.{attrs_at}
-use Rattle.schema_core.specs.declared.schema.Attr.{Attr}
 use Rattle.schema_core.specs.declared.schema.Schema.{Schema}
 use Rattle.cfd_semantics.specs.declared.pattern.Pattern.{Pattern}
 use Rattle.cfd_semantics.specs.declared.pattern.Pattern.TheVariants.{Any, Is, In, NotIn}

@@ -14,7 +14,7 @@ pub use alone::parse_dep;
 pub use cells::CellPart;
 pub use fault::{ParseCause, ParseFault};
 pub use file::parse_rules;
-pub use print::{Cells, print_dep, print_rules};
+pub use print::{print_dep, print_rules};
 
 #[cfg(test)]
 mod tests;

@@ -61,7 +61,7 @@ fn push_members(out: &mut Vec<u8>, members: &[Text]) -> Result<(), AllocError>
 }
 
 /// Cells of a tableau.
-pub struct Cells;
+struct Cells;
 
 impl Writes<Cell> for Cells {
     ghost written = { cell_parts };

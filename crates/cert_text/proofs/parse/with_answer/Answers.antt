@@ -1,7 +1,6 @@
-use Rattle.std.proofs.Common.{ℕ, Option, Some, None, List, [], refl, sym, subst}
+use Rattle.std.proofs.Common.{ℕ, Option, List, sym, subst}
 use Rattle.std.specs.Prelude.{IfSome, All}
 use Rattle.std.proofs.lemmas.List.Elements.{All-nil}
-use Rattle.cert_text.specs.declared.answers.AnswerLine.{AnswerLine}
 use Rattle.cert_text.specs.declared.cert.NodeLine.{NodeLine}
 use Rattle.cert_text.specs.Written.{IsBudget, IsNodeOf, IsAnswerLine, Misses}
 use Rattle.cert_text.specs.CertFiles.{kind_of}

@@ -1,9 +1,9 @@
-use Rattle.std.proofs.Common.{◌≡◌, ℕ, ◌≤◌, List, [], ◌∷◌, ◌++◌, sym, subst, arith}
+use Rattle.std.proofs.Common.{ℕ, ◌≤◌, List, [], ◌∷◌, ◌++◌, sym, subst, arith}
 use Rattle.std.specs.Prelude.{All}
 use Rattle.std.proofs.lemmas.List.Elements.{All-push}
 use Rattle.cert_text.specs.declared.cert.NodeLine.{NodeLine}
 use Rattle.cert_text.specs.Written.{IsNodeOf, Misses}
-use Rattle.cert_text.specs.CertFiles.{kind_of, missing_behind}
+use Rattle.cert_text.specs.CertFiles.{kind_of}
 use Rattle.cert_text.proofs.Shapes.{misses_more}
 use Rattle.cert_text.proofs.parse.with_node.Goals as goal
 

@@ -3,14 +3,11 @@ use Rattle.std.specs.Prelude.{All, slice_index_or}
 use Rattle.case_tree.specs.CaseTree.{ClauseSet, IsAllowed, Refutes, var_count}
 use Rattle.case_tree.proofs.Soundness.{sound}
 use Rattle.case_search.specs.Answer as search
-use Rattle.case_search.specs.declared.search.Found.{Found}
-use Rattle.case_search.specs.declared.search.Found.TheVariants.{Model, Refuted}
 use Rattle.schema_core.specs.Schemas.{IsValidAttr}
 use Rattle.schema_core.specs.declared.schema.Attr.{Attr}
 use Rattle.rule_model.specs.declared.dep.Dep.{Dep}
 use Rattle.cell_values.specs.declared.values.CellValues.{CellValues}
 use Rattle.schema_core.specs.Lookups.{attrs_at}
-use Rattle.cfd_implication.specs.declared.side.Side.{Side}
 use Rattle.cfd_implication.specs.declared.side.Side.TheVariants.{First, Second}
 use Rattle.cfd_implication.specs.Implied.{IsCounter}
 use Rattle.cfd_implication.specs.Pairs.{tuple_of}

@@ -1,11 +1,9 @@
-use Rattle.std.proofs.Common.{◌≡◌, ℕ, ◌≤◌, List, [], ◌∷◌, length, sym, ap, ◌∙◌, subst}
+use Rattle.std.proofs.Common.{◌≡◌, ◌≤◌, List, [], ◌∷◌, length, sym, ap, ◌∙◌, subst}
 use Rattle.std.specs.Prelude.{All}
-use Rattle.case_tree.specs.CaseTree.{ClauseSet, IsWellFormed, clause_set}
+use Rattle.case_tree.specs.CaseTree.{IsWellFormed, clause_set}
 use Rattle.case_tree.specs.declared.clauses.Literal.{Literal}
 use Rattle.case_tree.specs.declared.clauses.VarCell.{VarCell}
-use Rattle.schema_core.specs.Lookups.{attrs_at}
 use Rattle.schema_core.specs.declared.schema.Attr.{Attr}
-use Rattle.rule_model.specs.declared.dep.Dep.{Dep}
 use Rattle.cell_values.specs.declared.values.CellValues.{CellValues}
 use Rattle.cell_values.specs.TableRules.{Rule, rules_with, table_rules}
 use Rattle.cell_values.specs.Values.{AreFew, occurring, values_for}
