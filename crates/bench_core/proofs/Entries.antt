@@ -8,7 +8,6 @@ use Rattle.std.proofs.lemmas.Bool.Decides.{nat_tests}
 use Rattle.std.proofs.lemmas.Grind.{common_steps}
 use Rattle.std.proofs.lemmas.Bool.{cases_eq, cases_lt}
 use Rattle.std.proofs.lemmas.List.Elements.{All-head, All-tail}
-use Rattle.std.specs.FinMap as finmap
 use Rattle.std.specs.FinMap.Entries as entry
 use Rattle.bench_core.specs.State.{Row, has_id}
 use Rattle.bench_core.specs.Stored.{StoredRow, row_of, text_of}

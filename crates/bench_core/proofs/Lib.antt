@@ -18,3 +18,10 @@ pub mod Editing
 pub mod Loads
 pub mod Distinct
 pub mod NoRows
+pub mod TuplesAt
+pub mod InStepWith
+pub mod FollowedChange
+pub mod RowJoins
+pub mod Answering
+pub mod Behind
+pub mod MasterRows

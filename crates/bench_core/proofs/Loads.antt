@@ -5,7 +5,10 @@ use Rattle.std.proofs.lemmas.List.{take-map, take-take, take-append-le, take_all
 use Rattle.std.proofs.lemmas.List.Sums.{fails_before_first, position_or_len_is, sum_by-cons}
 use Rattle.std.proofs.lemmas.List.FromFn.{length-map-range_with_len, get_or-map-range_with_len, length-enumerate_from, get_or-enumerate_from, length-range_with_len, get_or-range_with_len}
 use Rattle.std.proofs.lemmas.Option.{none-some}
+use Rattle.std.proofs.lemmas.Slice.Zip.{AllZip-long}
+use Rattle.std.proofs.lemmas.List.Elements.{All-weaker}
 use Rattle.std.proofs.lemmas.Bool.{cases_lt, lt-ltb, le-ltb, ltb-false, or_parts, and_parts, lt-leb, le-leb, leb-true, false≢true}
+use Rattle.schema_core.specs.Lookups.{attrs_at}
 use Rattle.schema_core.specs.Rows.{IsRowOf}
 use Rattle.schema_core.specs.declared.limits.Limits.{Limits}
 use Rattle.schema_core.specs.declared.schema.Table.{Table}
@@ -16,6 +19,7 @@ use Rattle.bench_core.specs.Sizes.{is_over, total_rows, total_cells, weight, sto
 use Rattle.bench_core.specs.Loading.{Tuples, AreTables, first_over, loaded, loaded_table}
 use Rattle.bench_core.specs.Found.{unless_found}
 use Rattle.bench_core.specs.Bench.{AreCounts, IsBench}
+use Rattle.bench_core.proofs.States.{side_by_side}
 use Rattle.bench_core.proofs.Totals.{total_rows-push, total_cells-push, nat_le-stopped}
 
 -- tables so far that are a front of all of them
@@ -257,6 +261,15 @@ module _ {rules : Book} {limits : Limits} {so_far : List Tuples} {state : State}
 
     pub turned : IsSoFar rules limits (so_far ++ x ∷ []) (state ++ loaded_table x ∷ []) weights (rows - 0 + k) (cells - 0 * slice_index weights n + k * slice_index weights n)
     turned = rw (k-is, n-is) (held-more held allowed within x room)
+
+-- each row of the next table has as many texts as the table has attributes
+pub turn-full : {rules : Book} {limits : Limits} {so_far : List Tuples} {state : State} {weights : List ℕ} {rows cells : ℕ} → IsSoFar rules limits so_far state weights rows cells → (cell_bytes : ℕ) (tables : List Tuples) → AreTables rules.schema cell_bytes tables
+    → (x : Tuples) → length so_far < length tables → x ≡ get_or tables (length so_far) x → (n : ℕ) → n ≡ length state → All (λ (texts : List (List ℕ)). length texts ≡ length (attrs_at rules.schema n)) x
+turn-full {rules} {so_far = so_far} held cell_bytes tables fit x there next n is =
+    let place : n ≡ length so_far = is ∙ ap length held.loaded-is ∙ length-map so_far loaded_table in
+    let (table, found, fits) = side_by_side (λ (table : Table) (rows : Tuples). All (IsRowOf table.attrs cell_bytes) rows) rules.schema.tables tables (length so_far) x fit there in
+    let wide = All-weaker (IsRowOf table.attrs cell_bytes) (λ (texts : List (List ℕ)). length texts ≡ length table.attrs) (λ row of. AllZip-long _ _ _ of.domains) x (subst (All (IsRowOf table.attrs cell_bytes)) (sym next) fits) in
+    rw (place, found) wide
 
 -- the bench of tables that are loaded
 loaded_as : (rules : Book) (limits : Limits) (tables : List Tuples) (state : State) → AreLimits limits → AreTables rules.schema limits.cell_bytes tables → (found : Option ℕ) → first_over rules limits (map loaded_table tables) ≡ found

@@ -1,7 +1,7 @@
 -- The change that each edit makes to a table, and that it makes the same as the edit makes to the table's state.
 use Rattle.std.proofs.Common.{◌≡◌, ℕ, ◌+◌, ◌<◌, true, cond, List, [], ◌∷◌, ◌++◌, map, length, Option, Some, None, Ok, Err, All, IsSome, option_map, nat_le, refl, sym, ap, subst, ◌∙◌, arith, inl, inr, nat_cmp}
 use Rattle.std.specs.Option.{ForSome}
-use Rattle.std.specs.List.{find, slice_get, slice_set}
+use Rattle.std.specs.List.{slice_get, slice_set}
 use Rattle.std.specs.Cmp.{nat_cmp_total}
 use Rattle.std.proofs.lemmas.Bool.{cases_eq}
 use Rattle.std.proofs.lemmas.Bool.Decides.{nat_tests}

@@ -32,11 +32,11 @@ there-weaker (suc n) (table ∷ tables) P Q weaker holds = there-weaker n tables
 
 -- ---- one tuple
 
-get-with_tuple : (rows : Rows) (id : ℕ) (tuple : Option (List ℕ)) → finmap.get (with_tuple rows id tuple) id ≡ tuple
+pub get-with_tuple : (rows : Rows) (id : ℕ) (tuple : Option (List ℕ)) → finmap.get (with_tuple rows id tuple) id ≡ tuple
 get-with_tuple rows id None = grind (arith, nat_tests, finmap.get-remove nat_cmp_total rows id id)
 get-with_tuple rows id (Some values) = grind (arith, nat_tests, finmap.get-insert nat_cmp_total rows id values id)
 
-get-with_tuple_apart : (rows : Rows) (id : ℕ) (tuple : Option (List ℕ)) (q : ℕ) → (q ≡ id → ⊥) → finmap.get (with_tuple rows id tuple) q ≡ finmap.get rows q
+pub get-with_tuple_apart : (rows : Rows) (id : ℕ) (tuple : Option (List ℕ)) (q : ℕ) → (q ≡ id → ⊥) → finmap.get (with_tuple rows id tuple) q ≡ finmap.get rows q
 get-with_tuple_apart rows id None q apart = grind (arith, nat_tests, apart, finmap.get-remove nat_cmp_total rows id q)
 get-with_tuple_apart rows id (Some values) q apart = grind (arith, nat_tests, apart, finmap.get-insert nat_cmp_total rows id values q)
 

@@ -1,6 +1,6 @@
 //! A bench: rules, limits, and the history of its tables.
 
-ghost use Rattle.std.specs.Prelude.{◌≡◌, ◌↔◌, ◌<◌, Err, Some, length, slice_get, OnErr, OnOk, IfOk};
+ghost use Rattle.std.specs.Prelude.{◌≡◌, ◌↔◌, ◌+◌, ◌<◌, ◌≤◌, Err, Some, length, slice_get, OnErr, OnOk, IfOk};
 ghost use Rattle.schema_core.specs.Limits.{AreLimits};
 ghost use Rattle.schema_core.specs.Faults.{GivesUnlessMemory};
 ghost use Rattle.bench_core.specs.State.{rows_at};
@@ -8,18 +8,26 @@ ghost use Rattle.bench_core.specs.Loading.{AreTables, full_table, loaded};
 ghost use Rattle.bench_core.specs.Edited.{refusal_of};
 ghost use Rattle.bench_core.specs.History.{HasNoPast, HasNothingUndone, IsRedone, IsUndone, history_edited};
 ghost use Rattle.bench_core.specs.Stored.{RowsHaveTexts, stored, table_state};
+ghost use Rattle.rule_model.specs.Books.{book_cinds, book_deps};
+ghost use Rattle.bench_core.specs.Answers.{AreMastersOf, IsRowOfCind, IsRowOfDep, orphans_at, orphans_of_row, violations_at, violations_of_row};
 ghost use Rattle.bench_core.specs.Bench.{IsHistory};
+ghost use Rattle.bench_core.specs.Indexed.{AreOfOneRow, edit_probes};
 ghost use Rattle.bench_core.specs.declared.edit.RedoFault.TheVariants as redo_fault;
 ghost use Rattle.bench_core.specs.declared.edit.UndoFault.TheVariants as undo_fault;
 
 use crate::edit::{Applied, EditFault, LoadFault, RedoFault, UndoFault};
 use crate::project::Project;
+use bench_index::AllIndexes;
+use cfd_semantics::Violation;
 use edit_log::Edit;
+use master_index::MasterIndex;
+use probe_steps::Steps;
 use row_store::{RowId, RowStore};
 use rule_model::RuleBook;
 use schema_core::{Limits, List, Texts};
 use std::alloc::{AllocError, Global};
 use std::marker::Model;
+use std::sync::ledger::Ledger;
 use value_pool::Pool;
 
 /// The tables of a project, with the rules that they are held against. Clauses see its rules, its limits, the texts that
@@ -28,25 +36,28 @@ use value_pool::Pool;
 #[derive(Drop)]
 pub struct Bench {
     project: Project,
+    index: AllIndexes,
 }
 
 impl Model for Bench {
     ghost use Rattle.bench_core.specs.Bench.{BenchModel, IsHeld, history};
+    ghost use Rattle.bench_core.specs.Indexed.{IsInStepWith};
 
     ghost Value = { BenchModel };
 
     ghost view = { λ b. record { rules = b.project.rules; limits = b.project.limits; texts = b.project.pool; history = history b.project } };
 
-    ghost invariant = { λ b. IsHeld b.project };
+    ghost invariant = { λ b. IsHeld b.project × IsInStepWith b.project b.index };
 }
 
 impl Bench {
     /// Takes the rows of each table, in the order of the schema. They get the ids 1, 2, 3 in order.
-    pub fn load(
+    pub fn load<L: Ledger>(
         alloc: Global,
         rules: RuleBook,
         tables: List<List<Texts>>,
         limits: Limits,
+        steps: &mut Steps<L>,
     ) -> Result<Bench, LoadFault>
         requires limits { AreLimits limits }
         requires tables { AreTables rules.schema limits.cell_bytes tables }
@@ -54,38 +65,45 @@ impl Bench {
         ensures fresh { IfOk result (λ bench. HasNoPast bench.history × HasNothingUndone bench.history) }
         ensures made_with { IfOk result (λ bench. (bench.rules ≡ rules) × (bench.limits ≡ limits)) }
     {
-        let project = Project::load(alloc, rules, tables, limits)?;
-        Ok(Bench { project })
+        let (project, index) = Project::load(alloc, rules, tables, limits, steps)?;
+        Ok(Bench { project, index })
     }
 
     /// Makes the edit, or says why not. What was undone is forgotten.
-    pub fn apply(&mut self, edit: &Edit) -> Result<Applied, EditFault>
+    pub fn apply<L: Ledger>(
+        &mut self,
+        edit: &Edit,
+        steps: &mut Steps<L>,
+    ) -> Result<Applied, EditFault>
         // The edit is made, or refused for the first cause that holds.
         ensures edited { GivesUnlessMemory refusal_of (history_edited self.old.rules self.old.limits self.old.history edit.now) (λ told. (self.new.history, told)) result }
         ensures made_with { (self.new.rules ≡ self.old.rules) × (self.new.limits ≡ self.old.limits) }
         ensures unchanged { OnErr result (self.new.history ≡ self.old.history) }
+        ensures probes { steps.new ≤ steps.old + edit_probes self.old.rules edit.now }
     {
-        self.project.edit(edit)
+        self.project.edit(&mut self.index, edit, steps)
     }
 
     /// Goes back to the state before the last edit, its next ids included.
-    pub fn undo(&mut self) -> Result<(), UndoFault>
+    pub fn undo<L: Ledger>(&mut self, steps: &mut Steps<L>) -> Result<(), UndoFault>
         ensures undone { OnOk result (IsUndone self.old.history self.new.history) }
         ensures nothing { result ≡ Err undo_fault.NothingToUndo ↔ HasNoPast self.old.history }
         ensures made_with { (self.new.rules ≡ self.old.rules) × (self.new.limits ≡ self.old.limits) }
         ensures unchanged { OnErr result (self.new.history ≡ self.old.history) }
+        ensures probes { AreOfOneRow self.old.rules steps.old steps.new }
     {
-        self.project.undo()
+        self.project.undo(&mut self.index, steps)
     }
 
     /// Makes the edit again that was undone last.
-    pub fn redo(&mut self) -> Result<(), RedoFault>
+    pub fn redo<L: Ledger>(&mut self, steps: &mut Steps<L>) -> Result<(), RedoFault>
         ensures redone { OnOk result (IsRedone self.old.history self.new.history) }
         ensures nothing { result ≡ Err redo_fault.NothingToRedo ↔ HasNothingUndone self.old.history }
         ensures made_with { (self.new.rules ≡ self.old.rules) × (self.new.limits ≡ self.old.limits) }
         ensures unchanged { OnErr result (self.new.history ≡ self.old.history) }
+        ensures probes { AreOfOneRow self.old.rules steps.old steps.new }
     {
-        self.project.redo()
+        self.project.redo(&mut self.index, steps)
     }
 
     pub fn rules(&self) -> &RuleBook
@@ -118,5 +136,90 @@ impl Bench {
         ensures valid { IsHistory self.now.rules self.now.limits self.now.history }
     {
         self.project.rows(table)
+    }
+
+    /// The violations of a numbered dependency, each with the number of its tableau row: by tableau row, and for each by
+    /// rising row.
+    pub fn violations<L: Ledger>(
+        &self,
+        dep: usize,
+        steps: &mut Steps<L>,
+    ) -> Result<List<(usize, Violation)>, AllocError>
+        requires { dep < length (book_deps self.now.rules) }
+        ensures { IfOk result (λ found. found ≡ violations_at self.now.rules self.now.history.present dep) }
+    {
+        self.project.violations(&self.index, dep, steps)
+    }
+
+    /// How many violations a dependency has, without a list of them all.
+    pub fn violation_count<L: Ledger>(
+        &self,
+        dep: usize,
+        steps: &mut Steps<L>,
+    ) -> Result<usize, AllocError>
+        requires { dep < length (book_deps self.now.rules) }
+        ensures { IfOk result (λ count. count ≡ length (violations_at self.now.rules self.now.history.present dep)) }
+    {
+        self.project.violation_count(&self.index, dep, steps)
+    }
+
+    /// The violations of a dependency that a row of its table has, and not those in which it is only the partner.
+    pub fn violations_of_row<L: Ledger>(
+        &self,
+        dep: usize,
+        row: RowId,
+        steps: &mut Steps<L>,
+    ) -> Result<List<(usize, Violation)>, AllocError>
+        requires dep { dep < length (book_deps self.now.rules) }
+        requires there { IsRowOfDep self.now.rules self.now.history.present dep row }
+        ensures { IfOk result (λ found. found ≡ violations_of_row self.now.rules self.now.history.present dep row) }
+    {
+        self.project.violations_of_row(&self.index, dep, row, steps)
+    }
+
+    /// The orphans of a numbered inclusion, each with the number of its tableau row: by tableau row, and for each by rising
+    /// row.
+    pub fn orphans<L: Ledger>(
+        &self,
+        cind: usize,
+        steps: &mut Steps<L>,
+    ) -> Result<List<(usize, RowId)>, AllocError>
+        requires { cind < length (book_cinds self.now.rules) }
+        ensures { IfOk result (λ found. found ≡ orphans_at self.now.rules self.now.history.present cind) }
+    {
+        self.project.orphans(&self.index, cind, steps)
+    }
+
+    /// How many orphans an inclusion has, without a list of them all.
+    pub fn orphan_count<L: Ledger>(
+        &self,
+        cind: usize,
+        steps: &mut Steps<L>,
+    ) -> Result<usize, AllocError>
+        requires { cind < length (book_cinds self.now.rules) }
+        ensures { IfOk result (λ count. count ≡ length (orphans_at self.now.rules self.now.history.present cind)) }
+    {
+        self.project.orphan_count(&self.index, cind, steps)
+    }
+
+    /// The orphans of an inclusion that a row of its left table is.
+    pub fn orphans_of_row<L: Ledger>(
+        &self,
+        cind: usize,
+        row: RowId,
+        steps: &mut Steps<L>,
+    ) -> Result<List<(usize, RowId)>, AllocError>
+        requires cind { cind < length (book_cinds self.now.rules) }
+        requires there { IsRowOfCind self.now.rules self.now.history.present cind row }
+        ensures { IfOk result (λ found. found ≡ orphans_of_row self.now.rules self.now.history.present cind row) }
+    {
+        self.project.orphans_of_row(&self.index, cind, row, steps)
+    }
+
+    /// The rows of the master tables, by value ids.
+    pub fn masters(&self) -> &MasterIndex
+        ensures { AreMastersOf self.now.rules self.now.texts self.now.history.present result.now }
+    {
+        self.project.masters(&self.index)
     }
 }

@@ -1,12 +1,19 @@
-//! A change of one row: made to the store of its table, and taken back.
+//! A change of one row: made to the store of its table, and taken back. The indexes follow it either way.
 
-ghost use Rattle.std.specs.Prelude.{◌≡◌, ◌+◌, ◌^◌, ◌<◌, ◌||◌, None, Some, IsTrue, is_some};
+ghost use Rattle.std.specs.Prelude.{◌≡◌, ◌+◌, ◌*◌, ◌^◌, ◌<◌, ◌≤◌, ◌||◌, None, Some, IsTrue, OnErr, OnOk, is_some, sum_by};
 ghost use Rattle.row_store.specs.Tuple.{ids_if};
+ghost use Rattle.bench_index.specs.AllIndexes.{AllFollow, AreAsBefore, most_probes};
+ghost use Rattle.bench_core.specs.Indexed.{CanFollow};
 ghost use Rattle.bench_core.specs.Stored.{stored};
 ghost use Rattle.bench_core.specs.Changes.{CanMake, HasMade, after_change, before_change};
 
+use bench_index::AllIndexes;
 use edit_log::Change;
+use probe_steps::Steps;
 use row_store::{RowStore, Tuple};
+use rule_model::RuleBook;
+use std::alloc::AllocError;
+use std::sync::ledger::Ledger;
 
 /// Makes the change. `new` is its new tuple.
 pub(crate) fn make(store: &mut RowStore, change: &Change, new: Option<Tuple>)
@@ -76,4 +83,36 @@ fn put_old(store: &mut RowStore, change: &Change, tuple: Tuple)
     } else {
         store.put_back(change.row, tuple);
     }
+}
+
+/// The indexes follow the change, or all stay as they are where memory is refused.
+pub(crate) fn follow_change<L: Ledger>(
+    index: &mut AllIndexes,
+    rules: &RuleBook,
+    change: &Change,
+    steps: &mut Steps<L>,
+) -> Result<(), AllocError>
+    requires { CanFollow rules.now change.now.table change.now.row (ids_if change.now.old) (ids_if change.now.new) index.old }
+    ensures followed { OnOk result (AllFollow rules.now change.now.table change.now.row (ids_if change.now.old) (ids_if change.now.new) index.old index.new) }
+    ensures refused { OnErr result (AreAsBefore index.old index.new) }
+    ensures probes { steps.new ≤ steps.old + most_probes rules.now change.now.table }
+{
+    let (before, after) = (change.old.as_ref(), change.new.as_ref());
+    index.follow(rules, change.table, change.row, before, after, steps)
+}
+
+/// The same as the change is taken back.
+pub(crate) fn follow_back<L: Ledger>(
+    index: &mut AllIndexes,
+    rules: &RuleBook,
+    change: &Change,
+    steps: &mut Steps<L>,
+) -> Result<(), AllocError>
+    requires { CanFollow rules.now change.now.table change.now.row (ids_if change.now.new) (ids_if change.now.old) index.old }
+    ensures followed { OnOk result (AllFollow rules.now change.now.table change.now.row (ids_if change.now.new) (ids_if change.now.old) index.old index.new) }
+    ensures refused { OnErr result (AreAsBefore index.old index.new) }
+    ensures probes { steps.new ≤ steps.old + most_probes rules.now change.now.table }
+{
+    let (before, after) = (change.old.as_ref(), change.new.as_ref());
+    index.follow(rules, change.table, change.row, after, before, steps)
 }

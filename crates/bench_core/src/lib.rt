@@ -3,10 +3,12 @@
 //! state that the definition `edited` gives, or is refused for the first cause that holds and changes nothing; undo and
 //! redo go one state back and forward.
 //!
-//! Rows are kept as tuples of value ids, and the log keeps what each edit changed. An edit costs a look-up of each of its
-//! texts and a step of each kind, whatever the number of rows.
+//! Rows are kept as tuples of value ids, and the log keeps what each edit changed. An index for each rule follows each row
+//! that is loaded, edited, undone or redone. An edit costs a look-up of each of its texts and a step of each kind, and the
+//! probes that `edit_probes` counts, whatever the number of rows.
 #![tactic(auto)]
 
+mod answers;
 mod bench;
 mod changes;
 mod checks;

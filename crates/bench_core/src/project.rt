@@ -1,9 +1,10 @@
 //! What a bench holds: rules, limits, stored tables, and the log of their changes.
 
-ghost use Rattle.std.specs.Prelude.{◌≡◌, ◌↔◌, ◌<◌, Err, Some, length, map, slice_get, IsSomeAnd, IfOk, OnErr, OnOk};
+ghost use Rattle.std.specs.Prelude.{◌≡◌, ◌↔◌, ◌+◌, ◌<◌, ◌≤◌, Err, Some, length, map, slice_get, IsSomeAnd, IfOk, OnErr, OnOk};
 ghost use Rattle.schema_core.specs.Schemas.{table_place};
 ghost use Rattle.schema_core.specs.Faults.{GivesUnlessMemory};
 ghost use Rattle.row_store.specs.Tuple.{ids_if};
+ghost use Rattle.row_store.specs.Watches.{with_row};
 ghost use Rattle.edit_log.specs.Trail.{first_of, last_of};
 ghost use Rattle.edit_log.specs.Log.{MovesBack, MovesForward};
 ghost use Rattle.bench_core.specs.State.{rows_at};
@@ -11,20 +12,26 @@ ghost use Rattle.bench_core.specs.Edited.{edited, name_of_table, refusal_of};
 ghost use Rattle.bench_core.specs.History.{HasNoPast, HasNothingUndone, IsRedone, IsUndone, accepted, history_edited};
 ghost use Rattle.bench_core.specs.Stored.{state_of};
 ghost use Rattle.bench_core.specs.Changes.{CanMake, IsChange, made_again, told_of};
+ghost use Rattle.bench_index.specs.declared.all_indexes.AllIndexes.{AllIndexes as Indexes};
+ghost use Rattle.bench_index.specs.AllIndexes.{most_probes};
 ghost use Rattle.bench_core.specs.Bench.{AtTable, IsBench, IsHeld, history, present_of, tables_of};
+ghost use Rattle.bench_core.specs.Indexed.{AreOfOneRow, IsInStepWith, IsIndexed, edit_probes, tuples_of};
 ghost use Rattle.bench_core.specs.declared.edit.RedoFault.TheVariants as redo_fault;
 ghost use Rattle.bench_core.specs.declared.edit.UndoFault.TheVariants as undo_fault;
 
-use crate::changes::{make, take_back};
+use crate::changes::{follow_back, follow_change, make, take_back};
 use crate::edit::{Applied, EditFault, RedoFault, UndoFault};
 use crate::sizes::Counts;
 use crate::target::Target;
 use crate::tuples::{shared, texts_of};
+use bench_index::AllIndexes;
 use edit_log::{Change, Edit, Log};
+use probe_steps::Steps;
 use row_store::{RowId, RowStore, Tuple};
 use rule_model::RuleBook;
 use schema_core::{Limits, List, Text, Texts};
 use std::alloc::AllocError;
+use std::sync::ledger::Ledger;
 use value_pool::Pool;
 
 /// Rules and limits, the texts of all tables, the rows of each table by value ids, the changes that were made and undone,
@@ -74,13 +81,21 @@ fn step_forward(log: &mut Log)
 }
 
 impl Project {
-    /// Makes the edit, or says why not.
-    pub(crate) fn edit(&mut self, edit: &Edit) -> Result<Applied, EditFault>
+    /// Makes the edit, or says why not. The indexes follow its row.
+    pub(crate) fn edit<L: Ledger>(
+        &mut self,
+        index: &mut AllIndexes,
+        edit: &Edit,
+        steps: &mut Steps<L>,
+    ) -> Result<Applied, EditFault>
         requires held { IsHeld self.old }
+        requires indexed { IsInStepWith self.old index.old }
         ensures held { IsHeld self.new }
+        ensures indexed { IsInStepWith self.new index.new }
         ensures edited { GivesUnlessMemory refusal_of (history_edited self.old.rules self.old.limits (history self.old) edit.now) (λ told. (history self.new, told)) result }
         ensures made_with { (self.new.rules ≡ self.old.rules) × (self.new.limits ≡ self.old.limits) }
         ensures unchanged { OnErr result (history self.new ≡ history self.old) }
+        ensures probes { steps.new ≤ steps.old + edit_probes self.old.rules edit.now }
     {
         match self
             .rules
@@ -88,23 +103,33 @@ impl Project {
             .table_named(name_of_table(edit).as_str())
         {
             None => Err(EditFault::UnknownTable),
-            Some(number) => self.edit_table(number, edit),
+            Some(number) => self.edit_table(index, number, edit, steps),
         }
     }
 
     /// Makes the edit to the numbered table, which is the one that it names. All that may want memory comes first.
-    fn edit_table(&mut self, number: usize, edit: &Edit) -> Result<Applied, EditFault>
+    fn edit_table<L: Ledger>(
+        &mut self,
+        index: &mut AllIndexes,
+        number: usize,
+        edit: &Edit,
+        steps: &mut Steps<L>,
+    ) -> Result<Applied, EditFault>
         requires held { IsHeld self.old }
+        requires indexed { IsInStepWith self.old index.old }
         requires named { table_place self.old.rules.schema (name_of_table edit.now) ≡ Some number }
         ensures held { IsHeld self.new }
+        ensures indexed { IsInStepWith self.new index.new }
         ensures edited { GivesUnlessMemory refusal_of (history_edited self.old.rules self.old.limits (history self.old) edit.now) (λ told. (history self.new, told)) result }
         ensures made_with { (self.new.rules ≡ self.old.rules) × (self.new.limits ≡ self.old.limits) }
         ensures unchanged { OnErr result (history self.new ≡ history self.old) }
+        ensures probes { steps.new ≤ steps.old + most_probes self.old.rules number }
     {
         let change = self.planned(number, edit)?;
         let new = shared(&change.new)?;
         self.stores[number].ready_insert()?;
         self.log.ready()?;
+        follow_change(index, &self.rules, &change, steps)?;
         Ok(self.done(change, new))
     }
 
@@ -116,6 +141,7 @@ impl Project {
         ensures held { IsHeld self.new }
         ensures history { history self.new ≡ history self.old }
         ensures made_with { (self.new.rules ≡ self.old.rules) × (self.new.limits ≡ self.old.limits) }
+        ensures indexed { (index : Indexes) → IsInStepWith self.old index → IsInStepWith self.new index }
         ensures number { IfOk result (λ change. change.table ≡ number) }
         ensures can { IfOk result (λ change. AtTable self.new change (CanMake change)) }
         ensures is { IfOk result (IsChange self.new.pool) }
@@ -145,6 +171,7 @@ impl Project {
         ensures history { history self.new ≡ accepted (history self.old) (state_of self.old.pool (made_again change (tables_of self.old))) }
         ensures made_with { (self.new.rules ≡ self.old.rules) × (self.new.limits ≡ self.old.limits) }
         ensures told { result ≡ told_of change }
+        ensures indexed { (index : Indexes) → IsIndexed self.old.rules self.old.pool (with_row (tuples_of (tables_of self.old)) change.table change.row (ids_if change.new)) index → IsInStepWith self.new index }
     {
         let told = told_of(&change);
         let store = &mut self.stores[change.table];
@@ -156,14 +183,21 @@ impl Project {
         told
     }
 
-    /// Takes the last past change back.
-    pub(crate) fn undo(&mut self) -> Result<(), UndoFault>
+    /// Takes the last past change back. The indexes follow its row.
+    pub(crate) fn undo<L: Ledger>(
+        &mut self,
+        index: &mut AllIndexes,
+        steps: &mut Steps<L>,
+    ) -> Result<(), UndoFault>
         requires held { IsHeld self.old }
+        requires indexed { IsInStepWith self.old index.old }
         ensures held { IsHeld self.new }
+        ensures indexed { IsInStepWith self.new index.new }
         ensures undone { OnOk result (IsUndone (history self.old) (history self.new)) }
         ensures nothing { result ≡ Err undo_fault.NothingToUndo ↔ HasNoPast (history self.old) }
         ensures made_with { (self.new.rules ≡ self.old.rules) × (self.new.limits ≡ self.old.limits) }
         ensures unchanged { OnErr result (history self.new ≡ history self.old) }
+        ensures probes { AreOfOneRow self.old.rules steps.old steps.new }
     {
         let Some(change) = self.log.last() else {
             return Err(UndoFault::NothingToUndo);
@@ -171,6 +205,7 @@ impl Project {
         let old = shared(&change.old)?;
         let store = &mut self.stores[change.table];
         store.ready_insert()?;
+        follow_back(index, &self.rules, change, steps)?;
         let before = store.len() as u64;
         take_back(store, change, old);
         let after = store.len() as u64;
@@ -179,14 +214,21 @@ impl Project {
         Ok(())
     }
 
-    /// Makes the next undone change again.
-    pub(crate) fn redo(&mut self) -> Result<(), RedoFault>
+    /// Makes the next undone change again. The indexes follow its row.
+    pub(crate) fn redo<L: Ledger>(
+        &mut self,
+        index: &mut AllIndexes,
+        steps: &mut Steps<L>,
+    ) -> Result<(), RedoFault>
         requires held { IsHeld self.old }
+        requires indexed { IsInStepWith self.old index.old }
         ensures held { IsHeld self.new }
+        ensures indexed { IsInStepWith self.new index.new }
         ensures redone { OnOk result (IsRedone (history self.old) (history self.new)) }
         ensures nothing { result ≡ Err redo_fault.NothingToRedo ↔ HasNothingUndone (history self.old) }
         ensures made_with { (self.new.rules ≡ self.old.rules) × (self.new.limits ≡ self.old.limits) }
         ensures unchanged { OnErr result (history self.new ≡ history self.old) }
+        ensures probes { AreOfOneRow self.old.rules steps.old steps.new }
     {
         let Some(change) = self.log.next() else {
             return Err(RedoFault::NothingToRedo);
@@ -194,6 +236,7 @@ impl Project {
         let new = shared(&change.new)?;
         let store = &mut self.stores[change.table];
         store.ready_insert()?;
+        follow_change(index, &self.rules, change, steps)?;
         let before = store.len() as u64;
         make(store, change, new);
         let after = store.len() as u64;

@@ -1,17 +1,20 @@
 //! What a bench answers to edits: a table, whose lines are made one after the other on one bench. And a walk of edits,
 //! undos and redos beside plain lists of what was shown.
 
-ghost use Rattle.std.specs.Prelude.{ℕ, IfOk};
+ghost use Rattle.std.specs.Prelude.{◌≡◌, ◌<◌, ℕ, IfOk};
 ghost use Rattle.schema_core.specs.Limits.{AreLimits};
 ghost use Rattle.bench_core.specs.Loading.{AreTables};
 
 use super::*;
 use edit_log::Edit;
+use probe_steps::Steps;
 use row_store::RowId;
 use rule_model::RuleBook;
 use schema_core::{Limits, List, Schema, Text, Texts, parse_schema};
 use std::alloc::{AllocError, Global};
+use std::marker::Brand;
 use std::mem;
+use std::sync::ledger::{Blank, Ledger};
 use std::test::Fail;
 
 const SCHEMA: &[u8] =
@@ -116,12 +119,12 @@ fn no_rows(alloc: Global, schema: &Schema) -> Result<List<List<Texts>>, AllocErr
     Ok(tables)
 }
 
-fn bench(alloc: Global) -> Result<Bench, Fail> {
+fn bench<L: Ledger>(alloc: Global, steps: &mut Steps<L>) -> Result<Bench, Fail> {
     let limits = limits();
     let schema = parse_schema(alloc, SCHEMA, &limits)?;
     let tables = no_rows(alloc, &schema)?;
     let rules = RuleBook::new(alloc, schema, limits);
-    Ok(Bench::load(alloc, rules, tables, limits)?)
+    Ok(Bench::load(alloc, rules, tables, limits, steps)?)
 }
 
 fn row_id(word: &str) -> RowId {
@@ -212,26 +215,44 @@ fn refused(alloc: Global, fault: &EditFault) -> Result<String, AllocError> {
     }
 }
 
-fn answer(alloc: Global, bench: &mut Bench, line: &str) -> Result<String, AllocError> {
+fn answer<L: Ledger>(
+    alloc: Global,
+    bench: &mut Bench,
+    line: &str,
+    steps: &mut Steps<L>,
+) -> Result<String, AllocError> {
     let words = cut(alloc, line)?;
     let Some(edit) = edit(alloc, words.as_slice())? else {
         return format!(in alloc; "no edit");
     };
-    match bench.apply(&edit) {
+    match bench.apply(&edit, steps) {
         Ok(applied) => told(alloc, bench, applied),
         Err(fault) => refused(alloc, &fault),
     }
 }
 
-#[test]
-fn answers(rt: HostRuntime) -> Result<(), Fail> {
-    let alloc = rt.alloc();
-    let mut bench = bench(alloc)?;
+/// The first line that isn't answered as it says, with its answer.
+fn first_wrong<L: Ledger>(alloc: Global, blank: Blank) -> Result<Option<String>, Fail>
+    requires name { blank.name ≡ L.name }
+    requires parts { blank.parts ≡ L.parts }
+    requires some { 0 < blank.parts }
+{
+    let mut steps = Steps::<L>::open(blank);
+    let mut bench = bench(alloc, &mut steps)?;
     for line in CASES.lines() {
         let (line, want) = line.split_once(" | ").unwrap_or(("", ""));
-        let got = answer(alloc, &mut bench, line)?;
-        assert_eq!(rt; got.as_str(), want, "{line}");
+        let got = answer(alloc, &mut bench, line, &mut steps)?;
+        if got.as_str() != want {
+            return Ok(Some(format!(in alloc; "{line} | {got}")?));
+        }
     }
+    Ok(None)
+}
+
+#[test]
+fn answers(rt: HostRuntime) -> Result<(), Fail> {
+    let wrong = first_wrong::<Brand>(rt.alloc(), Blank::new(1))?;
+    assert!(rt; wrong.is_none(), "{wrong:?}");
     Ok(())
 }
 
@@ -280,42 +301,58 @@ fn shown(alloc: Global, bench: &Bench) -> Result<String, AllocError> {
 }
 
 /// Makes a step of the walk on both sides, and says whether both did it or refused it.
-fn agrees(
+fn agrees<L: Ledger>(
     alloc: Global,
     bench: &mut Bench,
     plain: &mut PlainHistory,
     line: &str,
+    steps: &mut Steps<L>,
 ) -> Result<bool, AllocError> {
     if line == "undo" {
-        return Ok(bench.undo().is_ok() == plain.undo()?);
+        return Ok(bench.undo(steps).is_ok() == plain.undo()?);
     }
     if line == "redo" {
-        return Ok(bench.redo().is_ok() == plain.redo()?);
+        return Ok(bench.redo(steps).is_ok() == plain.redo()?);
     }
     let words = cut(alloc, line)?;
     let Some(edit) = edit(alloc, words.as_slice())? else {
         return Ok(false);
     };
-    if bench.apply(&edit).is_ok() {
+    if bench.apply(&edit, steps).is_ok() {
         plain.accept(shown(alloc, bench)?)?;
     }
     Ok(true)
 }
 
-#[test]
-fn walks_beside_plain_lists(rt: HostRuntime) -> Result<(), Fail> {
-    let alloc = rt.alloc();
-    let mut bench = bench(alloc)?;
+/// The first step after which the two sides differ, or the end where they undid otherwise.
+fn first_parted<L: Ledger>(alloc: Global, blank: Blank) -> Result<Option<&'static str>, Fail>
+    requires name { blank.name ≡ L.name }
+    requires parts { blank.parts ≡ L.parts }
+    requires some { 0 < blank.parts }
+{
+    let mut steps = Steps::<L>::open(blank);
+    let mut bench = bench(alloc, &mut steps)?;
     let mut plain = PlainHistory {
         past: Vec::new(alloc),
         present: shown(alloc, &bench)?,
         undone: Vec::new(alloc),
     };
     for line in WALK.lines() {
-        assert!(rt; agrees(alloc, &mut bench, &mut plain, line)?, "{line}");
+        let agrees = agrees(alloc, &mut bench, &mut plain, line, &mut steps)?;
         let got = shown(alloc, &bench)?;
-        assert_eq!(rt; got.as_str(), plain.present.as_str(), "{line}");
+        if !agrees || got.as_str() != plain.present.as_str() {
+            return Ok(Some(line));
+        }
     }
-    assert_eq!(rt; plain.undone.len(), 1);
+    if plain.undone.len() != 1 {
+        return Ok(Some("the end"));
+    }
+    Ok(None)
+}
+
+#[test]
+fn walks_beside_plain_lists(rt: HostRuntime) -> Result<(), Fail> {
+    let parted = first_parted::<Brand>(rt.alloc(), Blank::new(1))?;
+    assert!(rt; parted.is_none(), "{parted:?}");
     Ok(())
 }

@@ -83,13 +83,13 @@ module _ (texts : List (List ℕ)) where
   cell-known (NotIn members) (In ids) is = absurd is
   cell-known (NotIn members) (NotIn ids) is = ids-known members ids is
 
-  row-texts : (row : TableauRow (List ℕ)) (by_ids : TableauRow ℕ) → IsRowByIds texts row by_ids → row ≡ renamed_tableau_row (text_of texts) by_ids
+  pub row-texts : (row : TableauRow (List ℕ)) (by_ids : TableauRow ℕ) → IsRowByIds texts row by_ids → row ≡ renamed_tableau_row (text_of texts) by_ids
   row-texts row by_ids is =
       let x = mapped (IsCellByIds texts) (renamed_cell (text_of texts)) cell-texts row.x by_ids.x is.x in
       let a = cell-texts row.a by_ids.a is.a in
       λ i. record { x = x i; a = a i }
 
-  row-known : (row : TableauRow (List ℕ)) (by_ids : TableauRow ℕ) → IsRowByIds texts row by_ids → HasKnownCells (HasText texts) by_ids
+  pub row-known : (row : TableauRow (List ℕ)) (by_ids : TableauRow ℕ) → IsRowByIds texts row by_ids → HasKnownCells (HasText texts) by_ids
   row-known row by_ids is = record {
     x = known_all (IsCellByIds texts) (HasKnownCell (HasText texts)) cell-known row.x by_ids.x is.x;
     a = cell-known row.a by_ids.a is.a;
@@ -121,7 +121,7 @@ module _ (texts : List (List ℕ)) where
       λ i. record { x = x i; xp = xp i; y = y i; yp = yp i; rows = rows i }
 
   module _ (distinct : AreDistinct texts) where
-    kept_apart : KeepsApart (HasText texts) (text_of texts) nat_eq bytes_eq
+    pub kept_apart : KeepsApart (HasText texts) (text_of texts) nat_eq bytes_eq
     kept_apart = record { same = λ v w v_known w_known. by v w v_known w_known (bytes_eq (text_of texts v) (text_of texts w)) refl }
       where
         by : (v w : ℕ) → HasText texts v → HasText texts w → (b : Bool) → bytes_eq (text_of texts v) (text_of texts w) ≡ b → b ≡ nat_eq v w

@@ -1,4 +1,9 @@
+pub mod Lists
+pub mod Replies
+pub mod Walk
 pub mod ByIds
 pub mod InStep
-pub mod Watching
 pub mod Indexes
+pub mod Watching
+pub mod MasterLists
+pub mod AllIndexes

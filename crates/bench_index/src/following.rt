@@ -46,8 +46,8 @@ pub fn follow<G: Watch, C: Watch, L: Ledger>(
     }
 }
 
-// Adds what the row gives with the new tuple.
-fn gain<G: Watch, C: Watch, L: Ledger>(
+/// Adds what the row gives with the new tuple.
+pub(crate) fn gain<G: Watch, C: Watch, L: Ledger>(
     groups: &mut [G],
     cinds: &mut [C],
     table: usize,
@@ -72,8 +72,8 @@ fn gain<G: Watch, C: Watch, L: Ledger>(
     Ok(())
 }
 
-// Takes away what the row gave with the old tuple and doesn't give with the new one.
-fn lose<G: Watch, C: Watch, L: Ledger>(
+/// Takes away what the row gave with the old tuple and doesn't give with the new one. It takes no memory.
+pub(crate) fn lose<G: Watch, C: Watch, L: Ledger>(
     groups: &mut [G],
     cinds: &mut [C],
     table: usize,

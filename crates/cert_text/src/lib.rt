@@ -5,9 +5,11 @@
 pub mod answers;
 pub mod cert;
 pub mod fault;
+mod made;
 pub mod names;
 mod nodes;
 mod parse;
+mod print;
 mod questions;
 mod variables;
 
@@ -15,6 +17,9 @@ pub use cert::{Answer, Asked, Cert, CertParts, NodeLine, Question, TreeLines, Tu
 pub use fault::{CertCause, CertFault};
 pub use names::{CellName, NodeName, ReasonName, VarName, Which};
 pub use parse::parse_cert;
+pub use print::{print_cert, push_cert, push_node};
 
 #[cfg(test)]
 mod tests;
+#[cfg(test)]
+mod written_certs;

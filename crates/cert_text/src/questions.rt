@@ -111,7 +111,8 @@ fn values_word(kind: Kind) -> &'static str
     }
 }
 
-fn closed_word(kind: Kind) -> &'static str
+/// The word of a tree that leaves no case open.
+pub fn closed_word(kind: Kind) -> &'static str
     ensures { result.now ≡ closed_word kind }
 {
     match kind {

@@ -4,9 +4,9 @@ use Rattle.shelf_io.specs.Rising.{Rose}
 use Rattle.shelf_io.specs.Sink.{Appends, FrontOf, SinkTold}
 use Rattle.shelf_io.specs.Transcript.{Replies, IsTranscript, Answers, AnswersFront}
 use Rattle.shelf_io.proofs.Transcripts.{Appends-wider, FrontOf-all, FrontOf-wider, front-of_all}
-use Rattle.cfd_cli.specs.declared.status.Status.{Status}
-use Rattle.cfd_cli.specs.declared.status.Status.TheVariants.{Clean, Findings, ReadFault, WriteFault, Memory}
-use Rattle.cfd_cli.specs.Output.{Ends, Writes, with_any_status}
+use Rattle.cli_output.specs.declared.status.Status.{Status}
+use Rattle.cli_output.specs.declared.status.Status.TheVariants.{Clean, Findings, ReadFault, WriteFault, Memory}
+use Rattle.cli_output.specs.Output.{Ends, Writes, with_any_status}
 use Rattle.cfd_cli.specs.Transcripts.{HasStatus, found_status, transcripts}
 
 module _ {State Command Line : Type 0} (IsReply : Replies State Command) (listing : State → List Line) (start : State) (commands : List Command) where

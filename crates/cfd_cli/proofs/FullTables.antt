@@ -16,11 +16,11 @@ use Rattle.bench_core.specs.History.{History, HasNoPast, HasNothingUndone}
 use Rattle.bench_core.specs.Loading.{AreTables, Tuples, first_over, loaded, loaded_table}
 use Rattle.bench_core.specs.Sizes.{is_over}
 use Rattle.bench_core.specs.State.{State}
-use Rattle.cfd_cli.specs.declared.fetching.Stop.{Stop}
-use Rattle.cfd_cli.specs.declared.fetching.Stop.TheVariants as stop
-use Rattle.cfd_cli.specs.declared.refusal.Cause.TheVariants.{RowsFull}
-use Rattle.cfd_cli.specs.declared.refusal.Refusal.{Refusal}
-use Rattle.cfd_cli.specs.Fetching.{Reads, refusal_in}
+use Rattle.cli_output.specs.declared.fetching.Stop.{Stop}
+use Rattle.cli_output.specs.declared.fetching.Stop.TheVariants as stop
+use Rattle.cli_output.specs.declared.refusal.Cause.TheVariants.{RowsFull}
+use Rattle.cli_output.specs.declared.refusal.Refusal.{Refusal}
+use Rattle.cli_output.specs.Fetching.{Reads, refusal_in}
 use Rattle.cfd_cli.specs.Project.{Tables, begins_with, bench_of, tables_of}
 
 over_place : (full : Option ℕ) (state : State) (table : ℕ) → unless_found full state ≡ Err table → full ≡ Some table

@@ -7,9 +7,9 @@ use Rattle.schema_core.specs.declared.limits.Limits.{Limits}
 use Rattle.schema_core.specs.declared.schema.Table.{Table}
 use Rattle.shelf_io.specs.Files.{Files}
 use Rattle.shelf_io.specs.Shelf.{ShelfTold}
-use Rattle.cfd_cli.specs.declared.fetching.Stop.{Stop}
-use Rattle.cfd_cli.specs.declared.fetching.Stop.TheVariants.{Refused, ReadFault, Memory}
-use Rattle.cfd_cli.specs.Fetching.{Fetching, OrRefusal, Outcome, ◌>>=◌, followed, given, refusal_in}
+use Rattle.cli_output.specs.declared.fetching.Stop.{Stop}
+use Rattle.cli_output.specs.declared.fetching.Stop.TheVariants.{Refused, ReadFault, Memory}
+use Rattle.cli_output.specs.Fetching.{Fetching, OrRefusal, Outcome, ◌>>=◌, followed, given, refusal_in}
 use Rattle.bench_core.specs.Loading.{Tuples}
 use Rattle.cfd_cli.specs.Project.{fetch_table, fetch_tables}
 

@@ -1,14 +1,17 @@
 -- What each form of words asks for.
 use Rattle.std.specs.Prelude.{ℕ, List, Option, None, Some, Ok, codes}
 use Rattle.schema_core.specs.declared.limits.Limits.{Limits}
-use Rattle.cfd_cli.specs.declared.form.Form.{Form}
-use Rattle.cfd_cli.specs.declared.form.Form.TheVariants.{Report, Run}
-use Rattle.cfd_cli.specs.declared.status.Status.TheVariants.{Usage}
-use Rattle.cfd_cli.specs.Fetching.{given}
-use Rattle.cfd_cli.specs.Output.{Only, Task}
+use Rattle.call_words.specs.declared.form.Form.{Form}
+use Rattle.call_words.specs.declared.form.Form.TheVariants.{Check, Consistent, Implies, Report, Run}
+use Rattle.cli_output.specs.declared.status.Status.TheVariants.{Usage}
+use Rattle.cli_output.specs.Fetching.{given}
+use Rattle.cli_output.specs.Output.{Only, Task}
 use Rattle.cfd_cli.specs.ReportForm.{report_task}
 use Rattle.cfd_cli.specs.RunForm.{run_task}
-use Rattle.cfd_cli.specs.Words.{form_of}
+use Rattle.rule_forms.specs.CheckForm.{check_task}
+use Rattle.rule_forms.specs.ConsistentForm.{consistent_task}
+use Rattle.rule_forms.specs.ImpliesForm.{implies_task}
+use Rattle.call_words.specs.Words.{form_of}
 
 -- the line that is written where the words have no form
 abbrev pub usage_line : List ℕ
@@ -27,6 +30,9 @@ abbrev pub form_task : Limits → Option Form → Task
 form_task limits None = usage_task
 form_task limits (Some (Run project)) = run_task limits project
 form_task limits (Some (Report project)) = report_task limits project
+form_task limits (Some (Consistent project table budget)) = consistent_task limits project table budget
+form_task limits (Some (Implies project dep budget)) = implies_task limits project dep budget
+form_task limits (Some (Check project cert)) = check_task limits project cert
 
 -- what the words ask for
 abbrev pub task_of : Limits → List (List ℕ) → Task

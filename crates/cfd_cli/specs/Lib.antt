@@ -1,10 +1,5 @@
-pub mod Fetching
 pub mod Forms
-pub mod Output
 pub mod Project
-pub mod Refusals
 pub mod ReportForm
 pub mod RunForm
-pub mod Statuses
 pub mod Transcripts
-pub mod Words

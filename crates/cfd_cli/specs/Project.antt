@@ -1,13 +1,10 @@
 -- A project: its schema, its rules, its tables and its script, in the order in which they are fetched and read.
 use Rattle.std.specs.Prelude.{ℕ, List, [], ◌∷◌, Option, None, Some, Result, Ok, Err, slice_get}
 use Rattle.std.specs.Option.{option_map_or}
-use Rattle.schema_core.specs.Faults.{Reading}
-use Rattle.schema_core.specs.SchemaFiles as schema_file
 use Rattle.schema_core.specs.declared.limits.Limits.{Limits}
 use Rattle.schema_core.specs.declared.schema.Schema.{Schema}
 use Rattle.schema_core.specs.declared.schema.Table.{Table}
 use Rattle.rule_model.specs.Books.{Book}
-use Rattle.rule_parser.specs.RuleFiles as rule_file
 use Rattle.csv_tables.specs.TableFiles.{table_of}
 use Rattle.csv_tables.specs.declared.fault.TableFault.{TableFault}
 use Rattle.bench_core.specs.Bench.{BenchModel}
@@ -16,10 +13,15 @@ use Rattle.bench_core.specs.Loading.{Tuples, loaded}
 use Rattle.bench_core.specs.State.{State}
 use Rattle.session.specs.Scripts.{script_of}
 use Rattle.session.specs.declared.command.Command.{Command}
+use Rattle.session.specs.declared.command.ScriptCause.{ScriptCause}
+use Rattle.session.specs.declared.command.ScriptCause.TheVariants as script
 use Rattle.cfd_cli.specs.declared.project.Project.{Project}
-use Rattle.cfd_cli.specs.declared.refusal.Cause.{Cause}
-use Rattle.cfd_cli.specs.declared.refusal.Cause.TheVariants as cause
-use Rattle.cfd_cli.specs.Fetching.{Fetching, OrRefusal, ◌>>=◌, about, file, given}
+use Rattle.cli_output.specs.declared.refusal.Cause.{Cause}
+use Rattle.cli_output.specs.declared.refusal.Cause.TheVariants as cause
+use Rattle.cli_output.specs.declared.refusal.LineFlaw.{LineFlaw}
+use Rattle.cli_output.specs.declared.refusal.LineFlaw.TheVariants as flaw
+use Rattle.cli_output.specs.Fetching.{Fetching, OrRefusal, ◌>>=◌, about, file, given}
+use Rattle.cli_output.specs.RuleFiles.{fetch_rules, fetch_schema, spelled}
 
 -- ---- what is read, or why its file is refused
 
@@ -45,10 +47,14 @@ read_of project = record { tables = tables_of project.bench; commands = project.
 abbrev pub begins_with : State → History
 begins_with state = record { past = []; present = state; undone = [] }
 
--- what bytes spell, or the line and what is wrong there as the cause of a refusal
-abbrev pub spelled : {X C : Type 0} → (ℕ → C → Cause) → Reading X C → Result X Cause
-spelled cause (Ok x) = Ok x
-spelled cause (Err fault) = Err (cause fault.line fault.cause)
+-- what is told of a line of a script
+abbrev pub flaw_of : ScriptCause → LineFlaw
+flaw_of script.NotUtf8 = flaw.NotUtf8
+flaw_of script.BadLine = flaw.BadLine
+flaw_of (script.TooMany limit) = flaw.TooMany limit
+
+abbrev pub script_line : ℕ → ScriptCause → Cause
+script_line line why = cause.Line line (flaw_of why)
 
 -- the rows of a table file, or its fault as the cause of a refusal
 abbrev pub tabled : Result Tuples TableFault → Result Tuples Cause
@@ -65,18 +71,6 @@ bench_of rules limits (Ok state) = Ok (record { rules = rules; limits = limits; 
 bench_of rules limits (Err table) = Err (record { what = file_of rules.schema table; cause = cause.RowsFull })
 
 -- ---- the files, in their order
-
--- the schema of the named file
-unfoldable pub fetch_schema : Limits → List ℕ → Fetching Schema
-fetch_schema limits name = file limits name >>= λ bytes. given (about name (spelled cause.Schema (schema_file.reads limits bytes)))
-
--- the rules of the file that the schema names, where it names one
-abbrev pub fetch_rules_from : Limits → Schema → Option (List ℕ) → Fetching Book
-fetch_rules_from limits schema None = given (Ok (record { schema = schema; limits = limits; decls = [] }))
-fetch_rules_from limits schema (Some name) = file limits name >>= λ bytes. given (about name (spelled cause.Rules (rule_file.reads schema limits bytes)))
-
-abbrev pub fetch_rules : Limits → Schema → Fetching Book
-fetch_rules limits schema = fetch_rules_from limits schema schema.rules
 
 -- the rows of a table
 unfoldable pub fetch_table : Limits → Table → Fetching Tuples
@@ -95,7 +89,7 @@ fetch_bench limits rules =
 -- the commands of the script that the schema names, where it names one
 abbrev pub fetch_commands_from : Limits → Option (List ℕ) → Fetching (List Command)
 fetch_commands_from limits None = given (Ok [])
-fetch_commands_from limits (Some name) = file limits name >>= λ bytes. given (about name (spelled cause.Script (script_of limits bytes)))
+fetch_commands_from limits (Some name) = file limits name >>= λ bytes. given (about name (spelled script_line (script_of limits bytes)))
 
 abbrev pub fetch_commands : Limits → Schema → Fetching (List Command)
 fetch_commands limits schema = fetch_commands_from limits schema.script

@@ -9,7 +9,7 @@ use Rattle.bench_core.specs.State.{State}
 use Rattle.violation_report.specs.Listing.{listing}
 use Rattle.violation_report.specs.Report.{report_text}
 use Rattle.session.specs.Replies.{IsReply}
-use Rattle.cfd_cli.specs.Output.{Outputs, Task}
+use Rattle.cli_output.specs.Output.{Outputs, Task}
 use Rattle.cfd_cli.specs.Project.{ProjectRead, fetch_project}
 use Rattle.cfd_cli.specs.Transcripts.{found_status}
 

@@ -4,7 +4,7 @@ use Rattle.schema_core.specs.declared.limits.Limits.{Limits}
 use Rattle.bench_core.specs.History.{History}
 use Rattle.violation_report.specs.Listing.{listing}
 use Rattle.session.specs.Replies.{IsReply}
-use Rattle.cfd_cli.specs.Output.{Outputs, Task}
+use Rattle.cli_output.specs.Output.{Outputs, Task}
 use Rattle.cfd_cli.specs.Project.{ProjectRead, fetch_project}
 use Rattle.cfd_cli.specs.Transcripts.{transcripts}
 

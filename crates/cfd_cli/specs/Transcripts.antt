@@ -1,9 +1,9 @@
 -- Transcripts as outputs: the status that goes with one tells whether something is found in the state at its end.
 use Rattle.std.specs.Prelude.{◌≡◌, ◌⊎◌, List, [], ◌∷◌}
 use Rattle.shelf_io.specs.Transcript.{Replies, IsTranscript}
-use Rattle.cfd_cli.specs.declared.status.Status.{Status}
-use Rattle.cfd_cli.specs.declared.status.Status.TheVariants.{Clean, Findings, Memory}
-use Rattle.cfd_cli.specs.Output.{Outputs}
+use Rattle.cli_output.specs.declared.status.Status.{Status}
+use Rattle.cli_output.specs.declared.status.Status.TheVariants.{Clean, Findings, Memory}
+use Rattle.cli_output.specs.Output.{Outputs}
 
 -- Findings where something is listed, else Clean
 abbrev pub found_status : {X : Type 0} → List X → Status

@@ -1,18 +1,21 @@
 //! The top call.
-ghost use Rattle.std.specs.Prelude.{◌≡◌, ◌⊎◌};
+ghost use Rattle.std.specs.Prelude.{◌≡◌, ◌<◌, ◌⊎◌, Some};
 ghost use Rattle.schema_core.specs.Limits.{AreLimits, standard};
-ghost use Rattle.cfd_cli.specs.Forms.{task_of, usage_line};
-ghost use Rattle.cfd_cli.specs.Output.{Output, UsesDevices, Writes};
-ghost use Rattle.cfd_cli.specs.Words.{HasForm};
+ghost use Rattle.cfd_cli.specs.Forms.{form_task, task_of, usage_line};
+ghost use Rattle.cli_output.specs.Output.{Output, UsesDevices, Writes};
+ghost use Rattle.call_words.specs.Words.{HasForm, IsFit};
 
-use crate::ending::end_with;
-use crate::form::{Form, form_of};
 use crate::report_form::report_project;
 use crate::run_form::run_project;
-use crate::status::Status;
+use call_words::{Form, form_of};
+use cli_output::{Status, end_with};
+use probe_steps::Steps;
+use rule_forms::{check_project, consistent_project, implies_project};
 use schema_core::{Limits, Texts};
 use shelf_io::{Shelf, Sink};
 use std::alloc::{AllocError, Global};
+use std::marker::Brand;
+use std::sync::ledger::{Blank, Ledger};
 
 const USAGE: &str =
     "usage: run PROJECT | report PROJECT | consistent PROJECT TABLE BUDGET | implies PROJECT DEP BUDGET | check PROJECT CERT | generate N | cover PROJECT TABLE BUDGET | find PROJECT TABLE WIDTH SUPPORT | desk PROJECT EVENTS\n";
@@ -45,10 +48,61 @@ pub fn run_with<S: Shelf, O: Sink>(
     // Nothing is fetched that isn't asked for, and a fault is told only where a device counted one.
     ensures devices { UsesDevices limits (task_of limits words.now) result (S.told shelf.old) (S.told shelf.new) (O.told out.old) (O.told out.new) }
 {
+    run_counted::<S, O, Brand>(alloc, words, shelf, out, &limits, Blank::new(1))
+}
+
+/// The same, with the ledger in which the probes of indexes are counted. It takes no bytes, and nothing reads it.
+fn run_counted<S: Shelf, O: Sink, L: Ledger>(
+    alloc: Global,
+    words: &Texts,
+    shelf: &mut S,
+    out: &mut O,
+    limits: &Limits,
+    blank: Blank,
+) -> Status
+    requires limits { AreLimits limits.now }
+    requires name { blank.name ≡ L.name }
+    requires parts { blank.parts ≡ L.parts }
+    requires some { 0 < blank.parts }
+    ensures written { Writes (Output limits.now (task_of limits.now words.now) (S.told shelf.old).holding) result (O.told out.old).written (O.told out.new).written }
+    ensures usage { (HasForm words.now → ⊥) → (result ≡ Status.Usage) ⊎ (result ≡ Status.WriteFault) }
+    ensures devices { UsesDevices limits.now (task_of limits.now words.now) result (S.told shelf.old) (S.told shelf.new) (O.told out.old) (O.told out.new) }
+{
+    let mut steps = Steps::<L>::open(blank);
     match form_of(alloc, words.as_slice()) {
         Ok(None) => end_with(out, USAGE.as_bytes(), Status::Usage),
-        Ok(Some(Form::Run { project })) => run_project(alloc, &project, shelf, out, &limits),
-        Ok(Some(Form::Report { project })) => report_project(alloc, &project, shelf, out, &limits),
+        Ok(Some(form)) => answer(alloc, &form, shelf, out, limits, &mut steps),
         Err(AllocError) => Status::Memory,
+    }
+}
+
+/// Does what a form asks for.
+fn answer<S: Shelf, O: Sink, L: Ledger>(
+    alloc: Global,
+    form: &Form,
+    shelf: &mut S,
+    out: &mut O,
+    limits: &Limits,
+    steps: &mut Steps<L>,
+) -> Status
+    requires limits { AreLimits limits.now }
+    requires form { IsFit form.now }
+    ensures written { Writes (Output limits.now (form_task limits.now (Some form.now)) (S.told shelf.old).holding) result (O.told out.old).written (O.told out.new).written }
+    ensures devices { UsesDevices limits.now (form_task limits.now (Some form.now)) result (S.told shelf.old) (S.told shelf.new) (O.told out.old) (O.told out.new) }
+{
+    match form {
+        Form::Run { project } => run_project(alloc, project, shelf, out, limits, steps),
+        Form::Report { project } => report_project(alloc, project, shelf, out, limits, steps),
+        Form::Consistent {
+            project,
+            table,
+            budget,
+        } => consistent_project(alloc, project, table, *budget, shelf, out, limits),
+        Form::Implies {
+            project,
+            dep,
+            budget,
+        } => implies_project(alloc, project, dep, *budget, shelf, out, limits),
+        Form::Check { project, cert } => check_project(alloc, project, cert, shelf, out, limits),
     }
 }

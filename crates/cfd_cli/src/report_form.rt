@@ -3,70 +3,86 @@ ghost use Rattle.std.specs.Prelude.{◌≡◌, IfOk};
 ghost use Rattle.schema_core.specs.Limits.{AreLimits};
 ghost use Rattle.violation_report.specs.Listing.{listing};
 ghost use Rattle.violation_report.specs.Report.{report_text};
-ghost use Rattle.cfd_cli.specs.Output.{Ends, Output, UsesDevices, Writes};
+ghost use Rattle.cli_output.specs.Output.{Ends, Output, UsesDevices, Writes};
 ghost use Rattle.cfd_cli.specs.Project.{read_of};
 ghost use Rattle.cfd_cli.specs.ReportForm.{report_of, report_outputs, report_task};
 ghost use Rattle.cfd_cli.specs.Transcripts.{found_status};
 
 use crate::dropped::Dropped;
-use crate::ending::{end_by, end_with};
 use crate::project::{Project, fetch_project};
-use crate::status::Status;
 use bench_core::Bench;
+use cli_output::{Status, end_by, end_with};
+use probe_steps::Steps;
 use schema_core::{Limits, Text};
 use session::serve;
 use shelf_io::{Shelf, Sink};
 use std::alloc::{AllocError, Global};
+use std::sync::ledger::Ledger;
 use violation_report::{json_report, list};
 
 /// Tells what the script of a project leads to.
-pub fn report_project<S: Shelf, O: Sink>(
+pub fn report_project<S: Shelf, O: Sink, L: Ledger>(
     alloc: Global,
     project: &Text,
     shelf: &mut S,
     out: &mut O,
     limits: &Limits,
+    steps: &mut Steps<L>,
 ) -> Status
     requires { AreLimits limits.now }
     ensures written { Writes (Output limits.now (report_task limits.now project.now) (S.told shelf.old).holding) result (O.told out.old).written (O.told out.new).written }
     ensures devices { UsesDevices limits.now (report_task limits.now project.now) result (S.told shelf.old) (S.told shelf.new) (O.told out.old) (O.told out.new) }
 {
     let mut left = limits.all_bytes;
-    match fetch_project(alloc, shelf, project, limits, &mut left) {
-        Ok(project) => report(alloc, project, out),
+    match fetch_project(alloc, shelf, project, limits, &mut left, steps) {
+        Ok(project) => report(alloc, project, out, steps),
         Err(stop) => end_by(alloc, &stop, out),
     }
 }
 
 /// Answers the script with no one listening, and tells the list of its last state.
-fn report<O: Sink>(alloc: Global, project: Project, out: &mut O) -> Status
+fn report<O: Sink, L: Ledger>(
+    alloc: Global,
+    project: Project,
+    out: &mut O,
+    steps: &mut Steps<L>,
+) -> Status
     ensures { Ends (report_outputs (read_of project)) result (O.told out.old) (O.told out.new) }
 {
     let Project {
         mut bench,
         commands,
     } = project;
-    match serve(alloc, &mut bench, &commands, &mut Dropped) {
-        Ok(()) => tell(alloc, &bench, out),
+    match serve(alloc, &mut bench, &commands, &mut Dropped, steps) {
+        Ok(()) => tell(alloc, &bench, out, steps),
         Err(_) => Status::Memory,
     }
 }
 
 /// Tells the list of the bench.
-fn tell<O: Sink>(alloc: Global, bench: &Bench, out: &mut O) -> Status
+fn tell<O: Sink, L: Ledger>(
+    alloc: Global,
+    bench: &Bench,
+    out: &mut O,
+    steps: &mut Steps<L>,
+) -> Status
     ensures { Ends (report_of bench.now.rules bench.now.history.present) result (O.told out.old) (O.told out.new) }
 {
-    match report_of(alloc, bench) {
+    match report_of(alloc, bench, steps) {
         Ok((text, status)) => end_with(out, &text, status),
         Err(AllocError) => Status::Memory,
     }
 }
 
-fn report_of(alloc: Global, bench: &Bench) -> Result<(Vec<u8>, Status), AllocError>
+fn report_of<L: Ledger>(
+    alloc: Global,
+    bench: &Bench,
+    steps: &mut Steps<L>,
+) -> Result<(Vec<u8>, Status), AllocError>
     ensures text { IfOk result (λ report. report.0.items ≡ report_text bench.now.rules (listing bench.now.rules bench.now.history.present)) }
     ensures status { IfOk result (λ report. report.1 ≡ found_status (listing bench.now.rules bench.now.history.present)) }
 {
-    let lines = list(alloc, bench)?;
+    let lines = list(alloc, bench, steps)?;
     let text = json_report(alloc, bench.rules(), &lines)?;
     if lines.as_slice().is_empty() {
         Ok((text, Status::Clean))

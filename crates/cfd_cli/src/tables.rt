@@ -5,17 +5,18 @@ ghost use Rattle.schema_core.specs.Limits.{AreLimits};
 ghost use Rattle.schema_core.specs.Rows.{IsRowOf};
 ghost use Rattle.bench_core.specs.Loading.{AreTables, loaded};
 ghost use Rattle.csv_tables.specs.TableFiles.{table_of};
-ghost use Rattle.cfd_cli.specs.Fetching.{Fetches, Reads, about};
+ghost use Rattle.cli_output.specs.Fetching.{Fetches, Reads, about};
 ghost use Rattle.cfd_cli.specs.Project.{bench_of, fetch_table, fetch_tables, tabled, tables_of};
 
-use crate::fetching::{Stop, fetch_file, refused};
-use crate::refusal::Cause;
 use bench_core::{Bench, LoadFault};
+use cli_output::{Cause, Stop, fetch_file, refused};
 use csv_tables::{TableFault, read_table};
+use probe_steps::Steps;
 use rule_model::RuleBook;
 use schema_core::{Limits, List, Schema, Table, Texts};
 use shelf_io::Shelf;
 use std::alloc::{AllocError, Global};
+use std::sync::ledger::Ledger;
 
 /// The rows of each table, in the order of the schema.
 pub fn fetch_tables<S: Shelf>(
@@ -66,18 +67,19 @@ fn rows_of(alloc: Global, table: &Table, bytes: &[u8], limits: &Limits) -> Resul
 }
 
 /// The bench of tables that were read.
-pub fn load(
+pub fn load<L: Ledger>(
     alloc: Global,
     rules: RuleBook,
     tables: List<List<Texts>>,
     limits: &Limits,
+    steps: &mut Steps<L>,
 ) -> Result<Bench, Stop>
     requires limits { AreLimits limits.now }
     requires tables { AreTables rules.schema limits.now.cell_bytes tables }
     ensures { Reads (bench_of rules limits.now (loaded rules limits.now tables)) tables_of result }
 {
     let names = file_names(alloc, rules.schema())?;
-    match Bench::load(alloc, rules, tables, *limits) {
+    match Bench::load(alloc, rules, tables, *limits, steps) {
         Ok(bench) => Ok(bench),
         Err(LoadFault::RowsFull { table }) => {
             let name = &names.as_slice()[table];

@@ -67,6 +67,7 @@ fn words_without_a_form(rt: HostRuntime) -> Result<(), Fail> {
         "report",
         "report p q",
         "report -p",
+        "consistent p t 0",
     ] {
         expect(&rt, line, &[("p", "")], Status::Usage, USAGE)?;
     }

@@ -20,8 +20,7 @@ use Rattle.rule_runs.proofs.Running.{end-append, end-push, run-front, run-rest}
 use Rattle.rule_runs.proofs.StartFacts.{writes_within}
 use Rattle.fix_engine.specs.Fixes.{TuplesTellValidated}
 use Rattle.fix_engine.specs.Questions.{asked_at}
-use Rattle.fix_engine.specs.Rivals.{AgreesWithout, LeadsTo}
-use Rattle.fix_engine.specs.Verdicts.{IsFullRunTo}
+use Rattle.fix_engine.specs.Rivals.{AgreesWithout, IsFullRunTo, LeadsTo}
 
 module _ (start : Start) (book : IsBook start.rules.now) (is_start : IsStart start) where
   abbrev basis : Basis ℕ

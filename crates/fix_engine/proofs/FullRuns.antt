@@ -8,8 +8,7 @@ use Rattle.rule_runs.specs.Moves.{IsMaximalRun, IsRunOf, Stage, end_after}
 use Rattle.rule_runs.specs.Starts.{GoesOn, IsRunFrom, IsStart, IsTupleOf, basis_of, first_stage}
 use Rattle.rule_runs.proofs.Running.{run_from_tuple}
 use Rattle.fix_engine.specs.Questions.{asked_at}
-use Rattle.fix_engine.specs.Rivals.{LeadsTo}
-use Rattle.fix_engine.specs.Verdicts.{IsFullRunTo}
+use Rattle.fix_engine.specs.Rivals.{IsFullRunTo, LeadsTo}
 
 -- it is a run with its end
 pub from_full : (start : Start) (run : Run) → IsFullRunTo (asked_at start) run → IsRunFrom start run

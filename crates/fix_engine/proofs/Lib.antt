@@ -1,5 +1,10 @@
 pub mod NamedAttrs
 pub mod FullRuns
 pub mod Completeness
+pub mod OverTexts
+pub mod FixedRows
 pub mod VerdictFacts
 pub mod Asking
+pub mod TestMasters
+pub mod Judging
+pub mod Judged

@@ -1,6 +1,6 @@
 -- What the fix of a tuple is: it is said of all maximal runs, which are lists of moves, and of nothing else. How a fix is
 -- found stands nowhere here. The values of tuples are of any kind.
-use Rattle.std.specs.Prelude.{◌≡◌, ℕ, ◌<◌, Bool, true, List}
+use Rattle.std.specs.Prelude.{◌≡◌, ◌≢◌, ℕ, ◌<◌, Bool, true, List, take, slice_get}
 use Rattle.rule_runs.specs.declared.moves.Move.{Move}
 use Rattle.rule_runs.specs.Moves.{Basis, Stage, IsMaximalRun, end_after}
 
@@ -14,6 +14,11 @@ pub record Question (V : Type 0) : Type 0 where
 -- the set has each of so many attributes
 abbrev pub HasAll : ℕ → (ℕ → Bool) → Type 0
 HasAll width set = (attr : ℕ) → attr < width → set attr ≡ true
+
+-- the first place at which two tuples differ
+pub record DifferFirstAt {V : Type 0} (one other : List V) (place : ℕ) : Type 0 where
+  pub before : take place one ≡ take place other
+  pub here : slice_get one place ≢ slice_get other place
 
 module _ {V : Type 0} (question : Question V) where
   -- the moves are a maximal run from the tuple, and where they lead

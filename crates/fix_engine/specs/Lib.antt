@@ -1,4 +1,5 @@
 pub mod Fixes
 pub mod Questions
 pub mod Verdicts
+pub mod MasterRows
 pub mod Rivals

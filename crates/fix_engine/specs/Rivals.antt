@@ -1,18 +1,32 @@
--- The search for a maximal run that ends in another tuple than a first one.
-use Rattle.std.specs.Prelude.{◌≡◌, ◌≢◌, ℕ, false, List, [], ◌∷◌, ◌++◌, Some, slice_get}
+-- The search for a maximal run that ends in another tuple than a first one, over value ids.
+use Rattle.std.specs.Prelude.{◌≡◌, ℕ, false, List, [], ◌∷◌, ◌++◌, Some}
 use Rattle.rule_runs.specs.declared.moves.Move.{Move}
 use Rattle.rule_runs.specs.declared.moves.Start.{Start}
 use Rattle.rule_runs.specs.declared.runs.Run.{Run}
 use Rattle.rule_runs.specs.Moves.{Applies, IsClosedBut, IsRunOf, end_after}
-use Rattle.rule_runs.specs.Starts.{IsRunFrom, basis_of, first_stage, stage_at}
+use Rattle.rule_runs.specs.Starts.{IsRunFrom, basis_of, first_stage, stage_at, stage_of}
 use Rattle.fix_engine.specs.declared.rivals.Rival.{Rival}
+use Rattle.fix_engine.specs.declared.verdict.Verdict.{Verdict}
+use Rattle.fix_engine.specs.declared.verdict.Verdict.TheVariants.{Unique, Conflict}
+use Rattle.fix_engine.specs.Fixes.{Question, AllEndAt, DifferFirstAt, IsFullRun, stage_after}
 use Rattle.fix_engine.specs.Questions.{asked_at}
-use Rattle.fix_engine.specs.Verdicts.{IsFullRunTo}
 
--- a maximal run whose tuple differs from that of the first one at the attribute
+-- a maximal run, with the tuple and the validated attributes at its end
+pub record IsFullRunTo (question : Question ℕ) (run : Run) : Type 0 where
+  pub full : IsFullRun question run.moves
+  pub end : stage_after question run.moves ≡ stage_at run
+
+-- what a verdict shows, in value ids
+abbrev pub IsFound : Question ℕ → Verdict → Type 0
+IsFound question (Unique tuple covered moves) =
+    AllEndAt question (stage_of tuple covered) × IsFullRun question moves
+IsFound question (Conflict first second attr) =
+    IsFullRunTo question first × IsFullRunTo question second × DifferFirstAt first.tuple second.tuple attr
+
+-- a maximal run whose tuple differs from that of the first one, first at the attribute
 pub record IsRivalOf (start : Start) (first : Run) (rival : Rival) : Type 0 where
   pub full : IsFullRunTo (asked_at start) rival.run
-  pub differs : slice_get first.tuple rival.attr ≢ slice_get rival.run.tuple rival.attr
+  pub differs : DifferFirstAt first.tuple rival.run.tuple rival.attr
 
 -- some run that goes on from these moves ends in the tuple
 abbrev pub LeadsTo : Start → List Move → List ℕ → Type 0

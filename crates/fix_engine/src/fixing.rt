@@ -1,12 +1,14 @@
 //! The verdict on a tuple.
 
-ghost use Rattle.std.specs.Prelude.{◌≡◌, ◌↔◌, ◌<◌, Err, length, Any, IfOk};
+ghost use Rattle.std.specs.Prelude.{◌≡◌, ◌↔◌, Err, Any, IfOk};
 ghost use Rattle.row_store.specs.Tuple.{ids_of};
 ghost use Rattle.schema_core.specs.Lookups.{attrs_at};
-ghost use Rattle.rule_runs.specs.Starts.{AreMasters, IsStart, IsTupleIn};
-ghost use Rattle.fix_engine.specs.Fixes.{IsCertain, IsUnique, TuplesTellValidated};
-ghost use Rattle.fix_engine.specs.Questions.{IsNoAttr, asked_at, question};
-ghost use Rattle.fix_engine.specs.Verdicts.{HasTuplesIn, IsShown, SaysCertain, SaysUnique};
+ghost use Rattle.rule_runs.specs.Starts.{IsStart};
+ghost use Rattle.fix_engine.specs.Fixes.{TuplesTellValidated};
+ghost use Rattle.fix_engine.specs.MasterRows.{LeadsToRows};
+ghost use Rattle.fix_engine.specs.Questions.{CanBeAsked, IsNoAttr, asked_at, question};
+ghost use Rattle.fix_engine.specs.Rivals.{IsFound};
+ghost use Rattle.fix_engine.specs.Verdicts.{HasTuplesIn, IsVerdictOn};
 
 use crate::fault::FixFault;
 use crate::rivals::rival_of;
@@ -21,6 +23,7 @@ use std::alloc::{AllocError, Global};
 use value_pool::Pool;
 
 /// What the fix of the tuple is, where the attributes with these names are vouched for. A name may stand twice.
+/// The question is put over texts; ids are how the tuple, the master rows and the verdict name them.
 pub fn fix(
     alloc: Global,
     rules: &RuleBook,
@@ -30,16 +33,15 @@ pub fn fix(
     tuple: &Tuple,
     vouched: &Texts,
 ) -> Result<Verdict, FixFault>
-    requires table { table < length rules.now.schema.tables }
-    requires tuple { IsTupleIn rules.now pool.now table (ids_of tuple.now) }
-    requires masters { AreMasters rules.now pool.now masters.now }
+    requires { CanBeAsked rules.now pool.now masters.now table (ids_of tuple.now) }
     ensures unknown { (result ≡ Err FixFault.UnknownAttr) ↔ Any (IsNoAttr (attrs_at rules.now.schema table)) vouched.now }
-    ensures unique { IfOk result (λ verdict. SaysUnique verdict ↔ IsUnique (question rules.now pool.now masters.now table (ids_of tuple.now) vouched.now)) }
-    ensures certain { IfOk result (λ verdict. SaysCertain (length (attrs_at rules.now.schema table)) verdict ↔ IsCertain (question rules.now pool.now masters.now table (ids_of tuple.now) vouched.now)) }
-    ensures shown { IfOk result (IsShown (question rules.now pool.now masters.now table (ids_of tuple.now) vouched.now)) }
+    ensures verdict { IfOk result (IsVerdictOn pool.now (question rules.now pool.now masters.now table (ids_of tuple.now) vouched.now)) }
     ensures tuples { IfOk result (HasTuplesIn rules.now pool.now table) }
+    ensures rows { LeadsToRows rules.now.schema (question rules.now pool.now masters.now table (ids_of tuple.now) vouched.now) }
     ensures law { TuplesTellValidated (question rules.now pool.now masters.now table (ids_of tuple.now) vouched.now) }
 {
+    // The texts of a pool are distinct, so what is found over ids holds over texts.
+    let _texts = pool.len();
     let attrs = &rules.schema().tables.as_slice()[table];
     let Some(vouched) = marks_of(attrs, vouched.as_slice()) else {
         return Err(FixFault::UnknownAttr);
@@ -58,7 +60,7 @@ pub fn fix(
 /// The verdict at a start.
 fn verdict_at(alloc: Global, start: &Start<'_>) -> Result<Verdict, AllocError>
     requires { IsStart start.now }
-    ensures shown { IfOk result (IsShown (asked_at start.now)) }
+    ensures found { IfOk result (IsFound (asked_at start.now)) }
     ensures tuples { IfOk result (HasTuplesIn start.now.rules.now start.now.pool.now start.now.table) }
 {
     let first = close_without(alloc, start, None)?;

@@ -12,3 +12,6 @@ mod vouching;
 pub use fault::FixFault;
 pub use fixing::fix;
 pub use verdict::Verdict;
+
+#[cfg(test)]
+mod tests;

@@ -3,13 +3,12 @@
 //! attribute that isn't vouched for, all is closed but this attribute, then each move that still applies is made,
 //! and what it leads to is compared.
 
-ghost use Rattle.std.specs.Prelude.{◌≡◌, ◌≢◌, ℕ, Some, false, length, slice_get, IfOk, IfSome, IfNone};
+ghost use Rattle.std.specs.Prelude.{◌≡◌, ℕ, false, length, IfOk, IfSome, IfNone};
 ghost use Rattle.rule_runs.specs.Marks.{marked};
 ghost use Rattle.rule_runs.specs.Starts.{IsRunFrom, IsStart, stage_at};
-ghost use Rattle.fix_engine.specs.Fixes.{AllEndAt};
+ghost use Rattle.fix_engine.specs.Fixes.{AllEndAt, DifferFirstAt};
 ghost use Rattle.fix_engine.specs.Questions.{asked_at};
-ghost use Rattle.fix_engine.specs.Rivals.{AgreesBy, AgreesWithout, IsRivalOf};
-ghost use Rattle.fix_engine.specs.Verdicts.{IsFullRunTo};
+ghost use Rattle.fix_engine.specs.Rivals.{AgreesBy, AgreesWithout, IsFullRunTo, IsRivalOf};
 
 use rule_runs::{Move, Run, Start, close_without, extend, rows_that_apply};
 use std::alloc::{AllocError, Global};
@@ -25,7 +24,7 @@ pub(crate) struct Rival {
 /// The first place at which two lists of ids differ.
 fn difference(one: &[ValueId], other: &[ValueId]) -> Option<usize>
     requires { length one.now ≡ length other.now }
-    ensures some { IfSome result (λ place. slice_get one.now place ≢ slice_get other.now place) }
+    ensures some { IfSome result (DifferFirstAt one.now other.now) }
     ensures none { IfNone result (one.now ≡ other.now) }
 {
     for (place, id) in one.iter().enumerate() {

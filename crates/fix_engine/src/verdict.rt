@@ -9,7 +9,7 @@ use schema_core::List;
 use value_pool::ValueId;
 
 /// What the fix of a tuple is: the tuple and the validated attributes at which all maximal runs end, with one of
-/// these runs; or two maximal runs whose tuples differ at an attribute.
+/// these runs; or two maximal runs, and the first attribute at which their tuples differ.
 #[derive(Debug, Drop)]
 pub enum Verdict {
     Unique {

@@ -75,7 +75,7 @@ after_bracket : (x : List (List ℕ)) (a : List ℕ) (row : List Part)
 after_bracket x a row =
     ap tokens_in (append_assoc (comma_separated attr_parts x ++ mark CloseBracket ∷ []) (Space ∷ mark Arrow ∷ Space ∷ attrs_parts (a ∷ [])) row) ∙ closed_tokens attr_parts x CloseBracket (Space ∷ mark Arrow ∷ Space ∷ (attrs_parts (a ∷ []) ++ row))
 
-line_again : (table : List ℕ) (x : List (List ℕ)) (a : List ℕ) (cells : List (Pattern (List ℕ))) (cell : Pattern (List ℕ)) → AllByRecursion IsWrittenCell cells → IsWrittenCell cell
+pub line_again : (table : List ℕ) (x : List (List ℕ)) (a : List ℕ) (cells : List (Pattern (List ℕ))) (cell : Pattern (List ℕ)) → AllByRecursion IsWrittenCell cells → IsWrittenCell cell
     → dep_at (tokens_in (cfd_parts table x (a ∷ []) ++ Space ∷ row_line cell_parts cells (cell ∷ []))) ≡ Some (record { name = []; table = table; x = x; y = a ∷ []; rows = record { x = cells; y = cell ∷ [] } ∷ [] }, [])
 unfolding dep_at
 line_again table x a cells cell written is =

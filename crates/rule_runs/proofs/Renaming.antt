@@ -27,7 +27,7 @@ module _
     at_stage stage = record { tuple = map f stage.tuple; validated = stage.validated }
 
     -- values that may be missing are kept apart too
-    apart-options : (o p : Option V) → IfSome o P → IfSome p P → option_map f o ≡ option_map f p → o ≡ p
+    pub apart-options : (o p : Option V) → IfSome o P → IfSome p P → option_map f o ≡ option_map f p → o ≡ p
     apart-options None None one other same = refl
     apart-options None (Some b) one other same = absurd (let e = same in cc)
     apart-options (Some a) None one other same = absurd (let e = same in cc)
@@ -160,7 +160,7 @@ module _
     end-renamed stage [] = refl
     end-renamed stage (move ∷ moves) = ap (λ s. end_after renamed s moves) (after-renamed stage move) ∙ end-renamed (after basis stage move) moves
 
-    end-in : (stage : Stage V) (moves : List Move) → All P stage.tuple → All P (end_after basis stage moves).tuple
+    pub end-in : (stage : Stage V) (moves : List Move) → All P stage.tuple → All P (end_after basis stage moves).tuple
     end-in stage [] all = all
     end-in stage (move ∷ moves) all = end-in (after basis stage move) moves (after-in stage move all)
 

@@ -74,7 +74,7 @@ pair x y = (x, y)
 abbrev pair_with : {R M : Type 0} → (R → Option M) → R → Option (R × M)
 pair_with f x = option_map (pair x) (f x)
 
-option-parts : {R M : Type 0} (f : R → Option M) (o : Option R) (r : R) (m : M) → option_and_then (pair_with f) o ≡ Some (r, m) → (o ≡ Some r) × (f r ≡ Some m)
+pub option-parts : {R M : Type 0} (f : R → Option M) (o : Option R) (r : R) (m : M) → option_and_then (pair_with f) o ≡ Some (r, m) → (o ≡ Some r) × (f r ≡ Some m)
 option-parts f None r m is = absurd (let e = is in cc)
 option-parts {R} {M} f (Some x) r m is = inner (f x) refl is
   where

@@ -10,6 +10,7 @@ use Rattle.bench_core.specs.declared.edit.EditFault.{EditFault}
 use Rattle.session.specs.Replies.{count_text, done_text, explain_text, export_text, fault_text, list_text, refused_text, IsEditReply, IsRedoReply, IsReply, IsUndoReply}
 use Rattle.session.specs.declared.command.Command.{Command}
 use Rattle.session.specs.declared.command.Command.TheVariants as command
+use Rattle.session.proofs.FixReplies.{fix_reply}
 
 edit_reply : (before : History) (edit : Edit) (made : Result (History × Applied) EditFault) → (reply : List ℕ) × (next : History) × IsEditReply before edit made reply next
 edit_reply before edit (Ok done) = (done_text edit done.1, done.0, (refl, refl))
@@ -42,6 +43,7 @@ redo_reply before = elim (first_or_none before.undone) [
 
 pub reply_of : (rules : Book) (limits : Limits) (before : History) (c : Command) → (reply : List ℕ) × (next : History) × IsReply rules limits before c reply next
 reply_of rules limits before (command.Edit edit) = edit_reply before edit (history_edited rules limits before edit)
+reply_of rules limits before (command.Fix table row vouched) = fix_reply rules before table row vouched
 reply_of rules limits before command.Undo = undo_reply before
 reply_of rules limits before command.Redo = redo_reply before
 reply_of rules limits before command.List = (list_text rules before.present, before, (refl, refl))

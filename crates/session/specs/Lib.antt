@@ -1,2 +1,4 @@
 pub mod Scripts
+pub mod Fixing
 pub mod Replies
+pub mod Telling

@@ -22,12 +22,13 @@ use Rattle.violation_report.specs.Text.{line_text}
 use Rattle.violation_report.specs.declared.explaining.ExplainFault.{ExplainFault}
 use Rattle.violation_report.specs.declared.explaining.ExplainFault.TheVariants as explain_fault
 use Rattle.violation_report.specs.declared.line.Line.{Line}
+use Rattle.session.specs.Fixing.{Asked, IsVerdict, asked}
 use Rattle.session.specs.declared.command.Command.{Command}
 use Rattle.session.specs.declared.command.Command.TheVariants as command
 
 -- ---- edits
 
--- `set TABLE ID ATTR` or `deleted TABLE ID`; an insertion tells its id instead, and a fix isn't in a script
+-- `set TABLE ID ATTR` or `deleted TABLE ID`; an insertion tells its id instead, and a fix what it changes
 abbrev pub changed_text : Edit → List ℕ
 changed_text (Insert table values) = []
 changed_text (Set table row attr value) = codes "set " ++ table ++ codes " " ++ decimal row ++ codes " " ++ attr ++ codes "\n"
@@ -120,9 +121,15 @@ abbrev pub IsRedoReply : History → List ℕ → History → Type 0
 IsRedoReply before bytes after =
     ((bytes ≡ codes "redone\n") × IsRedone before after) ⊎ (HasNothingUndone before × Tells (refused_text (codes "NothingToRedo")) before bytes after)
 
+-- a row is corrected, or two runs disagree; or that can't be asked, and nothing changes
+abbrev pub IsFixReply : Book → History → Result Asked EditFault → List ℕ → History → Type 0
+IsFixReply rules before (Ok asked) bytes after = IsVerdict rules before asked bytes after
+IsFixReply rules before (Err fault) bytes after = Tells (refused_text (fault_text fault)) before bytes after
+
 -- these bytes are written for the command in the history before it, and this is the history after it
 abbrev pub IsReply : Book → Limits → History → Command → List ℕ → History → Type 0
 IsReply rules limits before (command.Edit edit) bytes after = IsEditReply before edit (history_edited rules limits before edit) bytes after
+IsReply rules limits before (command.Fix table row vouched) bytes after = IsFixReply rules before (asked rules before.present table row vouched) bytes after
 IsReply rules limits before command.Undo bytes after = IsUndoReply before bytes after
 IsReply rules limits before command.Redo bytes after = IsRedoReply before bytes after
 IsReply rules limits before command.List bytes after = Tells (list_text rules before.present) before bytes after

@@ -3,6 +3,7 @@
 --     insert TABLE LIST1(TEXT)
 --     set TABLE ID ATTR TEXT
 --     delete TABLE ID
+--     fix TABLE ID [LIST(ATTR)]
 --     undo
 --     redo
 --     list
@@ -16,11 +17,13 @@ use Rattle.std.specs.Str.{bytes_eq}
 use Rattle.schema_core.specs.Faults as Fault
 use Rattle.schema_core.specs.FileLines.{read_line}
 use Rattle.schema_core.specs.Groups.{read_lines}
-use Rattle.schema_core.specs.Phrases.{◌>>=◌, name_at, number_at, only_if, text_at}
+use Rattle.schema_core.specs.Marks.{after_mark}
+use Rattle.schema_core.specs.Phrases.{◌>>=◌, list_until, name_at, number_at, only_if, text_at}
 use Rattle.schema_core.specs.TokenLists.{Reader, list1_at, none_after}
 use Rattle.schema_core.specs.declared.line.Line.{Line}
 use Rattle.schema_core.specs.declared.limits.Limits.{Limits}
 use Rattle.schema_core.specs.declared.limits.Limit.TheVariants as limit
+use Rattle.schema_core.specs.declared.tokens.Mark.TheVariants.{CloseBracket, OpenBracket}
 use Rattle.edit_log.specs.declared.edit.Edit.TheVariants.{Insert, Set, Delete}
 use Rattle.session.specs.declared.command.Command.{Command}
 use Rattle.session.specs.declared.command.Command.TheVariants as command
@@ -58,6 +61,14 @@ set_at tokens = do
 abbrev pub delete_at : Reader Command
 delete_at tokens = row_at tokens >>= λ row. Some (command.Edit (Delete row.0.0 row.0.1), row.1)
 
+-- TABLE ID [LIST(ATTR)]
+abbrev pub fix_at : Reader Command
+fix_at tokens = do
+  row ← row_at tokens
+  inside ← after_mark OpenBracket row.1
+  vouched ← list_until name_at CloseBracket inside
+  Some (command.Fix row.0.0 row.0.1 vouched.0, vouched.1)
+
 abbrev pub explain_at : Reader Command
 explain_at tokens = row_at tokens >>= λ row. Some (command.Explain row.0.0 row.0.1, row.1)
 
@@ -79,6 +90,7 @@ command_for word rest =
     if bytes_eq word (codes "insert") then insert_at rest
     else if bytes_eq word (codes "set") then set_at rest
     else if bytes_eq word (codes "delete") then delete_at rest
+    else if bytes_eq word (codes "fix") then fix_at rest
     else if bytes_eq word (codes "undo") then Some (command.Undo, rest)
     else if bytes_eq word (codes "redo") then Some (command.Redo, rest)
     else question_for word rest

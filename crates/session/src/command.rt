@@ -5,7 +5,7 @@ ghost use Rattle.session.specs.declared.command.ServeFault.TheVariants as serve_
 
 use edit_log::Edit;
 use row_store::RowId;
-use schema_core::{Limit, LineFault, Text};
+use schema_core::{Limit, LineFault, Text, Texts};
 use std::alloc::AllocError;
 use thiserror::Error;
 
@@ -13,6 +13,12 @@ use thiserror::Error;
 #[derive(Debug, Drop)]
 pub enum Command {
     Edit(Edit),
+    /// Corrects a row by the editing rules, where the named attributes are vouched for.
+    Fix {
+        table: Text,
+        row: RowId,
+        vouched: Texts,
+    },
     /// Takes the last change back.
     Undo,
     /// Makes the change again that was taken back last.
@@ -22,9 +28,14 @@ pub enum Command {
     /// How many lines the list has.
     Count,
     /// The lines of the list that a row has.
-    Explain { table: Text, row: RowId },
+    Explain {
+        table: Text,
+        row: RowId,
+    },
     /// The rows of a table, as a table file.
-    Export { table: Text },
+    Export {
+        table: Text,
+    },
 }
 
 /// What is wrong with a line of a script.

@@ -4,6 +4,8 @@
 
 pub mod command;
 mod export;
+mod fix_text;
+mod fixing;
 mod reply;
 pub mod script;
 pub mod serving;

@@ -8,14 +8,16 @@ ghost use Rattle.session.specs.Replies.{changed_text, count_text, counted_text, 
 
 use bench_core::{Applied, Bench, EditFault};
 use edit_log::Edit;
+use probe_steps::Steps;
 use row_store::RowId;
 use rule_model::RuleBook;
 use schema_core::{Text, push_number};
 use std::alloc::{AllocError, Global};
+use std::sync::ledger::Ledger;
 use violation_report::{ExplainFault, Line, count, explain, list, push_line};
 
 /// A word, and the row that it is said of.
-fn push_row(out: &mut Vec<u8>, word: &[u8], table: &Text, row: u64) -> Result<(), AllocError>
+pub fn push_row(out: &mut Vec<u8>, word: &[u8], table: &Text, row: u64) -> Result<(), AllocError>
     ensures { OnOk result (out.new.items ≡ out.old.items ++ (word.now ++ table.now ++ codes " " ++ decimal row)) }
 {
     out.extend_from_slice(word)?;
@@ -143,31 +145,41 @@ fn push_lines(
 }
 
 /// Tells the list of the bench.
-pub fn push_list(alloc: Global, out: &mut Vec<u8>, bench: &Bench) -> Result<(), AllocError>
+pub fn push_list<L: Ledger>(
+    alloc: Global,
+    out: &mut Vec<u8>,
+    bench: &Bench,
+    steps: &mut Steps<L>,
+) -> Result<(), AllocError>
     ensures { OnOk result (out.new.items ≡ out.old.items ++ list_text bench.now.rules bench.now.history.present) }
 {
-    let lines = list(alloc, bench)?;
+    let lines = list(alloc, bench, steps)?;
     push_lines(bench.rules(), b"listed", lines.as_slice(), out)
 }
 
 /// Tells how many lines the list has.
-pub fn push_count(alloc: Global, out: &mut Vec<u8>, bench: &Bench) -> Result<(), AllocError>
+pub fn push_count<L: Ledger>(
+    out: &mut Vec<u8>,
+    bench: &Bench,
+    steps: &mut Steps<L>,
+) -> Result<(), AllocError>
     ensures { OnOk result (out.new.items ≡ out.old.items ++ count_text bench.now.rules bench.now.history.present) }
 {
-    push_counted(out, b"count", count(alloc, bench)?)
+    push_counted(out, b"count", count(bench, steps)?)
 }
 
 /// Tells the lines of a row.
-pub fn push_explained(
+pub fn push_explained<L: Ledger>(
     alloc: Global,
     out: &mut Vec<u8>,
     bench: &Bench,
     table: &Text,
     row: RowId,
+    steps: &mut Steps<L>,
 ) -> Result<(), AllocError>
     ensures { OnOk result (out.new.items ≡ out.old.items ++ explain_text bench.now.rules bench.now.history.present table.now row) }
 {
-    match explain(alloc, bench, table.as_str(), row) {
+    match explain(alloc, bench, table.as_str(), row, steps) {
         Ok(lines) => push_lines(bench.rules(), b"explained", lines.as_slice(), out),
         Err(ExplainFault::UnknownTable) => push_refused(out, b"UnknownTable"),
         Err(ExplainFault::UnknownRow) => push_refused(out, b"UnknownRow"),

@@ -4,14 +4,15 @@ ghost use Rattle.std.specs.Prelude.{⊤, ◌≡◌, ◌≤◌, length, IfOk};
 ghost use Rattle.schema_core.specs.Faults.{IsUnlessMemory, line_tells};
 ghost use Rattle.schema_core.specs.Phrases.{Reads};
 ghost use Rattle.schema_core.specs.declared.limits.Limits.{Limits as AllLimits};
-ghost use Rattle.session.specs.Scripts.{id_at, row_at, insert_at, set_at, delete_at, explain_at, export_at, question_for, command_for, command_at, script_causes, with_line, script_of};
+ghost use Rattle.session.specs.Scripts.{id_at, row_at, insert_at, set_at, delete_at, fix_at, explain_at, export_at, question_for, command_for, command_at, script_causes, with_line, script_of};
 ghost use Rattle.session.specs.declared.command.Command.{Command as AnyCommand};
 
 use crate::command::{Command, ScriptCause, ScriptFault};
 use edit_log::Edit;
 use row_store::RowId;
 use schema_core::{
-    Gather, Limit, Limits, Line, LineCause, List, Phrase, Quoted, Text, Tokens, Unread, read_lines,
+    Gather, Limit, Limits, Line, LineCause, List, Mark, Name, Phrase, Quoted, Text, Tokens, Unread,
+    read_lines,
 };
 use std::alloc::Global;
 
@@ -80,6 +81,20 @@ fn delete_at(tokens: &mut Tokens) -> Result<Command, Unread>
     Ok(Command::Edit(Edit::Delete { table, row }))
 }
 
+/// A row, and the attributes that are vouched for.
+fn fix_at(alloc: Global, tokens: &mut Tokens) -> Result<Command, Unread>
+    ensures { Reads fix_at tokens.old tokens.new result }
+{
+    let (table, row) = row_at(tokens)?;
+    tokens.mark(Mark::OpenBracket)?;
+    let vouched = tokens.list_until::<Name>(alloc, Mark::CloseBracket)?;
+    Ok(Command::Fix {
+        table,
+        row,
+        vouched,
+    })
+}
+
 fn explain_at(tokens: &mut Tokens) -> Result<Command, Unread>
     ensures { Reads explain_at tokens.old tokens.new result }
 {
@@ -121,6 +136,8 @@ fn command_for(alloc: Global, word: &Text, tokens: &mut Tokens) -> Result<Comman
         set_at(tokens)
     } else if word.is("delete") {
         delete_at(tokens)
+    } else if word.is("fix") {
+        fix_at(alloc, tokens)
     } else if word.is("undo") {
         Ok(Command::Undo)
     } else if word.is("redo") {

@@ -8,22 +8,26 @@ ghost use Rattle.session.specs.Replies.{IsEditReply, IsRedoReply, IsReply, IsUnd
 
 use crate::command::{Command, ServeFault};
 use crate::export::push_exported;
+use crate::fixing::answer_fix;
 use crate::reply::{
     push_count, push_done, push_edit_refused, push_explained, push_list, push_refused,
 };
 use bench_core::{Bench, EditFault, RedoFault, UndoFault};
 use edit_log::Edit;
+use probe_steps::Steps;
 use schema_core::List;
 use shelf_io::{PutFailed, Sink, write_out};
 use std::alloc::{AllocError, Global};
+use std::sync::ledger::Ledger;
 
 /// Answers the commands in order. Each reply goes to the sink whole, as one piece, before the next
 /// command is begun.
-pub fn serve<O: Sink>(
+pub fn serve<O: Sink, L: Ledger>(
     alloc: Global,
     bench: &mut Bench,
     commands: &List<Command>,
     out: &mut O,
+    steps: &mut Steps<L>,
 ) -> Result<(), ServeFault>
     ensures ok { OnOk result (Answers (IsReply bench.old.rules bench.old.limits) bench.old.history commands.now bench.new.history (O.told out.old).written (O.told out.new).written) }
 
@@ -35,18 +39,19 @@ pub fn serve<O: Sink>(
 {
     let mut reply = Vec::new(alloc);
     for command in commands.as_slice() {
-        answer_one(alloc, bench, command, &mut reply, out)?;
+        answer_one(alloc, bench, command, &mut reply, out, steps)?;
     }
     Ok(())
 }
 
 /// Answers one command.
-fn answer_one<O: Sink>(
+fn answer_one<O: Sink, L: Ledger>(
     alloc: Global,
     bench: &mut Bench,
     command: &Command,
     reply: &mut Vec<u8>,
     out: &mut O,
+    steps: &mut Steps<L>,
 ) -> Result<(), ServeFault>
     ensures ok { OnOk result (Answers (IsReply bench.old.rules bench.old.limits) bench.old.history (command.now ∷ []) bench.new.history (O.told out.old).written (O.told out.new).written) }
     ensures fault { OnErr result (AnswersFront (IsReply bench.old.rules bench.old.limits) bench.old.history (command.now ∷ []) bench.new.history (O.told out.old).written (O.told out.new).written) }
@@ -55,7 +60,7 @@ fn answer_one<O: Sink>(
     ensures faults { (O.told out.old).faults ≤ (O.told out.new).faults }
 {
     reply.clear();
-    answer(alloc, bench, command, reply)?;
+    answer(alloc, bench, command, reply, steps)?;
     match write_out(out, reply.as_slice()) {
         Ok(()) => Ok(()),
         Err(PutFailed) => Err(ServeFault::WriteFault),
@@ -63,11 +68,12 @@ fn answer_one<O: Sink>(
 }
 
 /// Makes the reply of one command, on an empty buffer.
-fn answer(
+fn answer<L: Ledger>(
     alloc: Global,
     bench: &mut Bench,
     command: &Command,
     reply: &mut Vec<u8>,
+    steps: &mut Steps<L>,
 ) -> Result<(), AllocError>
     requires { reply.old.items ≡ [] }
     ensures ok { OnOk result (IsReply bench.old.rules bench.old.limits bench.old.history command.now reply.new.items bench.new.history) }
@@ -77,49 +83,67 @@ fn answer(
     ensures made_with { (bench.new.rules ≡ bench.old.rules) × (bench.new.limits ≡ bench.old.limits) }
 {
     match command {
-        Command::Edit(edit) => answer_edit(bench, edit, reply),
-        Command::Undo => answer_undo(bench, reply),
-        Command::Redo => answer_redo(bench, reply),
-        Command::List => push_list(alloc, reply, bench),
-        Command::Count => push_count(alloc, reply, bench),
-        Command::Explain { table, row } => push_explained(alloc, reply, bench, table, *row),
+        Command::Edit(edit) => answer_edit(bench, edit, reply, steps),
+        Command::Fix {
+            table,
+            row,
+            vouched,
+        } => answer_fix(alloc, bench, table, *row, vouched, reply, steps),
+        Command::Undo => answer_undo(bench, reply, steps),
+        Command::Redo => answer_redo(bench, reply, steps),
+        Command::List => push_list(alloc, reply, bench, steps),
+        Command::Count => push_count(reply, bench, steps),
+        Command::Explain { table, row } => push_explained(alloc, reply, bench, table, *row, steps),
         Command::Export { table } => push_exported(alloc, reply, bench, table),
     }
 }
 
-fn answer_edit(bench: &mut Bench, edit: &Edit, reply: &mut Vec<u8>) -> Result<(), AllocError>
+fn answer_edit<L: Ledger>(
+    bench: &mut Bench,
+    edit: &Edit,
+    reply: &mut Vec<u8>,
+    steps: &mut Steps<L>,
+) -> Result<(), AllocError>
     requires { reply.old.items ≡ [] }
     ensures ok { OnOk result (IsEditReply bench.old.history edit.now (history_edited bench.old.rules bench.old.limits bench.old.history edit.now) reply.new.items bench.new.history) }
     ensures memory { OnErr result ((written : Option (List ℕ)) → AnswersFront (IsReply bench.old.rules bench.old.limits) bench.old.history (Command.Edit edit.now ∷ []) bench.new.history written written) }
     ensures made_with { (bench.new.rules ≡ bench.old.rules) × (bench.new.limits ≡ bench.old.limits) }
 {
-    match bench.apply(edit) {
+    match bench.apply(edit, steps) {
         Ok(applied) => push_done(reply, edit, applied),
         Err(EditFault::Memory) => Err(AllocError),
         Err(fault) => push_edit_refused(reply, &fault),
     }
 }
 
-fn answer_undo(bench: &mut Bench, reply: &mut Vec<u8>) -> Result<(), AllocError>
+fn answer_undo<L: Ledger>(
+    bench: &mut Bench,
+    reply: &mut Vec<u8>,
+    steps: &mut Steps<L>,
+) -> Result<(), AllocError>
     requires { reply.old.items ≡ [] }
     ensures ok { OnOk result (IsUndoReply bench.old.history reply.new.items bench.new.history) }
     ensures memory { OnErr result ((written : Option (List ℕ)) → AnswersFront (IsReply bench.old.rules bench.old.limits) bench.old.history (Command.Undo ∷ []) bench.new.history written written) }
     ensures made_with { (bench.new.rules ≡ bench.old.rules) × (bench.new.limits ≡ bench.old.limits) }
 {
-    match bench.undo() {
+    match bench.undo(steps) {
         Ok(()) => reply.extend_from_slice(b"undone\n"),
         Err(UndoFault::NothingToUndo) => push_refused(reply, b"NothingToUndo"),
         Err(UndoFault::Memory) => Err(AllocError),
     }
 }
 
-fn answer_redo(bench: &mut Bench, reply: &mut Vec<u8>) -> Result<(), AllocError>
+fn answer_redo<L: Ledger>(
+    bench: &mut Bench,
+    reply: &mut Vec<u8>,
+    steps: &mut Steps<L>,
+) -> Result<(), AllocError>
     requires { reply.old.items ≡ [] }
     ensures ok { OnOk result (IsRedoReply bench.old.history reply.new.items bench.new.history) }
     ensures memory { OnErr result ((written : Option (List ℕ)) → AnswersFront (IsReply bench.old.rules bench.old.limits) bench.old.history (Command.Redo ∷ []) bench.new.history written written) }
     ensures made_with { (bench.new.rules ≡ bench.old.rules) × (bench.new.limits ≡ bench.old.limits) }
 {
-    match bench.redo() {
+    match bench.redo(steps) {
         Ok(()) => reply.extend_from_slice(b"redone\n"),
         Err(RedoFault::NothingToRedo) => push_refused(reply, b"NothingToRedo"),
         Err(RedoFault::Memory) => Err(AllocError),

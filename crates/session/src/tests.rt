@@ -2,7 +2,7 @@
 use super::*;
 use edit_log::Edit;
 use row_store::RowId;
-use schema_core::{Limits, Text};
+use schema_core::{Limits, Text, Texts};
 use std::alloc::AllocError;
 use std::process::Abort;
 use std::test::Fail;
@@ -38,9 +38,28 @@ fn show_edit(text: &mut String, edit: &Edit) -> Result<(), AllocError> {
     }
 }
 
+fn show_fix(
+    text: &mut String,
+    table: &Text,
+    row: RowId,
+    vouched: &Texts,
+) -> Result<(), AllocError> {
+    show_row(text, "fix", table, row)?;
+    for name in vouched.as_slice() {
+        text.push_str(" ")?;
+        text.push_str(name.as_str())?;
+    }
+    Ok(())
+}
+
 fn show_command(text: &mut String, command: &Command) -> Result<(), AllocError> {
     match command {
         Command::Edit(edit) => show_edit(text, edit)?,
+        Command::Fix {
+            table,
+            row,
+            vouched,
+        } => show_fix(text, table, *row, vouched)?,
         Command::Undo => text.push_str("undo")?,
         Command::Redo => text.push_str("redo")?,
         Command::List => text.push_str("list")?,
@@ -69,7 +88,7 @@ fn shown(rt: &(impl Abort + AllocGlobal), most: u64, script: &[u8]) -> Result<St
 
 #[test]
 fn scripts(rt: HostRuntime) -> Result<(), Fail> {
-    let cases: [(&[u8], &str); 40] = [
+    let cases: [(&[u8], &str); 45] = [
         (b"", ""),
         (b"\n \t\r\n\t# insert\n", ""),
         (b"list", "list; "),
@@ -112,7 +131,12 @@ fn scripts(rt: HostRuntime) -> Result<(), Fail> {
         (b"count t", "line 1: BadLine"),
         (b"explain t", "line 1: BadLine"),
         (b"export 't'", "line 1: BadLine"),
-        (b"fix t 1 [a]", "line 1: BadLine"),
+        (b"fix t 1 [a]", "fix t 1 a; "),
+        (b"fix t 1 []\nfix t 2[a, b]", "fix t 1; fix t 2 a b; "),
+        (b"fix t 1", "line 1: BadLine"),
+        (b"fix t 1 a", "line 1: BadLine"),
+        (b"fix t 0 [a]", "line 1: BadLine"),
+        (b"fix t 1 [a,]", "line 1: BadLine"),
     ];
     for (script, wanted) in cases {
         assert_eq!(rt; shown(&rt, 9, script)?.as_str(), wanted, "{script:?}");

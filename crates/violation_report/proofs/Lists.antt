@@ -23,7 +23,8 @@ use Rattle.rule_model.specs.Books.{Book, book_deps, book_cinds}
 use Rattle.rule_model.specs.Satisfied.{SatisfyDep, SatisfyCind}
 use Rattle.bench_core.specs.State.{State, rows_at}
 use Rattle.violation_report.specs.declared.line.Line.{Line}
-use Rattle.violation_report.specs.Listing.{dep_violations, dep_line, dep_lines, cind_orphans, cind_line, cind_lines, listing, IsSatisfied}
+use Rattle.bench_core.specs.Answers.{cind_orphans, dep_violations}
+use Rattle.violation_report.specs.Listing.{dep_line, dep_lines, cind_line, cind_lines, listing, IsSatisfied}
 use Rattle.violation_report.specs.Text.{IsLineOf, HasDepRow}
 
 -- ---- an empty list

@@ -9,7 +9,12 @@ use Rattle.rule_model.specs.declared.cind.Cind.{Cind}
 use Rattle.rule_model.specs.Books.{Book, IsBook, book_deps, book_cinds}
 use Rattle.rule_model.specs.Rules.{IsValidDep, IsValidCind}
 use Rattle.schema_core.specs.declared.limits.Limits.{Limits}
+use Rattle.bench_core.specs.Answers.{cind_orphans, dep_violations, orphans_at, violations_at}
 use Rattle.bench_core.specs.State.{State}
+use Rattle.bench_core.proofs.Answering.{item-there}
+use Rattle.violation_report.specs.Listing.{cind_line, dep_line}
+use Rattle.std.specs.Option.{option_map_or}
+use Rattle.std.proofs.lemmas.Option.{get_or_from_slice_get}
 use Rattle.bench_core.specs.Bench.{IsBench}
 use Rattle.violation_report.specs.declared.line.Line.{Line}
 
@@ -23,6 +28,22 @@ lines-more gives line items i item within is =
     ap (map line) (numbered-more gives items i item within is)
     ∙ map-append line (numbered gives (take i items)) (map (λ given. (i, given)) (gives item))
     ∙ ap (λ more. map line (numbered gives (take i items)) ++ more) (mapped line i (gives item))
+
+-- the lines of one rule more, which is told by its number
+module _ (rules : Book) (state : State) (n : ℕ) where
+  pub dep-lines-more : n < length (book_deps rules)
+      → map dep_line (numbered (dep_violations state) (take (n + 1) (book_deps rules))) ≡ map dep_line (numbered (dep_violations state) (take n (book_deps rules))) ++ map (λ found. dep_line (n, found)) (violations_at rules state n)
+  dep-lines-more within =
+      let (dep, at) = item-there (book_deps rules) n within in
+      let more = lines-more (dep_violations state) dep_line (book_deps rules) n dep within (sym (get_or_from_slice_get (book_deps rules) n dep dep at)) in
+      more ∙ ap (λ o. map dep_line (numbered (dep_violations state) (take n (book_deps rules))) ++ map (λ found. dep_line (n, found)) (option_map_or (dep_violations state) o [])) (sym at)
+
+  pub cind-lines-more : n < length (book_cinds rules)
+      → map cind_line (numbered (cind_orphans state) (take (n + 1) (book_cinds rules))) ≡ map cind_line (numbered (cind_orphans state) (take n (book_cinds rules))) ++ map (λ found. cind_line (n, found)) (orphans_at rules state n)
+  cind-lines-more within =
+      let (cind, at) = item-there (book_cinds rules) n within in
+      let more = lines-more (cind_orphans state) cind_line (book_cinds rules) n cind within (sym (get_or_from_slice_get (book_cinds rules) n cind cind at)) in
+      more ∙ ap (λ o. map cind_line (numbered (cind_orphans state) (take n (book_cinds rules))) ++ map (λ found. cind_line (n, found)) (option_map_or (cind_orphans state) o [])) (sym at)
 
 -- a bench has a state for each table of its schema
 pub has_table : {rules : Book} {limits : Limits} {state : State} → IsBench rules limits state → (table : ℕ) → table < length rules.schema.tables → table < length state

@@ -1,26 +1,19 @@
 -- The list of violations of a state.
 use Rattle.std.specs.Prelude.{ℕ, List, ◌++◌, map, All}
 use Rattle.std.specs.Option.{option_map_or}
-use Rattle.std.specs.Str.{bytes_eq}
 use Rattle.cfd_semantics.specs.declared.violation.Violation.{Violation}
 use Rattle.cfd_semantics.specs.Numbered.{numbered}
 use Rattle.cfd_semantics.specs.Tuple.{tuples_of}
-use Rattle.cfd_semantics.specs.Violation.{entries, violations}
-use Rattle.cfd_semantics.specs.Orphan.{left_entries, right_entries, orphans}
 use Rattle.rule_model.specs.declared.dep.Dep.{Dep}
 use Rattle.rule_model.specs.declared.cind.Cind.{Cind}
 use Rattle.rule_model.specs.Books.{Book, book_deps, book_cinds}
 use Rattle.rule_model.specs.Satisfied.{SatisfyDep, SatisfyCind}
+use Rattle.bench_core.specs.Answers.{cind_orphans, dep_violations}
 use Rattle.bench_core.specs.State.{State, rows_at}
 use Rattle.violation_report.specs.declared.line.Line.{Line}
 use Rattle.violation_report.specs.declared.line.Line.TheVariants.{Single, Pair, Orphan}
 
 -- ---- dependencies
-
--- The violations of a dependency among the rows of its table, each with the number of its tableau row: by tableau row,
--- and for each by rising row. A row with partners is listed once, with the least of them.
-abbrev pub dep_violations : State → Dep → List (ℕ × Violation)
-dep_violations state dep = violations bytes_eq dep.rule (entries dep.rule (rows_at state dep.table))
 
 -- A violation of a numbered dependency as a line: a pair where there is a partner, and else a single.
 abbrev pub dep_line : ℕ × (ℕ × Violation) → Line
@@ -30,11 +23,6 @@ abbrev pub dep_lines : Book → State → List Line
 dep_lines rules state = map dep_line (numbered (dep_violations state) (book_deps rules))
 
 -- ---- inclusion dependencies
-
--- The orphans of an inclusion dependency: the rows of the left table that no row of the right one answers, each with the
--- number of its tableau row, by tableau row and for each by rising row.
-abbrev pub cind_orphans : State → Cind → List (ℕ × ℕ)
-cind_orphans state cind = orphans bytes_eq cind.rule (left_entries cind.rule (rows_at state cind.left)) (right_entries cind.rule (rows_at state cind.right))
 
 abbrev pub cind_line : ℕ × (ℕ × ℕ) → Line
 cind_line (cind, (k, row)) = Orphan cind k row

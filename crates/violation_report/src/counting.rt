@@ -1,15 +1,49 @@
 //! How long the list is.
 
-ghost use Rattle.std.specs.Prelude.{◌≡◌, IfOk, length};
-ghost use Rattle.violation_report.specs.Listing.{listing};
+ghost use Rattle.std.specs.Prelude.{◌≡◌, ◌+◌, ◌^◌, ◌<◌, IfOk, length};
+ghost use Rattle.violation_report.specs.Listing.{cind_lines, dep_lines, listing};
 
-use crate::listing::list;
 use bench_core::Bench;
-use std::alloc::{AllocError, Global};
+use probe_steps::Steps;
+use std::alloc::AllocError;
+use std::sync::ledger::Ledger;
 
-/// The number of lines of the list.
-pub fn count(alloc: Global, bench: &Bench) -> Result<usize, AllocError>
+/// The number of lines of the list, which isn't made. A number beyond the last of its type is told as want of memory.
+pub fn count<L: Ledger>(bench: &Bench, steps: &mut Steps<L>) -> Result<usize, AllocError>
     ensures { IfOk result (λ lines. lines ≡ length (listing bench.now.rules bench.now.history.present)) }
 {
-    Ok(list(alloc, bench)?.as_slice().len())
+    let deps = count_deps(bench, steps)?;
+    let cinds = count_cinds(bench, steps)?;
+    sum_of(deps, cinds)
+}
+
+fn sum_of(one: usize, other: usize) -> Result<usize, AllocError>
+    ensures { IfOk result (λ sum. sum ≡ one + other) }
+{
+    match one.checked_add(other) {
+        Some(sum) => Ok(sum),
+        None => Err(AllocError),
+    }
+}
+
+fn count_deps<L: Ledger>(bench: &Bench, steps: &mut Steps<L>) -> Result<usize, AllocError>
+    ensures { IfOk result (λ lines. lines ≡ length (dep_lines bench.now.rules bench.now.history.present)) }
+{
+    let mut count: usize = 0;
+    for number in 0..bench.rules().deps().as_slice().len() {
+        let more = bench.violation_count(number, steps)?;
+        count = sum_of(count, more)?;
+    }
+    Ok(count)
+}
+
+fn count_cinds<L: Ledger>(bench: &Bench, steps: &mut Steps<L>) -> Result<usize, AllocError>
+    ensures { IfOk result (λ lines. lines ≡ length (cind_lines bench.now.rules bench.now.history.present)) }
+{
+    let mut count: usize = 0;
+    for number in 0..bench.rules().cinds().as_slice().len() {
+        let more = bench.orphan_count(number, steps)?;
+        count = sum_of(count, more)?;
+    }
+    Ok(count)
 }

@@ -11,10 +11,12 @@ ghost use Rattle.violation_report.specs.declared.explaining.ExplainFault.TheVari
 use crate::line::Line;
 use crate::listing::list;
 use bench_core::Bench;
+use probe_steps::Steps;
 use row_store::RowId;
 use rule_model::RuleBook;
 use schema_core::{List, Texts};
 use std::alloc::{AllocError, Global};
+use std::sync::ledger::Ledger;
 
 /// Why a row isn't explained. The variants stand in the order in which they are tested.
 #[derive(Clone, Copy, Debug, PartialEq, Eq, Drop)]
@@ -38,11 +40,12 @@ impl From<AllocError> for ExplainFault {
 
 /// The lines of the list that a row of a table has, in the list's order. A line that only names the row as a
 /// partner is not among them.
-pub fn explain(
+pub fn explain<L: Ledger>(
     alloc: Global,
     bench: &Bench,
     table: &str,
     row: RowId,
+    steps: &mut Steps<L>,
 ) -> Result<List<Line>, ExplainFault>
     ensures lines { IsUnlessMemory explain_tells (explanation bench.now.rules bench.now.history.present table.now row) result }
     ensures in_range { IfOk result (All (IsLineOf bench.now.rules)) }
@@ -53,7 +56,7 @@ pub fn explain(
     if !has_row(bench.rows(number)?.as_slice(), row) {
         return Err(ExplainFault::UnknownRow);
     }
-    let lines = list(alloc, bench)?;
+    let lines = list(alloc, bench, steps)?;
     Ok(lines_about(alloc, bench.rules(), lines.as_slice(), number, row)?)
 }
 

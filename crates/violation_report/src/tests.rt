@@ -1,6 +1,6 @@
 //! The list of a small bench, and its text.
 
-ghost use Rattle.std.specs.Prelude.{ℕ, IfOk};
+ghost use Rattle.std.specs.Prelude.{◌≡◌, ◌<◌, ℕ, IfOk};
 ghost use Rattle.bench_core.specs.Loading.{AreTables};
 ghost use Rattle.rule_model.specs.Declarations.{IsWritten, IsWrittenCell, IsWrittenRow};
 
@@ -8,9 +8,12 @@ use super::*;
 use bench_core::Bench;
 use cfd_semantics::{InclusionRow, Pattern};
 use edit_log::Edit;
+use probe_steps::Steps;
 use rule_model::{Cell, CfdDecl, CfdRow, CindDecl, CindRow, Decl, RuleBook};
 use schema_core::{Limits, List, Schema, Text, Texts, parse_schema};
 use std::alloc::{AllocError, Global};
+use std::marker::Brand;
+use std::sync::ledger::{Blank, Ledger};
 use std::test::Fail;
 
 const SCHEMA: &[u8] = b"table cust 'cust.csv'\nattr zip\nattr street\n";
@@ -86,53 +89,68 @@ fn no_rows(alloc: Global, schema: &Schema) -> Result<List<List<Texts>>, AllocErr
     Ok(tables)
 }
 
-fn bench(alloc: Global) -> Result<Bench, Fail> {
+fn bench<L: Ledger>(alloc: Global, steps: &mut Steps<L>) -> Result<Bench, Fail> {
     let limits = Limits::standard();
     let schema = parse_schema(alloc, SCHEMA, &limits)?;
     let tables = no_rows(alloc, &schema)?;
     let mut rules = RuleBook::new(alloc, schema, limits);
     rules.add(inclusion(alloc)?)?;
     rules.add(dependency(alloc)?)?;
-    Ok(Bench::load(alloc, rules, tables, limits)?)
+    Ok(Bench::load(alloc, rules, tables, limits, steps)?)
 }
 
-fn insert(alloc: Global, bench: &mut Bench, zip: &str, street: &str) -> Result<(), Fail> {
+fn insert<L: Ledger>(
+    alloc: Global,
+    bench: &mut Bench,
+    zip: &str,
+    street: &str,
+    steps: &mut Steps<L>,
+) -> Result<(), Fail> {
     let mut values = one(alloc, zip)?;
     values.push(Text::new(alloc, street)?)?;
     let edit = Edit::Insert {
         table: Text::new(alloc, "cust")?,
         values,
     };
-    bench.apply(&edit)?;
+    bench.apply(&edit, steps)?;
     Ok(())
 }
 
-fn fill(alloc: Global, bench: &mut Bench) -> Result<(), Fail> {
+fn fill<L: Ledger>(
+    alloc: Global,
+    bench: &mut Bench,
+    steps: &mut Steps<L>,
+) -> Result<(), Fail> {
     let rows = [("EH4", "High St"), ("EH4", "Mid St"), ("SW1", "EH4")];
     for (zip, street) in rows {
-        insert(alloc, bench, zip, street)?;
+        insert(alloc, bench, zip, street, steps)?;
     }
     Ok(())
 }
 
-// The text of the list, made in one buffer and line by line.
-fn texts(alloc: Global, bench: &Bench) -> Result<(Vec<u8>, Vec<u8>), AllocError> {
+// The text of the list of a small bench, made in one buffer and line by line. It has as many lines as are counted.
+fn texts<L: Ledger>(alloc: Global, blank: Blank) -> Result<(Vec<u8>, Vec<u8>, bool), Fail>
+    requires name { blank.name ≡ L.name }
+    requires parts { blank.parts ≡ L.parts }
+    requires some { 0 < blank.parts }
+{
+    let mut steps = Steps::<L>::open(blank);
+    let mut bench = bench(alloc, &mut steps)?;
+    fill(alloc, &mut bench, &mut steps)?;
     let mut whole = Vec::new(alloc);
     let mut joined = Vec::new(alloc);
-    let lines = list(alloc, bench)?;
+    let lines = list(alloc, &bench, &mut steps)?;
     for line in lines.as_slice() {
         push_line(bench.rules(), line, &mut whole)?;
         joined.extend_from_slice(&line_text(alloc, bench.rules(), line)?)?;
     }
-    Ok((whole, joined))
+    let counted = count(&bench, &mut steps)? == lines.as_slice().len();
+    Ok((whole, joined, counted))
 }
 
 #[test]
 fn tells_each_violation_in_a_line(rt: HostRuntime) -> Result<(), Fail> {
-    let alloc = rt.alloc();
-    let mut bench = bench(alloc)?;
-    fill(alloc, &mut bench)?;
-    let (whole, joined) = texts(alloc, &bench)?;
+    let (whole, joined, counted) = texts::<Brand>(rt.alloc(), Blank::new(1))?;
     let wanted = "single f1.1 street cust 2\n\
         pair f1.2 street cust 1 2\n\
         pair f1.2 street cust 2 1\n\
@@ -140,5 +158,6 @@ fn tells_each_violation_in_a_line(rt: HostRuntime) -> Result<(), Fail> {
         orphan c1.1 cust 2\n";
     assert_eq!(rt; whole.as_slice(), wanted.as_bytes());
     assert_eq!(rt; joined.as_slice(), wanted.as_bytes());
+    assert!(rt; counted);
     Ok(())
 }

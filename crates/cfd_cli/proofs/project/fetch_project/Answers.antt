@@ -5,9 +5,10 @@ use Rattle.schema_core.specs.declared.schema.Schema.{Schema}
 use Rattle.rule_model.specs.Books.{Book}
 use Rattle.session.specs.declared.command.Command.{Command}
 use Rattle.cfd_cli.specs.declared.project.Project.{Project}
-use Rattle.cfd_cli.specs.Fetching.{Fetching, ◌>>=◌, given}
-use Rattle.cfd_cli.specs.Project.{ProjectRead, Tables, fetch_bench, fetch_commands, fetch_project, fetch_rules, fetch_schema, read_of, tables_of}
-use Rattle.cfd_cli.proofs.FetchingSteps.{fetches-given, fetches-next, fetches-same, fetches-stopped}
+use Rattle.cli_output.specs.Fetching.{Fetching, ◌>>=◌, given}
+use Rattle.cli_output.specs.RuleFiles.{fetch_rules, fetch_schema}
+use Rattle.cfd_cli.specs.Project.{ProjectRead, Tables, fetch_bench, fetch_commands, fetch_project, read_of, tables_of}
+use Rattle.cli_output.proofs.FetchingSteps.{fetches-given, fetches-next, fetches-same, fetches-stopped}
 use Rattle.cfd_cli.proofs.project.fetch_project.Goals as goal
 
 -- what follows each step

@@ -2,8 +2,8 @@ use Rattle.std.proofs.Common.{subst}
 use Rattle.rule_model.specs.Books.{Book}
 use Rattle.cfd_cli.specs.ReportForm.{report_of, report_outputs}
 use Rattle.cfd_cli.specs.Project.{read_of}
-use Rattle.cfd_cli.specs.Output.{Ends}
-use Rattle.cfd_cli.proofs.Reports.{Ends-wider}
+use Rattle.cli_output.specs.Output.{Ends}
+use Rattle.cli_output.proofs.Outputs.{Ends-wider}
 use Rattle.cfd_cli.proofs.report_form.report.Goals as goal
 
 pub returns-in-Ok : goal.returns-in-Ok

@@ -1,6 +1,6 @@
 use Rattle.std.proofs.Common.{sym, subst}
 use Rattle.violation_report.specs.Listing.{listing}
-use Rattle.cfd_cli.specs.Output.{IsWhole}
+use Rattle.cli_output.specs.Output.{IsWhole}
 use Rattle.cfd_cli.proofs.Reports.{found_is_whole}
 use Rattle.cfd_cli.proofs.report_form.tell.Goals as goal
 

@@ -1,6 +1,6 @@
 use Rattle.cfd_cli.specs.RunForm.{run_task}
 use Rattle.cfd_cli.specs.Project.{read_of}
-use Rattle.cfd_cli.proofs.Outputs.{output-found, output-stopped}
+use Rattle.cli_output.proofs.Outputs.{output-found, output-stopped}
 use Rattle.cfd_cli.proofs.run_form.run_project.Goals as goal
 
 pub returns-in-Ok-clause-written : goal.returns-in-Ok-clause-written

@@ -2,10 +2,10 @@ use Rattle.std.proofs.Common.{◌≡◌, ◌+◌, List, [], length, take, Err, r
 use Rattle.std.specs.List.{AllZip}
 use Rattle.std.proofs.lemmas.List.{take_all}
 use Rattle.std.proofs.lemmas.Result.{err_from_is_err_and}
-use Rattle.cfd_cli.specs.Fetching.{Fetches}
+use Rattle.cli_output.specs.Fetching.{Fetches}
 use Rattle.bench_core.specs.Loading.{Tuples}
 use Rattle.cfd_cli.specs.Project.{fetch_table, fetch_tables}
-use Rattle.cfd_cli.proofs.Faults.{Rose-from, same_fault}
+use Rattle.cli_output.proofs.Faults.{Rose-from, same_fault}
 use Rattle.cfd_cli.proofs.TableLoop.{AreRowsOf, GoesOn, goes_on-none, goes_on-more, goes_on-fetches, goes_on-refused, all_found, all_left, all_fetches, AllZip-take_more}
 use Rattle.cfd_cli.proofs.tables.fetch_tables.Goals as goal
 

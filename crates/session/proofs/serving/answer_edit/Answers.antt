@@ -10,7 +10,7 @@ use Rattle.session.proofs.serving.answer_edit.Goals as goal
 
 -- the edit was done, whether or not its reply could be made
 pub returns-in-Ok-clause-memory : goal.returns-in-Ok-clause-memory
-returns-in-Ok-clause-memory c =
+returns-in-Ok-clause-memory g c =
     let start = c.args.bench.now in
     let end = c.apply.new.self.history in
     let edit = c.args.edit.now in
@@ -21,7 +21,7 @@ returns-in-Ok-clause-memory c =
 
 -- the edit was refused, whether or not that could be told
 pub returns-in-Err-clause-memory : goal.returns-in-Err-clause-memory
-returns-in-Err-clause-memory c =
+returns-in-Err-clause-memory g c =
     let start = c.args.bench.now in
     let end = c.apply.new.self.history in
     let edit = c.args.edit.now in

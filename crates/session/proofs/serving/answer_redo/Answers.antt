@@ -7,7 +7,7 @@ use Rattle.session.proofs.serving.answer_redo.Goals as goal
 
 -- the change was made again, whether or not that could be told
 pub returns-in-Ok-clause-memory : goal.returns-in-Ok-clause-memory
-returns-in-Ok-clause-memory c =
+returns-in-Ok-clause-memory g c =
     let start = c.args.bench.now in
     let end = c.redo.new.self.history in
     let reply = codes "redone\n" in
@@ -18,7 +18,7 @@ returns-in-Ok-clause-memory c =
 
 -- there was none, whether or not that could be told
 pub returns-in-Err-NothingToRedo-clause-memory : goal.returns-in-Err-NothingToRedo-clause-memory
-returns-in-Err-NothingToRedo-clause-memory c =
+returns-in-Err-NothingToRedo-clause-memory g c =
     let start = c.args.bench.now in
     let end = c.redo.new.self.history in
     let Told = (written : Option (List ℕ)) → AnswersFront (IsReply start.rules start.limits) start.history (Redo ∷ []) end written written in

@@ -7,7 +7,7 @@ use Rattle.session.proofs.serving.answer_undo.Goals as goal
 
 -- the change was taken back, whether or not that could be told
 pub returns-in-Ok-clause-memory : goal.returns-in-Ok-clause-memory
-returns-in-Ok-clause-memory c =
+returns-in-Ok-clause-memory g c =
     let start = c.args.bench.now in
     let end = c.undo.new.self.history in
     let reply = codes "undone\n" in
@@ -18,7 +18,7 @@ returns-in-Ok-clause-memory c =
 
 -- there was none, whether or not that could be told
 pub returns-in-Err-NothingToUndo-clause-memory : goal.returns-in-Err-NothingToUndo-clause-memory
-returns-in-Err-NothingToUndo-clause-memory c =
+returns-in-Err-NothingToUndo-clause-memory g c =
     let start = c.args.bench.now in
     let end = c.undo.new.self.history in
     let Told = (written : Option (List ℕ)) → AnswersFront (IsReply start.rules start.limits) start.history (Undo ∷ []) end written written in

@@ -1,13 +1,14 @@
 use Rattle.std.proofs.Common.{◌≡◌, ◌++◌, ap, ◌∙◌}
 use Rattle.violation_report.specs.Listing.{cind_lines, listing}
 use Rattle.violation_report.proofs.Lists.{listing_is_empty, listing_in_range}
+use Rattle.violation_report.proofs.listing.list.Given as given
 use Rattle.violation_report.proofs.listing.list.Goals as goal
 
-whole : (c : goal.In_ok-list_cinds) → c.list_cinds.new.lines ≡ listing c.args.bench.now.rules c.args.bench.now.history.present
-whole c = c.in_ok-list_cinds.ensures ∙ ap (λ lines. lines ++ cind_lines c.args.bench.now.rules c.args.bench.now.history.present) c.in_ok-list_deps.ensures
+whole : (g : given.Over) (c : goal.In_ok-list_cinds g) → c.list_cinds.new.lines ≡ listing c.args.bench.now.rules c.args.bench.now.history.present
+whole g c = c.in_ok-list_cinds.ensures ∙ ap (λ lines. lines ++ cind_lines c.args.bench.now.rules c.args.bench.now.history.present) c.in_ok-list_deps.ensures
 
 pub returns-clause-law : goal.returns-clause-law
-returns-clause-law c = rw (whole c) (listing_is_empty c.args.bench.now.rules c.args.bench.now.history.present)
+returns-clause-law g c = rw (whole g c) (listing_is_empty c.args.bench.now.rules c.args.bench.now.history.present)
 
 pub returns-clause-in_range : goal.returns-clause-in_range
-returns-clause-in_range c = rw (whole c) (listing_in_range c.args.bench.now.rules c.args.bench.now.history.present)
+returns-clause-in_range g c = rw (whole g c) (listing_in_range c.args.bench.now.rules c.args.bench.now.history.present)

@@ -1,30 +1,32 @@
-use Rattle.std.proofs.Common.{◌≡◌, ◌++◌, ◌∙◌, sym, ap, ◌≤◌, length}
+use Rattle.std.proofs.Common.{◌≡◌, ◌<◌, ◌≤◌, ◌++◌, ◌∙◌, sym, ap, length, map, take}
 use Rattle.std.proofs.lemmas.List.{append_assoc, take_all}
-use Rattle.rule_model.specs.Books.{IsBook, book_cinds}
-use Rattle.violation_report.specs.Listing.{cind_line, cind_orphans}
-use Rattle.violation_report.proofs.Loops.{lines-more, cind_has_left, cind_has_right}
+use Rattle.cfd_semantics.specs.Numbered.{numbered}
+use Rattle.rule_model.specs.Books.{book_cinds}
+use Rattle.bench_core.specs.Answers.{cind_orphans, orphans_at}
+use Rattle.violation_report.specs.Listing.{cind_line}
+use Rattle.violation_report.proofs.Loops.{cind-lines-more}
 use Rattle.violation_report.proofs.listing.list_cinds.Goals as goal
 
-pub list_cind-requires-clause-left : goal.list_cind-requires-clause-left
-list_cind-requires-clause-left c =
-    let cinds : c.as_slice-cind-items.result.now ≡ book_cinds c.args.bench.now.rules = c.as_slice-cind-items.ensures ∙ c.cinds.ensures.cinds ∙ ap book_cinds c.rules.ensures.value in
-    let book : IsBook c.args.bench.now.rules = rw c.rules.ensures.value at c.cinds.ensures.valid in
-    cind_has_left c.rules.ensures.valid.present book c.as_slice-cind-items.result.now cinds c.loop-number.number c.cind-item.result c.loop-number-test.true c.cind-item.is
-
-pub list_cind-requires-clause-right : goal.list_cind-requires-clause-right
-list_cind-requires-clause-right c =
-    let cinds : c.as_slice-cind-items.result.now ≡ book_cinds c.args.bench.now.rules = c.as_slice-cind-items.ensures ∙ c.cinds.ensures.cinds ∙ ap book_cinds c.rules.ensures.value in
-    let book : IsBook c.args.bench.now.rules = rw c.rules.ensures.value at c.cinds.ensures.valid in
-    cind_has_right c.rules.ensures.valid.present book c.as_slice-cind-items.result.now cinds c.loop-number.number c.cind-item.result c.loop-number-test.true c.cind-item.is
+pub list_cind-requires : goal.list_cind-requires
+list_cind-requires g c =
+    let bench = c.args.bench.now in
+    let rules : c.as_slice-number-end.result.now ≡ book_cinds bench.rules = c.as_slice-number-end.ensures ∙ c.cinds.ensures.cinds ∙ ap book_cinds c.rules.ensures.value in
+    let within : c.loop-number.number < length (book_cinds bench.rules) = rw rules at c.loop-number-test.true in
+    within
 
 pub loop-number-preserved : goal.loop-number-preserved
-loop-number-preserved c =
-    let cinds : c.as_slice-cind-items.result.now ≡ book_cinds c.args.bench.now.rules = c.as_slice-cind-items.ensures ∙ c.cinds.ensures.cinds ∙ ap book_cinds c.rules.ensures.value in
-    let more = lines-more (cind_orphans c.args.bench.now.history.present) cind_line c.as_slice-cind-items.result.now c.loop-number.number c.cind-item.result c.loop-number-test.true c.cind-item.is in
-    rw (c.in_ok-list_cind.ensures, c.loop-number.invariant, append_assoc) (ap (λ lines. c.args.lines.now ++ lines) (sym (rw cinds at more)))
+loop-number-preserved g c =
+    let bench = c.args.bench.now in
+    let rules : c.as_slice-number-end.result.now ≡ book_cinds bench.rules = c.as_slice-number-end.ensures ∙ c.cinds.ensures.cinds ∙ ap book_cinds c.rules.ensures.value in
+    let within : c.loop-number.number < length (book_cinds bench.rules) = rw rules at c.loop-number-test.true in
+    c.in_ok-list_cind.ensures
+    ∙ ap (λ lines. lines ++ map (λ found. cind_line (c.loop-number.number, found)) (orphans_at bench.rules bench.history.present c.loop-number.number)) c.loop-number.invariant
+    ∙ append_assoc c.args.lines.now (map cind_line (numbered (cind_orphans bench.history.present) (take c.loop-number.number (book_cinds bench.rules)))) (map (λ found. cind_line (c.loop-number.number, found)) (orphans_at bench.rules bench.history.present c.loop-number.number))
+    ∙ ap (λ lines. c.args.lines.now ++ lines) (sym (cind-lines-more bench.rules bench.history.present c.loop-number.number within))
 
 pub returns : goal.returns
-returns c =
-    let cinds : c.as_slice-cind-items.result.now ≡ book_cinds c.args.bench.now.rules = c.as_slice-cind-items.ensures ∙ c.cinds.ensures.cinds ∙ ap book_cinds c.rules.ensures.value in
-    let past : length (book_cinds c.args.bench.now.rules) ≤ c.loop-number.number = rw (← cinds) c.loop-number-test.false in
-    rw (take_all c.loop-number.number (book_cinds c.args.bench.now.rules) past) at c.loop-number.invariant
+returns g c =
+    let bench = c.args.bench.now in
+    let rules : c.as_slice-number-end.result.now ≡ book_cinds bench.rules = c.as_slice-number-end.ensures ∙ c.cinds.ensures.cinds ∙ ap book_cinds c.rules.ensures.value in
+    let past : length (book_cinds bench.rules) ≤ c.loop-number.number = rw (← rules) c.loop-number-test.false in
+    rw (take_all c.loop-number.number (book_cinds bench.rules) past) at c.loop-number.invariant

@@ -17,4 +17,4 @@ returns-clause-texts c =
     let project = c.self.inside.project in
     let inside : c.args.table < length project.stores.items = rw (length-state project.pool project.stores.items) at (rw (← c.self.view_is) at c.requires) in
     let at = stored-at project.stores.items c.args.table c.index.result.now inside c.index.ensures in
-    rw (← c.self.view_is) (all-there (λ (table : Stored). RowsHaveTexts project.pool table.rows) (tables_of project) c.args.table (stored c.index.result.now) c.self.invariant.named at)
+    rw (← c.self.view_is) (all-there (λ (table : Stored). RowsHaveTexts project.pool table.rows) (tables_of project) c.args.table (stored c.index.result.now) c.self.invariant.0.named at)

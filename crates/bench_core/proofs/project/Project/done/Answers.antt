@@ -1,10 +1,14 @@
-use Rattle.std.proofs.Common.{◌<◌, length, ap, sym, subst, ◌∙◌}
+use Rattle.std.proofs.Common.{◌<◌, length, ap, refl, sym, subst, ◌∙◌}
 use Rattle.std.proofs.lemmas.List.{length-map}
 use Rattle.std.specs.FinMap as finmap
 use Rattle.bench_core.specs.Stored.{Stored, stored}
-use Rattle.bench_core.specs.Changes.{CanMake, after_change, history_of}
+use Rattle.bench_core.specs.Changes.{CanMake, after_change, history_of, made_again}
 use Rattle.bench_core.specs.Bench.{Holds, tables_of}
 use Rattle.bench_core.proofs.Holding.{stored-at, stored-set, there-within, of-table, id-left, n-in_weights, n-rows-fit, n-cells-fit, n-counted, held-more, history-was-accepted}
+use Rattle.row_store.specs.Tuple.{ids_if}
+use Rattle.bench_core.specs.Indexed.{IsIndexed, tuples_of}
+use Rattle.bench_core.proofs.InStepWith.{indexed-alike}
+use Rattle.bench_core.proofs.TuplesAt.{tuple-changed}
 use Rattle.bench_core.proofs.project.Project.done.Goals as goal
 
 pub make-requires-clause-id_left : goal.make-requires-clause-id_left
@@ -65,3 +69,13 @@ returns-clause-history c =
     let same = stored-set c.args.self.now.stores.items c.args.change.table store c.make.new.store (after_change c.args.change) inside c.index_mut-store.ensures.value c.make.ensures in
     ap (history_of c.args.self.now.pool c.push_ready.new.self.past c.push_ready.new.self.undone) same
     ∙ history-was-accepted c.requires.held c.args.change c.requires.can c.requires.is c.requires.within c.push_ready.new.self c.push_ready.ensures.past c.push_ready.ensures.undone
+
+pub returns-clause-indexed : goal.returns-clause-indexed
+returns-clause-indexed c index held =
+    let change = c.args.change in
+    let inside : change.table < length c.args.self.now.stores.items = rw length-map at (there-within (CanMake change) (tables_of c.args.self.now) change.table c.requires.can) in
+    let store = c.index_mut-store.result.now in
+    let at = stored-at c.args.self.now.stores.items change.table store inside c.index_mut-store.ensures.value in
+    let same = stored-set c.args.self.now.stores.items change.table store c.make.new.store (after_change change) inside c.index_mut-store.ensures.value c.make.ensures in
+    let made = indexed-alike held (tuples_of (made_again change (tables_of c.args.self.now))) (tuple-changed change.table change.row (ids_if change.new) (after_change change) (tables_of c.args.self.now) (stored store) at refl) in
+    subst (λ tables. IsIndexed c.args.self.now.rules c.args.self.now.pool (tuples_of tables) index) (sym same) made

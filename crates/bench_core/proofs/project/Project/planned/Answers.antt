@@ -6,6 +6,7 @@ use Rattle.bench_core.proofs.Named.{history-kept}
 use Rattle.bench_core.proofs.Editing.{in_state, in_weights}
 use Rattle.bench_core.proofs.Holding.{stored-at, all-there, held-named}
 use Rattle.bench_core.proofs.Planning.{planned-edited, planned-within, planned-fits, planned-can}
+use Rattle.bench_core.proofs.InStepWith.{indexed-kept}
 use Rattle.bench_core.proofs.project.Project.planned.Goals as goal
 
 pub has_room-requires-clause-table : goal.has_room-requires-clause-table
@@ -54,3 +55,6 @@ returns-clause-within c =
     let at = stored-at c.args.self.now.stores.items c.args.number c.index.result.now inside c.index.ensures in
     let declared = rw (c.as_slice.ensures, c.schema.ensures.schema) at c.index-as_slice-number.is in
     planned-within c.args.self.now.rules c.args.self.now.limits c.args.self.now.pool c.change.new.pool c.change.ensures.kept (tables_of c.args.self.now) c.requires.held.named c.args.self.now.counts.weights.items c.args.self.now.counts.rows c.args.self.now.counts.cells c.requires.held.history.present c.requires.held.counts c.args.number c.args.edit.now c.requires.named c.index-as_slice-number.result (stored c.index.result.now) declared at c.has_room.result c.has_room.ensures c.change.result c.change.ensures.edited c.change.ensures.planned
+
+pub returns-clause-indexed : goal.returns-clause-indexed
+returns-clause-indexed c index held = indexed-kept held c.change.new.pool c.change.ensures.kept

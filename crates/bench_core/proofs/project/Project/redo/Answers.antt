@@ -8,41 +8,44 @@ use Rattle.bench_core.specs.Stored.{Stored, stored}
 use Rattle.bench_core.specs.Changes.{CanMake, after_change, history_of, states_after}
 use Rattle.bench_core.specs.Bench.{Holds, tables_of, history}
 use Rattle.bench_core.proofs.Holding.{no-first, no-undone, some-first, not-nothing-to-redo, first-can, first-is, bench-forward, held-forward, history-was-redone, on-err, same-stored, stored-at, stored-set, stored-same, there-within, of-table, id-left, n-in_weights, n-rows-fit, n-cells-fit, n-counted}
+use Rattle.bench_core.specs.Indexed.{IsIndexed, tuples_of}
+use Rattle.bench_core.proofs.InStepWith.{indexed-refused}
+use Rattle.bench_core.proofs.FollowedChange.{forward-can, forward-indexed}
 use Rattle.bench_core.proofs.project.Project.redo.Goals as goal
 
 pub returns-in_default-clause-nothing : goal.returns-in_default-clause-nothing
-returns-in_default-clause-nothing c =
+returns-in_default-clause-nothing g c =
     let none = no-first c.args.self.now.log.undone (sym c.next.ensures ∙ ap option_copied c.in_default.is) in
     (λ _. ap (λ changes. states_after c.args.self.now.pool changes (tables_of c.args.self.now)) none, λ _. refl)
 
 pub returns-in_err-new-clause-nothing : goal.returns-in_err-new-clause-nothing
-returns-in_err-new-clause-nothing c =
+returns-in_err-new-clause-nothing g c =
     let last : first_of c.args.self.now.log.undone ≡ Some c.in-Some.change.now = sym c.next.ensures ∙ ap option_copied c.in-Some.is in
     (λ is. absurd (not-nothing-to-redo c.from_residual.result c.from_residual.ensures.1 is), λ none. absurd (some-first c.args.self.now.log.undone c.in-Some.change.now last (no-undone c.args.self.now.pool c.args.self.now.log.undone (tables_of c.args.self.now) none)))
 
 pub index_mut-store-requires : goal.index_mut-store-requires
-index_mut-store-requires c =
+index_mut-store-requires g c =
     let last : first_of c.args.self.now.log.undone ≡ Some c.in-Some.change.now = sym c.next.ensures ∙ ap option_copied c.in-Some.is in
     let made = first-can c.requires.held c.in-Some.change.now last in
     let inside : c.in-Some.change.now.table < length c.args.self.now.stores.items = rw length-map at (there-within (CanMake c.in-Some.change.now) (tables_of c.args.self.now) c.in-Some.change.now.table made) in
     omega (arith, inside, c.args.self.now.stores.ok.0)
 
 pub returns-in_err-ready_insert-clause-held : goal.returns-in_err-ready_insert-clause-held
-returns-in_err-ready_insert-clause-held c =
+returns-in_err-ready_insert-clause-held g c =
     let same = stored-same c.args.self.now.stores.items c.in-Some.change.now.table c.index_mut-store.result.now c.ready_insert.new.self c.index_mut-store.ensures.value (same-stored c.ready_insert.new.self c.index_mut-store.result.now c.ready_insert.ensures.rows c.ready_insert.ensures.next) in
     subst (λ tables. Holds c.args.self.now.rules c.args.self.now.limits c.args.self.now.pool c.args.self.now.log tables c.args.self.now.counts.weights.items c.args.self.now.counts.rows c.args.self.now.counts.cells) (sym same) c.requires.held
 
 pub returns-in_err-ready_insert-clause-nothing : goal.returns-in_err-ready_insert-clause-nothing
-returns-in_err-ready_insert-clause-nothing c =
+returns-in_err-ready_insert-clause-nothing g c =
     let last : first_of c.args.self.now.log.undone ≡ Some c.in-Some.change.now = sym c.next.ensures ∙ ap option_copied c.in-Some.is in
     (λ is. absurd (not-nothing-to-redo c.from_residual-in_err-ready_insert.result c.from_residual-in_err-ready_insert.ensures.1 is), λ none. absurd (some-first c.args.self.now.log.undone c.in-Some.change.now last (no-undone c.args.self.now.pool c.args.self.now.log.undone (tables_of c.args.self.now) none)))
 
 pub returns-in_err-ready_insert-clause-unchanged : goal.returns-in_err-ready_insert-clause-unchanged
-returns-in_err-ready_insert-clause-unchanged c =
+returns-in_err-ready_insert-clause-unchanged g c =
     on-err c.from_residual-in_err-ready_insert.result _ (ap (history_of c.args.self.now.pool c.args.self.now.log.past c.args.self.now.log.undone) (stored-same c.args.self.now.stores.items c.in-Some.change.now.table c.index_mut-store.result.now c.ready_insert.new.self c.index_mut-store.ensures.value (same-stored c.ready_insert.new.self c.index_mut-store.result.now c.ready_insert.ensures.rows c.ready_insert.ensures.next)))
 
 pub make-requires-clause-id_left : goal.make-requires-clause-id_left
-make-requires-clause-id_left c =
+make-requires-clause-id_left g c =
     let last : first_of c.args.self.now.log.undone ≡ Some c.in-Some.change.now = sym c.next.ensures ∙ ap option_copied c.in-Some.is in
     let made = first-can c.requires.held c.in-Some.change.now last in
     let inside : c.in-Some.change.now.table < length c.args.self.now.stores.items = rw length-map at (there-within (CanMake c.in-Some.change.now) (tables_of c.args.self.now) c.in-Some.change.now.table made) in
@@ -51,12 +54,12 @@ make-requires-clause-id_left c =
     id-left c.args.self.now.rules c.args.self.now.limits c.args.self.now.pool (tables_of c.args.self.now) c.in-Some.change.now.table (stored store) c.in-Some.change.now c.requires.held.history.present at (of-table (CanMake c.in-Some.change.now) (tables_of c.args.self.now) c.in-Some.change.now.table (stored store) at made)
 
 pub make-requires-clause-there : goal.make-requires-clause-there
-make-requires-clause-there c =
+make-requires-clause-there g c =
     let last : first_of c.args.self.now.log.undone ≡ Some c.in-Some.change.now = sym c.next.ensures ∙ ap option_copied c.in-Some.is in
     (first-is c.requires.held c.in-Some.change.now last).there
 
 pub make-requires-clause-can : goal.make-requires-clause-can
-make-requires-clause-can c =
+make-requires-clause-can g c =
     let last : first_of c.args.self.now.log.undone ≡ Some c.in-Some.change.now = sym c.next.ensures ∙ ap option_copied c.in-Some.is in
     let made = first-can c.requires.held c.in-Some.change.now last in
     let inside : c.in-Some.change.now.table < length c.args.self.now.stores.items = rw length-map at (there-within (CanMake c.in-Some.change.now) (tables_of c.args.self.now) c.in-Some.change.now.table made) in
@@ -66,7 +69,7 @@ make-requires-clause-can c =
     subst (CanMake c.in-Some.change.now) (sym ready) (of-table (CanMake c.in-Some.change.now) (tables_of c.args.self.now) c.in-Some.change.now.table (stored store) at made)
 
 pub recount-requires-clause-table : goal.recount-requires-clause-table
-recount-requires-clause-table c =
+recount-requires-clause-table g c =
     let last : first_of c.args.self.now.log.undone ≡ Some c.in-Some.change.now = sym c.next.ensures ∙ ap option_copied c.in-Some.is in
     let made = first-can c.requires.held c.in-Some.change.now last in
     let inside : c.in-Some.change.now.table < length c.args.self.now.stores.items = rw length-map at (there-within (CanMake c.in-Some.change.now) (tables_of c.args.self.now) c.in-Some.change.now.table made) in
@@ -75,7 +78,7 @@ recount-requires-clause-table c =
     n-in_weights c.args.self.now.rules c.args.self.now.limits c.args.self.now.pool (tables_of c.args.self.now) c.args.self.now.counts.weights.items c.args.self.now.counts.rows c.args.self.now.counts.cells c.requires.held.history.present c.requires.held.counts c.in-Some.change.now.table (stored store) at
 
 pub recount-requires-clause-rows : goal.recount-requires-clause-rows
-recount-requires-clause-rows c =
+recount-requires-clause-rows g c =
     let last : first_of c.args.self.now.log.undone ≡ Some c.in-Some.change.now = sym c.next.ensures ∙ ap option_copied c.in-Some.is in
     let made = first-can c.requires.held c.in-Some.change.now last in
     let inside : c.in-Some.change.now.table < length c.args.self.now.stores.items = rw length-map at (there-within (CanMake c.in-Some.change.now) (tables_of c.args.self.now) c.in-Some.change.now.table made) in
@@ -89,7 +92,7 @@ recount-requires-clause-rows c =
     rw (before, after) (n-rows-fit c.args.self.now.rules c.args.self.now.limits c.args.self.now.pool (tables_of c.args.self.now) c.args.self.now.counts.weights.items c.args.self.now.counts.rows c.args.self.now.counts.cells c.requires.held.history.present c.requires.held.counts c.in-Some.change.now.table (stored store) at (after_change c.in-Some.change.now) within)
 
 pub recount-requires-clause-cells : goal.recount-requires-clause-cells
-recount-requires-clause-cells c =
+recount-requires-clause-cells g c =
     let last : first_of c.args.self.now.log.undone ≡ Some c.in-Some.change.now = sym c.next.ensures ∙ ap option_copied c.in-Some.is in
     let made = first-can c.requires.held c.in-Some.change.now last in
     let inside : c.in-Some.change.now.table < length c.args.self.now.stores.items = rw length-map at (there-within (CanMake c.in-Some.change.now) (tables_of c.args.self.now) c.in-Some.change.now.table made) in
@@ -103,7 +106,7 @@ recount-requires-clause-cells c =
     rw (before, after) (n-cells-fit c.args.self.now.rules c.args.self.now.limits c.args.self.now.pool (tables_of c.args.self.now) c.args.self.now.counts.weights.items c.args.self.now.counts.rows c.args.self.now.counts.cells c.requires.held.history.present c.requires.held.counts c.in-Some.change.now.table (stored store) at (after_change c.in-Some.change.now) within)
 
 pub returns-clause-held : goal.returns-clause-held
-returns-clause-held c =
+returns-clause-held g c =
     let last : first_of c.args.self.now.log.undone ≡ Some c.in-Some.change.now = sym c.next.ensures ∙ ap option_copied c.in-Some.is in
     let made = first-can c.requires.held c.in-Some.change.now last in
     let inside : c.in-Some.change.now.table < length c.args.self.now.stores.items = rw length-map at (there-within (CanMake c.in-Some.change.now) (tables_of c.args.self.now) c.in-Some.change.now.table made) in
@@ -122,7 +125,7 @@ returns-clause-held c =
     (held-forward c.requires.held c.in-Some.change.now c.step_forward.new.log moved c.recount.new.self.weights.items c.recount.new.self.rows c.recount.new.self.cells counted)
 
 pub returns-clause-redone : goal.returns-clause-redone
-returns-clause-redone c =
+returns-clause-redone g c =
     let last : first_of c.args.self.now.log.undone ≡ Some c.in-Some.change.now = sym c.next.ensures ∙ ap option_copied c.in-Some.is in
     let made = first-can c.requires.held c.in-Some.change.now last in
     let inside : c.in-Some.change.now.table < length c.args.self.now.stores.items = rw length-map at (there-within (CanMake c.in-Some.change.now) (tables_of c.args.self.now) c.in-Some.change.now.table made) in
@@ -135,6 +138,65 @@ returns-clause-redone c =
     subst (λ tables. IsRedone (history c.args.self.now) (history_of c.args.self.now.pool c.step_forward.new.log.past c.step_forward.new.log.undone tables)) (sym same) (history-was-redone c.requires.held c.in-Some.change.now c.step_forward.new.log moved)
 
 pub returns-clause-nothing : goal.returns-clause-nothing
-returns-clause-nothing c =
+returns-clause-nothing g c =
     let last : first_of c.args.self.now.log.undone ≡ Some c.in-Some.change.now = sym c.next.ensures ∙ ap option_copied c.in-Some.is in
     (λ is. absurd (cc), λ none. absurd (some-first c.args.self.now.log.undone c.in-Some.change.now last (no-undone c.args.self.now.pool c.args.self.now.log.undone (tables_of c.args.self.now) none)))
+
+pub returns-in_default-clause-probes : goal.returns-in_default-clause-probes
+returns-in_default-clause-probes g c = (0, omega arith)
+
+pub returns-in_err-new-clause-probes : goal.returns-in_err-new-clause-probes
+returns-in_err-new-clause-probes g c = (0, omega arith)
+
+pub returns-in_err-ready_insert-clause-probes : goal.returns-in_err-ready_insert-clause-probes
+returns-in_err-ready_insert-clause-probes g c = (0, omega arith)
+
+pub returns-in_err-ready_insert-clause-indexed : goal.returns-in_err-ready_insert-clause-indexed
+returns-in_err-ready_insert-clause-indexed g c =
+    let same = stored-same c.args.self.now.stores.items c.in-Some.change.now.table c.index_mut-store.result.now c.ready_insert.new.self c.index_mut-store.ensures.value (same-stored c.ready_insert.new.self c.index_mut-store.result.now c.ready_insert.ensures.rows c.ready_insert.ensures.next) in
+    subst (λ tables. IsIndexed c.args.self.now.rules c.args.self.now.pool (tuples_of tables) c.args.index.now) (sym same) c.requires.indexed
+
+pub follow_change-requires : goal.follow_change-requires
+follow_change-requires g c =
+    let last : first_of c.args.self.now.log.undone ≡ Some c.in-Some.change.now = sym c.next.ensures ∙ ap option_copied c.in-Some.is in
+    forward-can (tables_of c.args.self.now) c.requires.held.history.present c.requires.indexed c.in-Some.change.now (first-can c.requires.held c.in-Some.change.now last) (bench-forward c.requires.held c.in-Some.change.now last)
+
+pub returns-in_err-follow_change-clause-held : goal.returns-in_err-follow_change-clause-held
+returns-in_err-follow_change-clause-held g c =
+    let same = stored-same c.args.self.now.stores.items c.in-Some.change.now.table c.index_mut-store.result.now c.ready_insert.new.self c.index_mut-store.ensures.value (same-stored c.ready_insert.new.self c.index_mut-store.result.now c.ready_insert.ensures.rows c.ready_insert.ensures.next) in
+    subst (λ tables. Holds c.args.self.now.rules c.args.self.now.limits c.args.self.now.pool c.args.self.now.log tables c.args.self.now.counts.weights.items c.args.self.now.counts.rows c.args.self.now.counts.cells) (sym same) c.requires.held
+
+pub returns-in_err-follow_change-clause-indexed : goal.returns-in_err-follow_change-clause-indexed
+returns-in_err-follow_change-clause-indexed g c =
+    let same = stored-same c.args.self.now.stores.items c.in-Some.change.now.table c.index_mut-store.result.now c.ready_insert.new.self c.index_mut-store.ensures.value (same-stored c.ready_insert.new.self c.index_mut-store.result.now c.ready_insert.ensures.rows c.ready_insert.ensures.next) in
+    subst (λ tables. IsIndexed c.args.self.now.rules c.args.self.now.pool (tuples_of tables) c.follow_change.new.index) (sym same) (indexed-refused c.requires.indexed c.follow_change.new.index c.in_err-follow_change.ensures.refused)
+
+pub returns-in_err-follow_change-clause-nothing : goal.returns-in_err-follow_change-clause-nothing
+returns-in_err-follow_change-clause-nothing g c =
+    let last : first_of c.args.self.now.log.undone ≡ Some c.in-Some.change.now = sym c.next.ensures ∙ ap option_copied c.in-Some.is in
+    (λ is. absurd (not-nothing-to-redo c.from_residual-in_err-follow_change.result c.from_residual-in_err-follow_change.ensures.1 is), λ none. absurd (some-first c.args.self.now.log.undone c.in-Some.change.now last (no-undone c.args.self.now.pool c.args.self.now.log.undone (tables_of c.args.self.now) none)))
+
+pub returns-in_err-follow_change-clause-unchanged : goal.returns-in_err-follow_change-clause-unchanged
+returns-in_err-follow_change-clause-unchanged g c =
+    let same = stored-same c.args.self.now.stores.items c.in-Some.change.now.table c.index_mut-store.result.now c.ready_insert.new.self c.index_mut-store.ensures.value (same-stored c.ready_insert.new.self c.index_mut-store.result.now c.ready_insert.ensures.rows c.ready_insert.ensures.next) in
+    on-err c.from_residual-in_err-follow_change.result _ (ap (history_of c.args.self.now.pool c.args.self.now.log.past c.args.self.now.log.undone) same)
+
+pub returns-in_err-follow_change-clause-probes : goal.returns-in_err-follow_change-clause-probes
+returns-in_err-follow_change-clause-probes g c =
+    (c.in-Some.change.now.table, c.follow_change.ensures.probes)
+
+pub returns-clause-indexed : goal.returns-clause-indexed
+returns-clause-indexed g c =
+    let last : first_of c.args.self.now.log.undone ≡ Some c.in-Some.change.now = sym c.next.ensures ∙ ap option_copied c.in-Some.is in
+    let made = first-can c.requires.held c.in-Some.change.now last in
+    let inside : c.in-Some.change.now.table < length c.args.self.now.stores.items = rw length-map at (there-within (CanMake c.in-Some.change.now) (tables_of c.args.self.now) c.in-Some.change.now.table made) in
+    let store = c.index_mut-store.result.now in
+    let ready = same-stored c.ready_insert.new.self store c.ready_insert.ensures.rows c.ready_insert.ensures.next in
+    let becomes = c.make.ensures ∙ ap (after_change c.in-Some.change.now) ready in
+    let same = stored-set c.args.self.now.stores.items c.in-Some.change.now.table store c.make.new.store (after_change c.in-Some.change.now) inside c.index_mut-store.ensures.value becomes in
+    subst (λ tables. IsIndexed c.args.self.now.rules c.args.self.now.pool (tuples_of tables) c.follow_change.new.index) (sym same)
+    (forward-indexed (tables_of c.args.self.now) c.requires.held.history.present c.requires.indexed c.in-Some.change.now made (bench-forward c.requires.held c.in-Some.change.now last) c.follow_change.new.index c.in_ok-follow_change.ensures.followed)
+
+pub returns-clause-probes : goal.returns-clause-probes
+returns-clause-probes g c =
+    (c.in-Some.change.now.table, c.follow_change.ensures.probes)

@@ -1,5 +1,4 @@
 use Rattle.std.proofs.Common.{refl, sym, ◌∙◌, ap, ◌≡◌, Some}
-use Rattle.std.specs.FinMap as finmap
 use Rattle.row_store.specs.Tuple.{ids_of, ids_behind}
 use Rattle.bench_core.specs.Stored.{HaveTexts, stored}
 use Rattle.bench_core.proofs.Planned.{delete-absent, delete-done, have-texts, below-row, for_some, for_none}

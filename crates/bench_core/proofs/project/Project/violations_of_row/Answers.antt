@@ -1,0 +1,48 @@
+use Rattle.std.proofs.Common.{◌≡◌, ℕ, ◌<◌, List, Option, Some, None, Bor, length, map, ap, sym, subst, ◌∙◌, refl, arith}
+use Rattle.std.specs.Prelude.{get_or}
+use Rattle.std.specs.FinMap as finmap
+use Rattle.std.proofs.lemmas.Option.{same_Some}
+use Rattle.rule_model.specs.Books.{book_deps}
+use Rattle.rule_model.specs.declared.dep.Dep.{Dep}
+use Rattle.row_store.specs.Tuple.{Tuple, ids_behind, ids_of}
+use Rattle.bench_core.specs.Bench.{tables_of}
+use Rattle.bench_core.specs.Stored.{Stored, stored}
+use Rattle.bench_core.specs.Answers.{row_texts}
+use Rattle.bench_core.proofs.Answering.{dep-valid, dep-wide, ok_weaker, row-absent, row-named, row-there, row-violations, row-wide, rule-at, store-read, table-within}
+use Rattle.bench_core.proofs.project.Project.violations_of_row.Goals as goal
+
+found : (o : Option (Bor Tuple)) (tuple : Bor Tuple) (ids : Option (List ℕ)) → ids_behind o ≡ ids → o ≡ Some tuple → ids ≡ Some (ids_of tuple.now)
+found o tuple ids behind is = sym behind ∙ ap ids_behind is
+
+pub index-requires : goal.index-requires
+index-requires g c =
+    let rule = c.index-as_slice-dep.result in
+    let at = (rule-at (book_deps c.args.self.now.rules) c.as_slice.result.now c.args.dep c.index-as_slice-dep.result (c.as_slice.ensures ∙ c.deps.ensures.deps) c.requires.dep c.index-as_slice-dep.is) in
+    let within = table-within c.args.self.now c.requires.held rule.table (dep-valid c.args.self.now.rules c.deps.ensures.valid c.args.dep rule at).table in
+    omega (arith, rw c.index-as_slice-dep.is at within)
+
+pub violations_of_row-requires-clause-wide : goal.violations_of_row-requires-clause-wide
+violations_of_row-requires-clause-wide g c =
+    let project = c.args.self.now in
+    let is = found c.get.result c.in-Some.tuple (finmap.get c.index.result.now.rows c.args.row) c.get.ensures c.in-Some.is in
+    dep-wide project.rules c.deps.ensures.valid project.pool _ c.args.index.now c.requires.in_step c.args.dep (ids_of c.in-Some.tuple.now) c.index-as_slice-dep.result (rule-at (book_deps c.args.self.now.rules) c.as_slice.result.now c.args.dep c.index-as_slice-dep.result (c.as_slice.ensures ∙ c.deps.ensures.deps) c.requires.dep c.index-as_slice-dep.is)
+    (row-wide project.rules project.limits project.pool (tables_of project) c.requires.held.history.present c.index-as_slice-dep.result.table c.args.row (stored c.index.result.now) (store-read c.args.self.now c.requires.held c.index-as_slice-dep.result.table (dep-valid c.args.self.now.rules c.deps.ensures.valid c.args.dep c.index-as_slice-dep.result (rule-at (book_deps c.args.self.now.rules) c.as_slice.result.now c.args.dep c.index-as_slice-dep.result (c.as_slice.ensures ∙ c.deps.ensures.deps) c.requires.dep c.index-as_slice-dep.is)).table c.index.result.now (c.index.ensures ∙ ap (λ (rule : Dep). get_or c.args.self.now.stores.items rule.table c.index.result.now) (sym c.index-as_slice-dep.is))) (ids_of c.in-Some.tuple.now) is)
+
+pub violations_of_row-requires-clause-named : goal.violations_of_row-requires-clause-named
+violations_of_row-requires-clause-named g c =
+    let project = c.args.self.now in
+    let is = found c.get.result c.in-Some.tuple (finmap.get c.index.result.now.rows c.args.row) c.get.ensures c.in-Some.is in
+    row-named project.rules project.limits project.pool (tables_of project) c.requires.held.history.present c.index-as_slice-dep.result.table c.args.row (stored c.index.result.now) (store-read c.args.self.now c.requires.held c.index-as_slice-dep.result.table (dep-valid c.args.self.now.rules c.deps.ensures.valid c.args.dep c.index-as_slice-dep.result (rule-at (book_deps c.args.self.now.rules) c.as_slice.result.now c.args.dep c.index-as_slice-dep.result (c.as_slice.ensures ∙ c.deps.ensures.deps) c.requires.dep c.index-as_slice-dep.is)).table c.index.result.now (c.index.ensures ∙ ap (λ (rule : Dep). get_or c.args.self.now.stores.items rule.table c.index.result.now) (sym c.index-as_slice-dep.is))) (ids_of c.in-Some.tuple.now) is c.requires.held.named
+
+pub returns-in-Some : goal.returns-in-Some
+returns-in-Some g c =
+    let project = c.args.self.now in
+    let is = found c.get.result c.in-Some.tuple (finmap.get c.index.result.now.rows c.args.row) c.get.ensures c.in-Some.is in
+    let there = row-there project.rules project.limits project.pool (tables_of project) c.requires.held.history.present c.index-as_slice-dep.result.table c.args.row (stored c.index.result.now) (store-read c.args.self.now c.requires.held c.index-as_slice-dep.result.table (dep-valid c.args.self.now.rules c.deps.ensures.valid c.args.dep c.index-as_slice-dep.result (rule-at (book_deps c.args.self.now.rules) c.as_slice.result.now c.args.dep c.index-as_slice-dep.result (c.as_slice.ensures ∙ c.deps.ensures.deps) c.requires.dep c.index-as_slice-dep.is)).table c.index.result.now (c.index.ensures ∙ ap (λ (rule : Dep). get_or c.args.self.now.stores.items rule.table c.index.result.now) (sym c.index-as_slice-dep.is))) (ids_of c.in-Some.tuple.now) is in
+    ok_weaker c.violations_of_row.result (λ lines. row-violations project.rules project.pool (tables_of project) c.args.index.now c.requires.held.named c.requires.in_step c.len-len.ensures.distinct c.args.dep c.args.row (ids_of c.in-Some.tuple.now) lines c.index-as_slice-dep.result (rule-at (book_deps c.args.self.now.rules) c.as_slice.result.now c.args.dep c.index-as_slice-dep.result (c.as_slice.ensures ∙ c.deps.ensures.deps) c.requires.dep c.index-as_slice-dep.is) there) c.violations_of_row.ensures.violations
+
+pub returns-in-None : goal.returns-in-None
+returns-in-None g c =
+    let project = c.args.self.now in
+    let none : finmap.get c.index.result.now.rows c.args.row ≡ None = sym c.get.ensures ∙ ap ids_behind c.in-None.is in
+    absurd (row-absent project.rules project.limits project.pool (tables_of project) c.requires.held.history.present c.index-as_slice-dep.result.table c.args.row (stored c.index.result.now) (store-read c.args.self.now c.requires.held c.index-as_slice-dep.result.table (dep-valid c.args.self.now.rules c.deps.ensures.valid c.args.dep c.index-as_slice-dep.result (rule-at (book_deps c.args.self.now.rules) c.as_slice.result.now c.args.dep c.index-as_slice-dep.result (c.as_slice.ensures ∙ c.deps.ensures.deps) c.requires.dep c.index-as_slice-dep.is)).table c.index.result.now (c.index.ensures ∙ ap (λ (rule : Dep). get_or c.args.self.now.stores.items rule.table c.index.result.now) (sym c.index-as_slice-dep.is))) none (c.requires.there c.index-as_slice-dep.result (rule-at (book_deps c.args.self.now.rules) c.as_slice.result.now c.args.dep c.index-as_slice-dep.result (c.as_slice.ensures ∙ c.deps.ensures.deps) c.requires.dep c.index-as_slice-dep.is)))

@@ -1,0 +1,13 @@
+use Rattle.std.proofs.Common.{◌≡◌, ℕ, ◌+◌, ◌*◌, ◌≤◌, nat_eq, List, take}
+use Rattle.cfd_semantics.specs.Numbered.{numbered}
+use Rattle.cfd_semantics.specs.EntrySets.{IsEntryList}
+use Rattle.cfd_semantics.specs.Violation.{Entry, violating}
+use Rattle.group_index.specs.GroupSet.{holds_entry}
+use Rattle.bench_index.proofs.listing.all_violations.Given as goal
+
+-- what the tableau rows so far give, at a probe for each dirty group and each of them
+abbrev pub invariant-loop-k : goal.invariant-loop-k
+invariant-loop-k g l = record {
+  list : (all : List (Entry ℕ)) → IsEntryList (holds_entry l.group) all → l.all ≡ numbered (λ t. violating nat_eq t all) (take l.k l.group.made.dependency.rows);
+  probes : l.steps ≤ l.initial.steps + l.k * l.group.dirty;
+}

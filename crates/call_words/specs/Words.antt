@@ -1,0 +1,71 @@
+-- The words of a call, and which of them have a form.
+use Rattle.std.specs.Prelude.{ℕ, ◌≤◌, Bool, false, not, ◌&&◌, List, [], ◌∷◌, Option, None, Some, IsSome, option_and_then, codes, if◌then◌else◌, nat_le, ◌==◌}
+use Rattle.std.specs.Char.{is_ascii_digit}
+use Rattle.std.specs.List.{list_all}
+use Rattle.std.specs.Str.{bytes_eq}
+use Rattle.std.specs.Str.Parse.{digits_value}
+use Rattle.call_words.specs.declared.form.Form.{Form}
+use Rattle.call_words.specs.declared.form.Form.TheVariants.{Check, Consistent, Implies, Report, Run}
+
+-- a word that isn't empty and doesn't begin with `-`
+abbrev pub is_plain : List ℕ → Bool
+is_plain [] = false
+is_plain (b ∷ bytes) = not (b == 45)
+
+-- ---- numbers
+
+-- a word of digits, without a leading zero but for `0` itself
+abbrev pub is_number : List ℕ → Bool
+is_number [] = false
+is_number (b ∷ []) = is_ascii_digit b
+is_number (b ∷ c ∷ bytes) = not (b == 48) && list_all is_ascii_digit (b ∷ c ∷ bytes)
+
+-- the number that a word spells, where it isn't below the one and not above the other
+abbrev pub number_within : ℕ → ℕ → List ℕ → Option ℕ
+number_within least most word =
+    let number = digits_value 10 word in
+    if is_number word && (nat_le least number && nat_le number most) then Some number else None
+
+-- how many leaves a search may make
+abbrev pub budget_in : List ℕ → Option ℕ
+budget_in word = number_within 1 1000000 word
+
+-- ---- forms
+
+-- a question about the rules of a project, by its name
+abbrev pub question_form : List ℕ → List ℕ → List ℕ → ℕ → Option Form
+question_form name project asked budget =
+    if bytes_eq name (codes "consistent") then Some (Consistent project asked budget)
+    else if bytes_eq name (codes "implies") then Some (Implies project asked budget)
+    else None
+
+-- the form of that name with these words behind it
+abbrev pub named_form : List ℕ → List (List ℕ) → Option Form
+named_form name (project ∷ []) =
+    if bytes_eq name (codes "run") then Some (Run project)
+    else if bytes_eq name (codes "report") then Some (Report project)
+    else None
+named_form name (project ∷ cert ∷ []) = if bytes_eq name (codes "check") then Some (Check project cert) else None
+named_form name (project ∷ asked ∷ budget ∷ []) = option_and_then (question_form name project asked) (budget_in budget)
+named_form name words = None
+
+-- the form of the words, where they have one
+abbrev pub form_of : List (List ℕ) → Option Form
+form_of [] = None
+form_of (name ∷ words) = if list_all is_plain words then named_form name words else None
+
+abbrev pub HasForm : List (List ℕ) → Type 0
+HasForm words = IsSome (form_of words)
+
+-- a number of leaves that a search may be given
+pub record IsBudget (leaves : ℕ) : Type 0 where
+  pub some : 1 ≤ leaves
+  pub within : leaves ≤ 1000000
+
+-- the budget of a form that has one is such a number
+abbrev pub IsFit : Form → Type 0
+IsFit (Run project) = Unit {0}
+IsFit (Report project) = Unit {0}
+IsFit (Consistent project table budget) = IsBudget budget
+IsFit (Implies project dep budget) = IsBudget budget
+IsFit (Check project cert) = Unit {0}

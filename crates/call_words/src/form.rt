@@ -1,0 +1,142 @@
+//! What the words of a call ask for.
+ghost use Rattle.std.specs.Prelude.{◌≡◌, ◌∷◌, [], None, IfOk, IfSome, IsOk, IsTrue};
+ghost use Rattle.call_words.specs.Words.{HasForm, IsFit, form_of, is_plain, named_form};
+
+use crate::numbers::number_within;
+use crate::words::{read_one, read_three, read_two};
+use schema_core::Text;
+use std::alloc::{AllocError, Global};
+
+/// What the words ask for, with the words after the first.
+#[derive(Debug, Drop)]
+pub enum Form {
+    /// `run PROJECT`
+    Run {
+        project: Text,
+    },
+    /// `report PROJECT`
+    Report {
+        project: Text,
+    },
+    /// `consistent PROJECT TABLE BUDGET`
+    Consistent {
+        project: Text,
+        table: Text,
+        budget: u64,
+    },
+    /// `implies PROJECT DEP BUDGET`
+    Implies {
+        project: Text,
+        dep: Text,
+        budget: u64,
+    },
+    /// `check PROJECT CERT`
+    Check {
+        project: Text,
+        cert: Text,
+    },
+}
+
+/// The most leaves that a search may be given.
+const MOST_LEAVES: u64 = 1_000_000;
+
+/// The form of the words, where they have one. Words without a form take no memory.
+pub fn form_of(alloc: Global, words: &[Text]) -> Result<Option<Form>, AllocError>
+    ensures form { IfOk result (λ form. form ≡ form_of words.now) }
+    ensures formless { (HasForm words.now → ⊥) → IsOk result }
+    ensures fit { IfOk result (λ form. IfSome form IsFit) }
+{
+    match words {
+        [name, project] if is_plain(project) => project_form(alloc, name, project),
+        [name, project, cert] if is_plain(project) && is_plain(cert) => {
+            check_form(alloc, name, project, cert)
+        }
+        [name, project, asked, budget]
+            if is_plain(project) && is_plain(asked) && is_plain(budget) => {
+            question_form(alloc, name, project, asked, budget)
+        }
+        _ => Ok(None),
+    }
+}
+
+fn project_form(alloc: Global, name: &Text, project: &Text) -> Result<Option<Form>, AllocError>
+    requires { IsTrue (is_plain project.now) }
+    ensures form { IfOk result (λ form. form ≡ named_form name.now (project.now ∷ [])) }
+    ensures formless { named_form name.now (project.now ∷ []) ≡ None → IsOk result }
+    ensures fit { IfOk result (λ form. IfSome form IsFit) }
+{
+    if name.is("run") {
+        let project = read_one(alloc, name, project)?;
+        Ok(Some(Form::Run { project }))
+    } else if name.is("report") {
+        let project = read_one(alloc, name, project)?;
+        Ok(Some(Form::Report { project }))
+    } else {
+        Ok(None)
+    }
+}
+
+fn check_form(
+    alloc: Global,
+    name: &Text,
+    project: &Text,
+    cert: &Text,
+) -> Result<Option<Form>, AllocError>
+    requires project { IsTrue (is_plain project.now) }
+    requires cert { IsTrue (is_plain cert.now) }
+    ensures form { IfOk result (λ form. form ≡ named_form name.now (project.now ∷ cert.now ∷ [])) }
+    ensures formless { named_form name.now (project.now ∷ cert.now ∷ []) ≡ None → IsOk result }
+    ensures fit { IfOk result (λ form. IfSome form IsFit) }
+{
+    if name.is("check") {
+        let (project, cert) = read_two(alloc, name, project, cert)?;
+        Ok(Some(Form::Check { project, cert }))
+    } else {
+        Ok(None)
+    }
+}
+
+fn question_form(
+    alloc: Global,
+    name: &Text,
+    project: &Text,
+    asked: &Text,
+    budget: &Text,
+) -> Result<Option<Form>, AllocError>
+    requires project { IsTrue (is_plain project.now) }
+    requires asked { IsTrue (is_plain asked.now) }
+    requires budget { IsTrue (is_plain budget.now) }
+    ensures form { IfOk result (λ form. form ≡ named_form name.now (project.now ∷ asked.now ∷ budget.now ∷ [])) }
+    ensures formless { named_form name.now (project.now ∷ asked.now ∷ budget.now ∷ []) ≡ None → IsOk result }
+    ensures fit { IfOk result (λ form. IfSome form IsFit) }
+{
+    let Some(leaves) = number_within(1, MOST_LEAVES, budget) else {
+        return Ok(None);
+    };
+    if name.is("consistent") {
+        let (project, table) = read_three(alloc, name, project, asked, budget)?;
+        Ok(Some(Form::Consistent {
+            project,
+            table,
+            budget: leaves,
+        }))
+    } else if name.is("implies") {
+        let (project, dep) = read_three(alloc, name, project, asked, budget)?;
+        Ok(Some(Form::Implies {
+            project,
+            dep,
+            budget: leaves,
+        }))
+    } else {
+        Ok(None)
+    }
+}
+
+fn is_plain(word: &Text) -> bool
+    ensures { result ≡ is_plain word.now }
+{
+    match word.as_str().as_bytes() {
+        [] => false,
+        [first, ..] => *first != b'-',
+    }
+}

@@ -1,0 +1,17 @@
+pub mod Positions
+pub mod Zips
+pub mod NamePlaces
+pub mod Occurring
+pub mod OneTrees
+pub mod NodeLines
+pub mod Laws
+pub mod OneVerdict
+pub mod Apart
+pub mod NamesApart
+pub mod Fitting
+pub mod NodesBack
+pub mod NumberedNames
+pub mod NamesOfOne
+pub mod NamesOfTwo
+pub mod MadeHolds
+pub mod Found

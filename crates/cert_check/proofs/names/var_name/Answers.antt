@@ -1,0 +1,30 @@
+use Rattle.std.proofs.Common.{◌≡◌, ◌+◌, ◌-◌, ◌<◌, ◌≤◌, length, drop, Option, Some, sym, subst, arith}
+use Rattle.std.specs.Prelude.{IfOk}
+use Rattle.rule_parser.specs.RuleText.{attr_name}
+use Rattle.cell_values.specs.declared.values.CellValues.{CellValues}
+use Rattle.cert_text.specs.declared.names.VarName.{VarName}
+use Rattle.cert_check.specs.Names.{attr_vars}
+use Rattle.cert_check.proofs.Found.{IsAt, at_here, at_later, at_next}
+use Rattle.cert_check.proofs.names.var_name.Goals as goal
+
+pub returns-then-place-count-clause-name : goal.returns-then-place-count-clause-name
+returns-then-place-count-clause-name c =
+    let part = λ (cell : CellValues). attr_vars c.args.kind (attr_name c.args.attrs.now cell.attr) cell.values in
+    let all = c.args.values.now in
+    let i = c.loop-cell.cell-index in
+    let item = c.cell-item.result in
+    let at = at_next part all i c.args.number c.loop-cell.place item c.loop-cell-test.true c.cell-item.is c.loop-cell.invariant in
+    let within : c.loop-cell.place < length (part item) = omega (arith, c.var_count-count.ensures (attr_name c.args.attrs.now item.attr), c.if-place-count.true) in
+    let same = at_here part all (drop (i + 1) all) item c.args.number c.loop-cell.place at within in
+    subst (λ (found : Option (VarName)). IfOk c.var_of.result (λ name. found ≡ Some name)) (sym same) c.var_of.ensures.name
+
+pub loop-cell-preserved : goal.loop-cell-preserved
+loop-cell-preserved c =
+    let part = λ (cell : CellValues). attr_vars c.args.kind (attr_name c.args.attrs.now cell.attr) cell.values in
+    let all = c.args.values.now in
+    let i = c.loop-cell.cell-index in
+    let item = c.cell-item.result in
+    let at = at_next part all i c.args.number c.loop-cell.place item c.loop-cell-test.true c.cell-item.is c.loop-cell.invariant in
+    let count = c.var_count-count.ensures (attr_name c.args.attrs.now item.attr) in
+    let past : length (part item) ≤ c.loop-cell.place = omega (arith, count, c.if-place-count.false) in
+    subst (λ n. IsAt part all (drop (i + 1) all) c.args.number (c.loop-cell.place - n)) (sym count) (at_later part all (drop (i + 1) all) item c.args.number c.loop-cell.place at past)

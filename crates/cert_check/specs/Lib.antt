@@ -1,0 +1,5 @@
+pub mod Names
+pub mod Nodes
+pub mod Verdict
+pub mod Right
+pub mod Made

@@ -1,0 +1,61 @@
+//! Copies of declarations.
+
+ghost use Rattle.std.specs.Prelude.{◌≡◌, IfOk};
+
+use cfd_semantics::Pattern;
+use rule_model::{Cell, CfdDecl, CfdRow};
+use schema_core::List;
+use std::alloc::{AllocError, Global};
+
+pub fn copy_cell(cell: &Cell) -> Result<Cell, AllocError>
+    ensures { IfOk result (λ copy. copy ≡ cell.now) }
+{
+    match cell {
+        Pattern::Any => Ok(Pattern::Any),
+        Pattern::Is(value) => Ok(Pattern::Is(value.clone()?)),
+        Pattern::In(values) => Ok(Pattern::In(values.copied()?)),
+        Pattern::NotIn(values) => Ok(Pattern::NotIn(values.copied()?)),
+    }
+}
+
+pub fn copy_cells(alloc: Global, cells: &[Cell]) -> Result<List<Cell>, AllocError>
+    ensures { IfOk result (λ copy. copy ≡ cells.now) }
+{
+    let mut copy = List::new(alloc);
+    for cell in cells {
+        copy.push(copy_cell(cell)?)?;
+    }
+    Ok(copy)
+}
+
+fn copy_row(alloc: Global, row: &CfdRow) -> Result<CfdRow, AllocError>
+    ensures { IfOk result (λ copy. copy ≡ row.now) }
+{
+    Ok(CfdRow {
+        x: copy_cells(alloc, row.x.as_slice())?,
+        y: copy_cells(alloc, row.y.as_slice())?,
+    })
+}
+
+fn copy_rows(alloc: Global, rows: &[CfdRow]) -> Result<List<CfdRow>, AllocError>
+    ensures { IfOk result (λ copy. copy ≡ rows.now) }
+{
+    let mut copy = List::new(alloc);
+    for row in rows {
+        copy.push(copy_row(alloc, row)?)?;
+    }
+    Ok(copy)
+}
+
+/// A copy with memory of its own.
+pub fn copy_decl(alloc: Global, cfd: &CfdDecl) -> Result<CfdDecl, AllocError>
+    ensures { IfOk result (λ copy. copy ≡ cfd.now) }
+{
+    Ok(CfdDecl {
+        name: cfd.name.clone()?,
+        table: cfd.table.clone()?,
+        x: cfd.x.copied()?,
+        y: cfd.y.copied()?,
+        rows: copy_rows(alloc, cfd.rows.as_slice())?,
+    })
+}

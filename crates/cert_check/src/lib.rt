@@ -1,0 +1,22 @@
+//! What certificates say about rules is checked here. A certificate names tables, variables and cells; over a rule book
+//! these names stand for numbers, and its tuples and its tree are judged by what the deciders' questions ask.
+#![tactic(auto)]
+
+mod check;
+mod copies;
+mod made;
+mod named;
+mod names;
+mod places;
+mod tree_lines;
+mod trees;
+mod tuples;
+pub mod verdict;
+
+pub use check::check_cert;
+pub use made::{cert_of_consistency, cert_of_implication};
+pub use tree_lines::tree_text;
+pub use verdict::CertVerdict;
+
+#[cfg(test)]
+mod tests;

@@ -1,0 +1,236 @@
+//! The variables and cells of a question by their names.
+
+ghost use Rattle.std.specs.Prelude.{◌≡◌, ◌+◌, ◌*◌, ◌^◌, ◌<◌, ◌≤◌, Some, All, length, slice_get, IfOk, IfSome};
+ghost use Rattle.std.specs.List.{position_or_len};
+ghost use Rattle.rule_parser.specs.RuleText.{attr_name};
+ghost use Rattle.schema_core.specs.Schemas.{IsValidAttr};
+ghost use Rattle.cell_values.specs.Values.{AreFew, occurring};
+ghost use Rattle.cert_text.specs.Written.{IsCellOf, IsVarOf};
+ghost use Rattle.cert_check.specs.Names.{names_of, attr_vars, attr_cells, same_var, is_cell, var_number, cell_number};
+
+use crate::named::{cell_at, var_at};
+use crate::places::{cell_count, cell_place, var_count, var_place};
+use cell_values::{CellValues, TableRules, occurring};
+use cert_text::answers::Kind;
+use cert_text::{CellName, VarName};
+use schema_core::{Attr, List, Text};
+use std::alloc::{AllocError, Global};
+use std::marker::Model;
+
+/// The values of the attributes that occur in a question of a kind. Clauses see the names of its variables and cells.
+#[derive(Drop)]
+pub struct Naming<'a> {
+    kind: Kind,
+    attrs: &'a [Attr],
+    values: List<CellValues>,
+}
+
+impl<'a> Model for Naming<'a> {
+    ghost use Rattle.std.specs.Prelude.{◌<◌, All, length};
+    ghost use Rattle.schema_core.specs.Schemas.{IsValidAttr};
+    ghost use Rattle.cell_values.specs.Values.{AreFew};
+    ghost use Rattle.cert_check.specs.Names.{Names, names_of};
+
+    ghost Value = { Names };
+
+    ghost view = { λ n. names_of n.kind n.attrs.now n.values };
+
+    ghost invariant = { λ n. AreFew n.values × All (λ cell. cell.attr < length n.attrs.now) n.values × All IsValidAttr n.attrs.now };
+}
+
+impl<'a> Naming<'a> {
+    pub fn new(
+        alloc: Global,
+        kind: Kind,
+        attrs: &'a [Attr],
+        rules: &TableRules<'_>,
+    ) -> Result<Naming<'a>, AllocError>
+        requires { All IsValidAttr attrs.now }
+        ensures { IfOk result (λ names. names ≡ names_of kind attrs.now (occurring attrs.now rules.now)) }
+    {
+        let values = occurring(alloc, attrs, rules)?;
+        Ok(Naming {
+            kind,
+            attrs,
+            values,
+        })
+    }
+
+    /// The number of the variable of that name, or one that no variable has.
+    pub fn var_number(&self, name: &VarName) -> usize
+        ensures { result ≡ var_number self.now name.now }
+    {
+        var_number(self.kind, self.attrs, self.values.as_slice(), name)
+    }
+
+    /// The number of the cell of that name, or one that no cell has.
+    pub fn cell_number(&self, name: &CellName) -> usize
+        ensures { result ≡ cell_number self.now name.now }
+    {
+        cell_number(self.kind, self.attrs, self.values.as_slice(), name)
+    }
+
+    /// The name of a variable.
+    pub fn var_name(&self, alloc: Global, number: usize) -> Result<VarName, AllocError>
+        requires { number < length self.now.vars }
+        ensures name { IfOk result (λ name. slice_get self.now.vars number ≡ Some name) }
+        ensures fit { IfOk result (IsVarOf self.now.kind) }
+    {
+        var_name(alloc, self.kind, self.attrs, self.values.as_slice(), number)
+    }
+
+    /// The name of a cell, if it has one.
+    pub fn cell_name(&self, number: usize) -> Result<Option<CellName>, AllocError>
+        requires { number < length self.now.cells }
+        ensures name { IfOk result (λ name. slice_get self.now.cells number ≡ Some name) }
+        ensures fit { IfOk result (λ name. IfSome name (IsCellOf self.now.kind)) }
+    {
+        cell_name(self.kind, self.attrs, self.values.as_slice(), number)
+    }
+}
+
+pub fn attr_name(attrs: &[Attr], number: usize) -> &Text
+    requires { number < length attrs.now }
+    ensures { result.now ≡ attr_name attrs.now number }
+{
+    &attrs[number].name
+}
+
+/// The place of a variable among those of an attribute, or their number.
+fn var_in(kind: Kind, attrs: &[Attr], cell: &CellValues, name: &VarName) -> usize
+    requires there { cell.now.attr < length attrs.now }
+    requires few { 1 + 2 * length cell.now.values < 2 ^ 64 }
+    ensures { result ≡ position_or_len (same_var name.now) (attr_vars kind (attr_name attrs.now cell.now.attr) cell.now.values) }
+{
+    var_place(kind, attr_name(attrs, cell.attr), &cell.values, name)
+}
+
+/// The place of a cell among those of an attribute, or their number.
+fn cell_in(kind: Kind, attrs: &[Attr], cell: &CellValues, name: &CellName) -> usize
+    requires there { cell.now.attr < length attrs.now }
+    ensures place { result ≡ position_or_len (is_cell name.now) (attr_cells kind (attr_name attrs.now cell.now.attr) cell.now.values) }
+    ensures few { result ≤ 3 }
+{
+    cell_place(kind, attr_name(attrs, cell.attr), &cell.values, name)
+}
+
+fn var_number(kind: Kind, attrs: &[Attr], values: &[CellValues], name: &VarName) -> usize
+    requires few { AreFew values.now }
+    requires there { All (λ cell. cell.attr < length attrs.now) values.now }
+    ensures { result ≡ var_number (names_of kind attrs.now values.now) name.now }
+{
+    let mut first = 0usize;
+    for cell in values {
+        let place = var_in(kind, attrs, cell, name);
+        if place < var_count(kind, &cell.values) {
+            return first + place;
+        }
+        first += place;
+    }
+    first
+}
+
+fn cell_number(kind: Kind, attrs: &[Attr], values: &[CellValues], name: &CellName) -> usize
+    requires few { AreFew values.now }
+    requires there { All (λ cell. cell.attr < length attrs.now) values.now }
+    ensures { result ≡ cell_number (names_of kind attrs.now values.now) name.now }
+{
+    let mut first = 0usize;
+    for cell in values {
+        let place = cell_in(kind, attrs, cell, name);
+        if place < cell_count(kind, &cell.values) {
+            return first + place;
+        }
+        first += place;
+    }
+    first
+}
+
+/// The variable at a place among those of an attribute.
+fn var_of(
+    alloc: Global,
+    kind: Kind,
+    attrs: &[Attr],
+    cell: &CellValues,
+    place: usize,
+) -> Result<VarName, AllocError>
+    requires valid { All IsValidAttr attrs.now }
+    requires there { cell.now.attr < length attrs.now }
+    requires within { place < length (attr_vars kind (attr_name attrs.now cell.now.attr) cell.now.values) }
+    ensures name { IfOk result (λ name. slice_get (attr_vars kind (attr_name attrs.now cell.now.attr) cell.now.values) place ≡ Some name) }
+    ensures fit { IfOk result (IsVarOf kind) }
+{
+    let name = var_at(
+        alloc,
+        kind,
+        attr_name(attrs, cell.attr),
+        &cell.values,
+        place,
+    )?;
+    Ok(name)
+}
+
+/// The cell at a place among those of an attribute, if it has a name.
+fn cell_of(
+    kind: Kind,
+    attrs: &[Attr],
+    cell: &CellValues,
+    place: usize,
+) -> Result<Option<CellName>, AllocError>
+    requires valid { All IsValidAttr attrs.now }
+    requires there { cell.now.attr < length attrs.now }
+    requires within { place < length (attr_cells kind (attr_name attrs.now cell.now.attr) cell.now.values) }
+    ensures name { IfOk result (λ name. slice_get (attr_cells kind (attr_name attrs.now cell.now.attr) cell.now.values) place ≡ Some name) }
+    ensures fit { IfOk result (λ name. IfSome name (IsCellOf kind)) }
+{
+    let name = cell_at(kind, attr_name(attrs, cell.attr), &cell.values, place)?;
+    Ok(name)
+}
+
+fn var_name(
+    alloc: Global,
+    kind: Kind,
+    attrs: &[Attr],
+    values: &[CellValues],
+    number: usize,
+) -> Result<VarName, AllocError>
+    requires few { AreFew values.now }
+    requires valid { All IsValidAttr attrs.now }
+    requires there { All (λ cell. cell.attr < length attrs.now) values.now }
+    requires known { number < length (names_of kind attrs.now values.now).vars }
+    ensures name { IfOk result (λ name. slice_get (names_of kind attrs.now values.now).vars number ≡ Some name) }
+    ensures fit { IfOk result (IsVarOf kind) }
+{
+    let mut place = number;
+    for cell in values {
+        let count = var_count(kind, &cell.values);
+        if place < count {
+            return var_of(alloc, kind, attrs, cell, place);
+        }
+        place -= count;
+    }
+    unreachable!()
+}
+
+fn cell_name(
+    kind: Kind,
+    attrs: &[Attr],
+    values: &[CellValues],
+    number: usize,
+) -> Result<Option<CellName>, AllocError>
+    requires valid { All IsValidAttr attrs.now }
+    requires there { All (λ cell. cell.attr < length attrs.now) values.now }
+    requires known { number < length (names_of kind attrs.now values.now).cells }
+    ensures name { IfOk result (λ name. slice_get (names_of kind attrs.now values.now).cells number ≡ Some name) }
+    ensures fit { IfOk result (λ name. IfSome name (IsCellOf kind)) }
+{
+    let mut place = number;
+    for cell in values {
+        let count = cell_count(kind, &cell.values);
+        if place < count {
+            return cell_of(kind, attrs, cell, place);
+        }
+        place -= count;
+    }
+    unreachable!()
+}

@@ -1,0 +1,5 @@
+pub mod Fetching
+pub mod Output
+pub mod Refusals
+pub mod RuleFiles
+pub mod Statuses

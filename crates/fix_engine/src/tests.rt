@@ -1,0 +1,7 @@
+//! Fixes over the tables of an example, with what they are by the definition, and fixes by drawn rules beside all ends
+//! of maximal runs.
+
+mod drawn;
+mod ends;
+mod example;
+mod setup;

@@ -1,0 +1,51 @@
+-- Certificates as outputs: the text of one that answers a question, with the status of its answer.
+use Rattle.std.specs.Prelude.{◌≡◌, ℕ, ◌<◌, Option, None, Some, IfSome}
+use Rattle.rule_model.specs.Books.{Book}
+use Rattle.cert_text.specs.CertFiles.{kind_of}
+use Rattle.cert_text.specs.CertText.{cert_text}
+use Rattle.cert_text.specs.declared.answers.Kind.{Kind}
+use Rattle.cert_text.specs.declared.answers.Kind.TheVariants.{Consistency, Implication}
+use Rattle.cert_text.specs.declared.cert.Answer.{Answer}
+use Rattle.cert_text.specs.declared.cert.Answer.TheVariants.{Witness, Counter, Tree}
+use Rattle.cert_text.specs.declared.cert.CertParts.{CertParts}
+use Rattle.cert_text.specs.declared.cert.Question.{Question}
+use Rattle.cert_check.specs.Verdict.{IsVerdict}
+use Rattle.cert_check.specs.declared.verdict.CertVerdict.TheVariants.{Holds}
+use Rattle.cli_output.specs.declared.status.Status.{Status}
+use Rattle.cli_output.specs.declared.status.Status.TheVariants.{Clean, Findings, Spent}
+use Rattle.cli_output.specs.Output.{Outputs}
+
+-- A tree that leaves no case open: no tuple satisfies the rules, or whatever satisfies them satisfies the asked dependency.
+abbrev pub closed_status : Kind → Status
+closed_status Consistency = Findings
+closed_status Implication = Clean
+
+abbrev pub tree_status : Kind → Option ℕ → Status
+tree_status kind None = closed_status kind
+tree_status kind (Some budget) = Spent
+
+-- a tuple shows that the rules are consistent, and two that the dependency isn't implied
+abbrev pub answer_status : Kind → Answer → Status
+answer_status kind (Witness one) = Clean
+answer_status kind (Counter one other) = Findings
+answer_status kind (Tree tree) = tree_status kind tree.budget
+
+abbrev pub cert_status : CertParts → Status
+cert_status cert = answer_status (kind_of cert.asked.question) cert.answer
+
+-- the budget, where it was spent
+abbrev pub spent_budget : Answer → Option ℕ
+spent_budget (Witness one) = None
+spent_budget (Counter one other) = None
+spent_budget (Tree tree) = tree.budget
+
+-- A certificate that answers a question with a budget. It asks the question, and it holds over the rules. Where the budget
+-- was spent, that is the given one, and it is less than enough.
+pub record Answers (rules : Book) (question : Question) (budget enough : ℕ) (cert : CertParts) : Type 0 where
+  pub asks : cert.asked.question ≡ question
+  pub holds : IsVerdict rules cert Holds
+  pub spent : IfSome (spent_budget cert.answer) (λ named. (named ≡ budget) × (budget < enough))
+
+-- the canonical text of such a certificate, with the status of its answer
+abbrev pub certificates : (CertParts → Type 0) → Outputs
+certificates IsOne bytes status = (cert : CertParts) × IsOne cert × (bytes ≡ cert_text cert) × (status ≡ cert_status cert)

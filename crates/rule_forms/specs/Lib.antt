@@ -1,0 +1,4 @@
+pub mod Certificates
+pub mod CheckForm
+pub mod ConsistentForm
+pub mod ImpliesForm

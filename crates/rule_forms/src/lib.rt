@@ -1,0 +1,12 @@
+//! The forms that ask about the rules of a project alone: whether the dependencies of a table are consistent, whether they
+//! imply one more, and whether a certificate holds. Each answers with a certificate, or with the verdict on one.
+#![tactic(auto)]
+
+mod certificates;
+pub mod check_form;
+pub mod consistent_form;
+pub mod implies_form;
+
+pub use check_form::check_project;
+pub use consistent_form::consistent_project;
+pub use implies_form::implies_project;

@@ -1,0 +1,32 @@
+use Rattle.std.proofs.Common.{◌≡◌, ◌<◌, ◌≤◌, ◌+◌, ◌++◌, ◌∙◌, sym, ap, length, map, take, arith}
+use Rattle.std.proofs.lemmas.List.{length-append, length-map, take_all}
+use Rattle.cfd_semantics.specs.Numbered.{numbered}
+use Rattle.rule_model.specs.Books.{book_deps}
+use Rattle.bench_core.specs.Answers.{dep_violations, violations_at}
+use Rattle.violation_report.specs.Listing.{dep_line}
+use Rattle.violation_report.proofs.Loops.{dep-lines-more}
+use Rattle.violation_report.proofs.counting.count_deps.Goals as goal
+
+pub violation_count-requires : goal.violation_count-requires
+violation_count-requires g c =
+    let bench = c.args.bench.now in
+    let rules : c.as_slice-number-end.result.now ≡ book_deps bench.rules = c.as_slice-number-end.ensures ∙ c.deps.ensures.deps ∙ ap book_deps c.rules.ensures.value in
+    rw rules at c.loop-number-test.true
+
+pub loop-number-preserved : goal.loop-number-preserved
+loop-number-preserved g c =
+    let bench = c.args.bench.now in
+    let rules : c.as_slice-number-end.result.now ≡ book_deps bench.rules = c.as_slice-number-end.ensures ∙ c.deps.ensures.deps ∙ ap book_deps c.rules.ensures.value in
+    let within : c.loop-number.number < length (book_deps bench.rules) = rw rules at c.loop-number-test.true in
+    let front = map dep_line (numbered (dep_violations bench.history.present) (take c.loop-number.number (book_deps bench.rules))) in
+    let more = violations_at bench.rules bench.history.present c.loop-number.number in
+    c.in_ok-count.ensures
+    ∙ (λ i. c.loop-number.invariant i + c.in_ok-more.ensures i)
+    ∙ sym (ap (λ ls. length ls) (dep-lines-more bench.rules bench.history.present c.loop-number.number within) ∙ length-append front (map (λ found. dep_line (c.loop-number.number, found)) more) ∙ ap (λ n. length front + n) (length-map more (λ found. dep_line (c.loop-number.number, found))))
+
+pub returns : goal.returns
+returns g c =
+    let bench = c.args.bench.now in
+    let rules : c.as_slice-number-end.result.now ≡ book_deps bench.rules = c.as_slice-number-end.ensures ∙ c.deps.ensures.deps ∙ ap book_deps c.rules.ensures.value in
+    let past : length (book_deps bench.rules) ≤ c.loop-number.number = rw (← rules) c.loop-number-test.false in
+    rw (take_all c.loop-number.number (book_deps bench.rules) past) at c.loop-number.invariant
