@@ -9,7 +9,7 @@ use Rattle.std.proofs.lemmas.List.Elements.{All-append, All-cons, All-head, All-
 use Rattle.std.proofs.lemmas.List.{length-map}
 use Rattle.std.proofs.lemmas.Option.{get_or_from_slice_get, none-some, same_Some, slice_get_read, slice_get_within}
 use Rattle.std.proofs.lemmas.Slice.Zip.{AllZip-long}
-use Rattle.value_pool.specs.Pool.{AreDistinct}
+use Rattle.value_pool.specs.Pool.{HaveOneId}
 use Rattle.cfd_semantics.specs.declared.violation.Violation.{Violation}
 use Rattle.cfd_semantics.specs.Renaming.{renamed_rows}
 use Rattle.cfd_semantics.specs.Violation.{entries, violations}
@@ -108,7 +108,7 @@ module _ (rules : Book) (texts : List (List ℕ)) (tables : List Stored) (index 
       ∙ ap (λ rs. orphans bytes_eq cind.rule (left_entries cind.rule (rows_at state cind.left)) (right_entries cind.rule rs)) (renamed-is texts tables cind.right)
       ∙ sym (ap (λ o. option_map_or (cind_orphans state) o []) at)
 
-  module _ (distinct : AreDistinct texts) (number : ℕ) where
+  module _ (distinct : HaveOneId texts) (number : ℕ) where
     pub violations-are : (found : List (ℕ × Violation)) → number < length (book_deps rules) → AreViolationsOfDep index.index number found → found ≡ violations_at rules state number
     violations-are found within are =
         let (dep, at) = item-there (book_deps rules) number within in

@@ -12,7 +12,7 @@ use Rattle.rule_model.specs.Books.{Book}
 use Rattle.bench_core.specs.State.{Row, TableState, State, rows_at}
 use Rattle.bench_core.specs.Loading.{Tuples, loaded_table}
 use Rattle.bench_core.specs.Stored.{Stored, StoredRow, stored, row_of, table_state, state_of, HaveTexts, RowsHaveTexts}
-use Rattle.edit_log.specs.Trail.{Trail}
+use Rattle.edit_log.specs.Journal.{Journal}
 use Rattle.bench_core.specs.Changes.{IsChange}
 use Rattle.bench_core.specs.Bench.{IsBench, AreCounts, Holds}
 use Rattle.bench_core.proofs.Numbers.{enumerate_from-push}
@@ -92,10 +92,10 @@ pub length-state : (texts : List (List ℕ)) (stores : List Store) → length (s
 length-state texts stores = length-map (map stored stores) (table_state texts) ∙ length-map stores stored
 
 -- a bench that is loaded has no changes yet
-pub held-fresh : (rules : Book) (limits : Limits) (texts : List (List ℕ)) (log : Trail) (stores : List Store) (weights : List ℕ) (rows cells : ℕ) → log.past ≡ [] → log.undone ≡ [] → IsBench rules limits (state_of texts (map stored stores))
+pub held-fresh : (rules : Book) (limits : Limits) (texts : List (List ℕ)) (log : Journal) (stores : List Store) (weights : List ℕ) (rows cells : ℕ) → log.past ≡ [] → log.undone ≡ [] → IsBench rules limits (state_of texts (map stored stores))
     → AreCounts rules (state_of texts (map stored stores)) weights rows cells → All (λ (store : Store). RowsHaveTexts texts store.rows) stores → Holds rules limits texts log (map stored stores) weights rows cells
 held-fresh rules limits texts log stores weights rows cells past undone bench counts named =
-    let none : Trail = record { past = []; undone = []; spare = 0 } in
+    let none : Journal = record { past = []; undone = []; spare = 0 } in
     let held : Holds rules limits texts none (map stored stores) weights rows cells = record {
       history = record { past = All-nil (IsBench rules limits); present = bench; undone = All-nil (IsBench rules limits) };
       counts = counts;

@@ -10,7 +10,7 @@ use Rattle.rule_model.specs.Books.{Book}
 use Rattle.row_store.specs.Store.{Store}
 use Rattle.row_store.specs.Tuple.{Tuple, ids_if, ids_of}
 use Rattle.edit_log.specs.declared.change.Change.{Change}
-use Rattle.edit_log.specs.Trail.{Trail, last_of, first_of}
+use Rattle.edit_log.specs.Journal.{Journal, last_change, first_change}
 use Rattle.edit_log.specs.Log.{MovesBack, MovesForward}
 use Rattle.value_pool.specs.Pool.{KeepsIds}
 use Rattle.std.specs.Result.{IsErrAnd}
@@ -65,11 +65,11 @@ pub no-undone : (texts : List (List ℕ)) (undone : List Change) (tables : List 
 no-undone texts [] tables is = refl
 no-undone texts (change ∷ undone) tables is = absurd (cc)
 
-pub some-last : (past : List Change) (change : Change) → last_of past ≡ Some change → past ≡ [] → ⊥
-some-last past change is none = none-some change (sym (ap last_of none) ∙ is)
+pub some-last : (past : List Change) (change : Change) → last_change past ≡ Some change → past ≡ [] → ⊥
+some-last past change is none = none-some change (sym (ap last_change none) ∙ is)
 
-pub some-first : (undone : List Change) (change : Change) → first_of undone ≡ Some change → undone ≡ [] → ⊥
-some-first undone change is none = none-some change (sym (ap first_of none) ∙ is)
+pub some-first : (undone : List Change) (change : Change) → first_change undone ≡ Some change → undone ≡ [] → ⊥
+some-first undone change is none = none-some change (sym (ap first_change none) ∙ is)
 
 -- ---- results and tuples
 
@@ -161,8 +161,8 @@ there-within P (t ∷ tables) (suc n) holds = let later = there-within P tables 
 
 -- ---- a change is taken back
 
-module _ {rules : Book} {limits : Limits} {texts : List (List ℕ)} {log : Trail} {tables : List Stored} {weights : List ℕ} {rows cells : ℕ} (held : Holds rules limits texts log tables weights rows cells) (change : Change) where
-  module _ (last : last_of log.past ≡ Some change) where
+module _ {rules : Book} {limits : Limits} {texts : List (List ℕ)} {log : Journal} {tables : List Stored} {weights : List ℕ} {rows cells : ℕ} (held : Holds rules limits texts log tables weights rows cells) (change : Change) where
+  module _ (last : last_change log.past ≡ Some change) where
     front : (past : List Change) × (log.past ≡ past ++ change ∷ [])
     front = last-splits log.past change last
 
@@ -182,7 +182,7 @@ module _ {rules : Book} {limits : Limits} {texts : List (List ℕ)} {log : Trail
     pub bench-back : IsBench rules limits (state_of texts (taken_back change tables))
     bench-back = (history-back rules limits _ _ back-is held.history).present
 
-  module _ (after : Trail) (moved : MovesBack (Some change) log after) where
+  module _ (after : Journal) (moved : MovesBack (Some change) log after) where
     made-last : WereMade after.past (taken_back change tables) × IsSomeAnd (slice_get tables change.table) (HasMade change)
     made-last = were-made-pop change tables after.past (subst (λ past. WereMade past tables) moved.0 held.past)
 
@@ -207,7 +207,7 @@ module _ {rules : Book} {limits : Limits} {texts : List (List ℕ)} {log : Trail
 
   -- ---- a change is made again
 
-  module _ (first : first_of log.undone ≡ Some change) where
+  module _ (first : first_change log.undone ≡ Some change) where
     rest : (undone : List Change) × (log.undone ≡ change ∷ undone)
     rest = first-splits log.undone change first
 
@@ -223,7 +223,7 @@ module _ {rules : Book} {limits : Limits} {texts : List (List ℕ)} {log : Trail
     pub bench-forward : IsBench rules limits (state_of texts (made_again change tables))
     bench-forward = (history-forward rules limits _ _ forward-is held.history).present
 
-  module _ (after : Trail) (moved : MovesForward (Some change) log after) where
+  module _ (after : Journal) (moved : MovesForward (Some change) log after) where
     can-first : IsSomeAnd (slice_get tables change.table) (CanMake change) × CanBeMade after.undone (made_again change tables)
     can-first = subst (λ undone. CanBeMade undone tables) moved.1 held.undone
 
@@ -251,7 +251,7 @@ module _ {rules : Book} {limits : Limits} {texts : List (List ℕ)} {log : Trail
   -- ---- a change is made for the first time
 
   module _ (can : IsSomeAnd (slice_get tables change.table) (CanMake change)) (is : IsChange texts change) (next : IsBench rules limits (state_of texts (made_again change tables)))
-      (after : Trail) (past-is : after.past ≡ log.past ++ change ∷ []) (undone-is : after.undone ≡ []) where
+      (after : Journal) (past-is : after.past ≡ log.past ++ change ∷ []) (undone-is : after.undone ≡ []) where
     pub history-was-accepted : history_of texts after.past after.undone (made_again change tables) ≡ accepted (history_of texts log.past log.undone tables) (state_of texts (made_again change tables))
     history-was-accepted = (λ i. history_of texts (past-is i) (undone-is i) (made_again change tables)) ∙ history-accepted texts change tables log.past log.undone can
 
@@ -293,7 +293,7 @@ id-left rules limits texts tables n table change bench at can =
 
 -- ---- the pool grows
 
-pub held-named : {rules : Book} {limits : Limits} {log : Trail} {tables : List Stored} {weights : List ℕ} {rows cells : ℕ} (old new : List (List ℕ)) → KeepsIds old new → Holds rules limits old log tables weights rows cells → Holds rules limits new log tables weights rows cells
+pub held-named : {rules : Book} {limits : Limits} {log : Journal} {tables : List Stored} {weights : List ℕ} {rows cells : ℕ} (old new : List (List ℕ)) → KeepsIds old new → Holds rules limits old log tables weights rows cells → Holds rules limits new log tables weights rows cells
 held-named {rules} {limits} {log} {tables} {weights} {rows} {cells} old new kept held = record {
   history = subst (IsHistory rules limits) (sym (history-kept old new kept log.past log.undone tables held.past-named held.undone-named held.named)) held.history;
   counts = subst (λ state. AreCounts rules state weights rows cells) (sym (state-kept old new kept tables held.named)) held.counts;
@@ -305,7 +305,7 @@ held-named {rules} {limits} {log} {tables} {weights} {rows} {cells} old new kept
 }
 
 -- a log with the same changes
-pub held-log : {rules : Book} {limits : Limits} {texts : List (List ℕ)} {log : Trail} {tables : List Stored} {weights : List ℕ} {rows cells : ℕ} (after : Trail) → after.past ≡ log.past → after.undone ≡ log.undone → Holds rules limits texts log tables weights rows cells → Holds rules limits texts after tables weights rows cells
+pub held-log : {rules : Book} {limits : Limits} {texts : List (List ℕ)} {log : Journal} {tables : List Stored} {weights : List ℕ} {rows cells : ℕ} (after : Journal) → after.past ≡ log.past → after.undone ≡ log.undone → Holds rules limits texts log tables weights rows cells → Holds rules limits texts after tables weights rows cells
 held-log {rules} {limits} {texts} {log} {tables} {weights} {rows} {cells} after past undone held = record {
   history = subst (λ changes. IsHistory rules limits (history_of texts changes after.undone tables)) (sym past) (subst (λ changes. IsHistory rules limits (history_of texts log.past changes tables)) (sym undone) held.history);
   counts = held.counts;

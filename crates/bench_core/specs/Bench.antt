@@ -5,7 +5,7 @@ use Rattle.schema_core.specs.Limits.{AreLimits}
 use Rattle.schema_core.specs.declared.limits.Limits.{Limits}
 use Rattle.rule_model.specs.Books.{Book}
 use Rattle.bench_core.specs.State.{State, IsTableState}
-use Rattle.edit_log.specs.Trail.{Trail}
+use Rattle.edit_log.specs.Journal.{Journal}
 use Rattle.edit_log.specs.declared.change.Change.{Change}
 use Rattle.bench_core.specs.History.{History}
 use Rattle.bench_core.specs.Stored.{Stored, stored, state_of, RowsHaveTexts}
@@ -58,7 +58,7 @@ AtTable project change P = IsSomeAnd (slice_get (tables_of project) change.table
 
 -- Each state that the log leads to is one that the bench may have, the numbers are those of the present state, the
 -- changes of the log lead from table to table, and each value id has a text.
-pub record Holds (rules : Book) (limits : Limits) (texts : List (List ℕ)) (log : Trail) (tables : List Stored) (weights : List ℕ) (rows cells : ℕ) : Type 0 where
+pub record Holds (rules : Book) (limits : Limits) (texts : List (List ℕ)) (log : Journal) (tables : List Stored) (weights : List ℕ) (rows cells : ℕ) : Type 0 where
   pub history : IsHistory rules limits (history_of texts log.past log.undone tables)
   pub counts : AreCounts rules (state_of texts tables) weights rows cells
   pub past : WereMade log.past tables

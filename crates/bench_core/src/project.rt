@@ -5,7 +5,7 @@ ghost use Rattle.schema_core.specs.Schemas.{table_place};
 ghost use Rattle.schema_core.specs.Faults.{GivesUnlessMemory};
 ghost use Rattle.row_store.specs.Tuple.{ids_if};
 ghost use Rattle.row_store.specs.Watches.{with_row};
-ghost use Rattle.edit_log.specs.Trail.{first_of, last_of};
+ghost use Rattle.edit_log.specs.Journal.{first_change, last_change};
 ghost use Rattle.edit_log.specs.Log.{MovesBack, MovesForward};
 ghost use Rattle.bench_core.specs.State.{rows_at};
 ghost use Rattle.bench_core.specs.Edited.{edited, name_of_table, refusal_of};
@@ -68,14 +68,14 @@ fn told_of(change: &Change) -> Applied
 
 /// Moves the last past change to the undone ones.
 fn step_back(log: &mut Log)
-    ensures { MovesBack (last_of log.old.past) log.old log.new }
+    ensures { MovesBack (last_change log.old.past) log.old log.new }
 {
     log.back();
 }
 
 /// Moves the next undone change to the past ones.
 fn step_forward(log: &mut Log)
-    ensures { MovesForward (first_of log.old.undone) log.old log.new }
+    ensures { MovesForward (first_change log.old.undone) log.old log.new }
 {
     log.forward();
 }

@@ -7,7 +7,7 @@ use Rattle.std.proofs.lemmas.Bool.Decides.{nat_tests}
 use Rattle.std.proofs.lemmas.List.Elements.{All-nil, All-cons}
 use Rattle.std.proofs.lemmas.Option.{slice_get-get_or, slice_get_within, get_or_from_slice_get}
 use Rattle.std.proofs.lemmas.Slice.Eq.{bytes_eq-Decides}
-use Rattle.value_pool.specs.Pool.{HasId, AreDistinct}
+use Rattle.value_pool.specs.Pool.{HasId, HaveOneId}
 use Rattle.cfd_semantics.specs.declared.pattern.Pattern.{Pattern}
 use Rattle.cfd_semantics.specs.declared.pattern.Pattern.TheVariants.{Any, Is, In, NotIn}
 use Rattle.cfd_semantics.specs.declared.dependency.TableauRow.{TableauRow}
@@ -120,7 +120,7 @@ module _ (texts : List (List ℕ)) where
       let yp = sym is.yp in
       λ i. record { x = x i; xp = xp i; y = y i; yp = yp i; rows = rows i }
 
-  module _ (distinct : AreDistinct texts) where
+  module _ (distinct : HaveOneId texts) where
     pub kept_apart : KeepsApart (HasText texts) (text_of texts) nat_eq bytes_eq
     kept_apart = record { same = λ v w v_known w_known. by v w v_known w_known (bytes_eq (text_of texts v) (text_of texts w)) refl }
       where

@@ -4,7 +4,7 @@ use Rattle.std.specs.Prelude.{nat_eq, All, IsTrue, slice_index}
 use Rattle.std.specs.Option.{option_map}
 use Rattle.std.specs.Str.{bytes_eq}
 use Rattle.std.proofs.lemmas.List.Elements.{All-map, All-head, All-tail}
-use Rattle.value_pool.specs.Pool.{AreDistinct}
+use Rattle.value_pool.specs.Pool.{HaveOneId}
 use Rattle.cfd_semantics.specs.declared.dependency.TableauRow.{TableauRow}
 use Rattle.cfd_semantics.specs.declared.dependency.Dependency.{Dependency}
 use Rattle.cfd_semantics.specs.Pattern.{matches, all_match}
@@ -23,7 +23,7 @@ use Rattle.group_index.specs.Answers.{IsPartnerOf}
 use Rattle.group_index.specs.Keys.{ids_at}
 use Rattle.group_index.specs.Laws.{entry_there}
 use Rattle.bench_index.specs.ByIds.{text_of, HasText, IsRowByIds}
-use Rattle.bench_index.specs.Lists.{text_at, texts_at}
+use Rattle.bench_index.specs.Lists.{text_of_cell, texts_at}
 use Rattle.bench_index.proofs.InTexts.{kept_apart, row-texts, row-known}
 
 module _ (s : GroupSet) (t : TableauRow ℕ) (e : Entry ℕ) (all : List (Entry ℕ)) (list : IsEntryList (holds_entry s) all) where
@@ -41,7 +41,7 @@ module _ (s : GroupSet) (t : TableauRow ℕ) (e : Entry ℕ) (all : List (Entry 
 
 texts_of_ids : (texts : List (List ℕ)) (ids x : List ℕ) → texts_at texts ids x ≡ map (text_of texts) (ids_at ids x)
 texts_of_ids texts ids [] = refl
-texts_of_ids texts ids (attribute ∷ x) = ap (λ rest. text_at texts ids attribute ∷ rest) (texts_of_ids texts ids x)
+texts_of_ids texts ids (attribute ∷ x) = ap (λ rest. text_of_cell texts ids attribute ∷ rest) (texts_of_ids texts ids x)
 
 same_Some : {X : Type 0} (x y : X) → Some x ≡ Some y → x ≡ y
 same_Some x y is = cc
@@ -51,8 +51,8 @@ module _ (texts : List (List ℕ)) (ids : List ℕ) (named : All (HasText texts)
   ids_named x wide = All-map (HasText texts) (slice_index ids) x (λ k d below. named _ 0 (wide k d below))
 
   -- whether it violates a tableau row alone is the same among ids
-  pub single_by_ids : (distinct : AreDistinct texts) (d : Dependency ℕ) (row : ℕ) (e : Entry ℕ) (text_row : TableauRow (List ℕ)) (t : TableauRow ℕ) → IsWide (d.a ∷ d.x) ids → entry_of d (row, ids) ≡ Some e → IsRowByIds texts text_row t
-      → (all_match bytes_eq text_row.x (texts_at texts ids d.x) && not (matches bytes_eq text_row.a (text_at texts ids d.a))) ≡ is_single nat_eq t e
+  pub single_by_ids : (distinct : HaveOneId texts) (d : Dependency ℕ) (row : ℕ) (e : Entry ℕ) (text_row : TableauRow (List ℕ)) (t : TableauRow ℕ) → IsWide (d.a ∷ d.x) ids → entry_of d (row, ids) ≡ Some e → IsRowByIds texts text_row t
+      → (all_match bytes_eq text_row.x (texts_at texts ids d.x) && not (matches bytes_eq text_row.a (text_of_cell texts ids d.a))) ≡ is_single nat_eq t e
   single_by_ids distinct d row e text_row t wide is by_ids =
       let own : Entry ℕ = record { x = ids_at ids d.x; a = slice_index ids d.a; row = row } in
       let same : own ≡ e = same_Some own e (sym (entry_there (record { table = 0; dependency = d }) row ids wide) ∙ is) in
@@ -61,8 +61,8 @@ module _ (texts : List (List ℕ)) (ids : List ℕ) (named : All (HasText texts)
         a = named d.a 0 (All-head (λ attribute. attribute < length ids) d.a d.x wide);
       } in
       let test = is_single-renamed (kept_apart texts distinct) t own (row-known texts text_row t by_ids) known in
-      ap (λ (r : TableauRow (List ℕ)). all_match bytes_eq r.x (texts_at texts ids d.x) && not (matches bytes_eq r.a (text_at texts ids d.a))) (row-texts texts text_row t by_ids)
-      ∙ ap (λ xs. all_match bytes_eq (map (renamed_cell (text_of texts)) t.x) xs && not (matches bytes_eq (renamed_cell (text_of texts) t.a) (text_at texts ids d.a))) (texts_of_ids texts ids d.x)
+      ap (λ (r : TableauRow (List ℕ)). all_match bytes_eq r.x (texts_at texts ids d.x) && not (matches bytes_eq r.a (text_of_cell texts ids d.a))) (row-texts texts text_row t by_ids)
+      ∙ ap (λ xs. all_match bytes_eq (map (renamed_cell (text_of texts)) t.x) xs && not (matches bytes_eq (renamed_cell (text_of texts) t.a) (text_of_cell texts ids d.a))) (texts_of_ids texts ids d.x)
       ∙ test ∙ ap (is_single nat_eq t) same
 
 -- ---- a left row of an inclusion

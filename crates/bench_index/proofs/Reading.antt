@@ -6,7 +6,7 @@ use Rattle.std.specs.Option.{option_map, option_map_or, option_to_list}
 use Rattle.std.specs.Str.{bytes_eq}
 use Rattle.std.proofs.lemmas.Bool.Decides.{nat_tests}
 use Rattle.std.proofs.lemmas.Option.{get_or_from_slice_get, slice_get_within}
-use Rattle.value_pool.specs.Pool.{AreDistinct}
+use Rattle.value_pool.specs.Pool.{HaveOneId}
 use Rattle.cfd_semantics.specs.declared.violation.Violation.{Violation}
 use Rattle.cfd_semantics.specs.declared.dependency.TableauRow.{TableauRow}
 use Rattle.cfd_semantics.specs.declared.inclusion.InclusionRow.{InclusionRow}
@@ -89,7 +89,7 @@ module _ (index : BenchIndex) (number : ℕ) (s : GroupSet) (here : slice_get in
       record { rule = is.rule; list = entries_of_rows nat_eq exact_ids s.made.dependency rows (tuples s.made.table) (holds_entry s) found given }
 
   read_fact : (Fact : List (ℕ × Violation) → Type 0) → OfViolations s Fact
-      → (rules : Book) (texts : List (List ℕ)) (tuples : ℕ → ℕ → Option (List ℕ)) (dep : Dep) (rows : List (ℕ × List ℕ)) → AreDistinct texts → AreIndexesOf rules texts index → AreInStep group_watch tuples index.groups.items
+      → (rules : Book) (texts : List (List ℕ)) (tuples : ℕ → ℕ → Option (List ℕ)) (dep : Dep) (rows : List (ℕ × List ℕ)) → HaveOneId texts → AreIndexesOf rules texts index → AreInStep group_watch tuples index.groups.items
       → slice_get (book_deps rules) number ≡ Some dep → AreRowsInTexts texts (tuples dep.table) rows → Fact (violations bytes_eq dep.rule (entries dep.rule (renamed_rows (text_of texts) rows)))
   read_fact Fact fact rules texts tuples dep rows distinct are in_step at are_rows =
       let of = of_dep rules texts tuples dep rows are in_step at are_rows in
@@ -159,7 +159,7 @@ module _ (index : BenchIndex) (number : ℕ) (s : CindIndex) (here : slice_get i
       }
 
   read_orphan_fact : (Fact : List (ℕ × ℕ) → Type 0) → OfOrphans s Fact
-      → (rules : Book) (texts : List (List ℕ)) (tuples : ℕ → ℕ → Option (List ℕ)) (cind : Cind) (left_rows right_rows : List (ℕ × List ℕ)) → AreDistinct texts → AreIndexesOf rules texts index → AreInStep cind_watch tuples index.cinds.items
+      → (rules : Book) (texts : List (List ℕ)) (tuples : ℕ → ℕ → Option (List ℕ)) (cind : Cind) (left_rows right_rows : List (ℕ × List ℕ)) → HaveOneId texts → AreIndexesOf rules texts index → AreInStep cind_watch tuples index.cinds.items
       → slice_get (book_cinds rules) number ≡ Some cind → AreRowsInTexts texts (tuples cind.left) left_rows → AreRowsInTexts texts (tuples cind.right) right_rows
       → Fact (orphans bytes_eq cind.rule (left_entries cind.rule (renamed_rows (text_of texts) left_rows)) (right_entries cind.rule (renamed_rows (text_of texts) right_rows)))
   read_orphan_fact Fact fact rules texts tuples cind left_rows right_rows distinct are in_step at are_lefts are_rights =

@@ -2,7 +2,7 @@
 use Rattle.std.specs.Prelude.{◌≡◌, ℕ, ◌↔◌, List, Contains, Option, Some, slice_get}
 use Rattle.std.specs.List.{AllZip}
 use Rattle.std.specs.Str.{bytes_eq}
-use Rattle.value_pool.specs.Pool.{AreDistinct}
+use Rattle.value_pool.specs.Pool.{HaveOneId}
 use Rattle.cfd_semantics.specs.EntrySets.{IsRising}
 use Rattle.cfd_semantics.specs.Renaming.{renamed_rows, HasKnownTuples}
 use Rattle.cfd_semantics.specs.Violation.{entries, violations}
@@ -51,7 +51,7 @@ pub record AreRowsInTexts (texts : List (List ℕ)) (tuple_at : ℕ → Option (
 abbrev pub AreViolationsOfDep : BenchIndex → ℕ → List (ℕ × Violation) → Type 0
 AreViolationsOfDep index number found =
     (rules : Book) (texts : List (List ℕ)) (tuples : ℕ → ℕ → Option (List ℕ)) (dep : Dep) (rows : List (ℕ × List ℕ))
-    → AreDistinct texts → AreIndexesOf rules texts index → AreInStep group_watch tuples index.groups.items
+    → HaveOneId texts → AreIndexesOf rules texts index → AreInStep group_watch tuples index.groups.items
     → slice_get (book_deps rules) number ≡ Some dep → AreRowsInTexts texts (tuples dep.table) rows
     → found ≡ violations bytes_eq dep.rule (entries dep.rule (renamed_rows (text_of texts) rows))
 
@@ -59,6 +59,6 @@ AreViolationsOfDep index number found =
 abbrev pub AreOrphansOfCind : BenchIndex → ℕ → List (ℕ × ℕ) → Type 0
 AreOrphansOfCind index number found =
     (rules : Book) (texts : List (List ℕ)) (tuples : ℕ → ℕ → Option (List ℕ)) (cind : Cind) (lefts rights : List (ℕ × List ℕ))
-    → AreDistinct texts → AreIndexesOf rules texts index → AreInStep cind_watch tuples index.cinds.items
+    → HaveOneId texts → AreIndexesOf rules texts index → AreInStep cind_watch tuples index.cinds.items
     → slice_get (book_cinds rules) number ≡ Some cind → AreRowsInTexts texts (tuples cind.left) lefts → AreRowsInTexts texts (tuples cind.right) rights
     → found ≡ orphans bytes_eq cind.rule (left_entries cind.rule (renamed_rows (text_of texts) lefts)) (right_entries cind.rule (renamed_rows (text_of texts) rights))

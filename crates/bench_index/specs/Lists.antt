@@ -46,8 +46,8 @@ AreOrphanLinesOf index row ids lines =
 
 -- ---- the texts that a tuple of ids has at attributes
 
-abbrev pub text_at : List (List ℕ) → List ℕ → ℕ → List ℕ
-text_at texts ids attribute = text_of texts (slice_index ids attribute)
+abbrev pub text_of_cell : List (List ℕ) → List ℕ → ℕ → List ℕ
+text_of_cell texts ids attribute = text_of texts (slice_index ids attribute)
 
 abbrev pub texts_at : List (List ℕ) → List ℕ → List ℕ → List (List ℕ)
-texts_at texts ids attributes = map (text_at texts ids) attributes
+texts_at texts ids attributes = map (text_of_cell texts ids) attributes

@@ -2,7 +2,7 @@
 use Rattle.std.specs.Prelude.{◌≡◌, ℕ, ◌==◌, ◌∷◌, ◌++◌, List, length, filter, All, Option, Some, slice_get}
 use Rattle.std.specs.Option.{ForSome}
 use Rattle.std.specs.Str.{bytes_eq}
-use Rattle.value_pool.specs.Pool.{AreDistinct}
+use Rattle.value_pool.specs.Pool.{HaveOneId}
 use Rattle.cfd_semantics.specs.Renaming.{renamed_rows}
 use Rattle.cfd_semantics.specs.Violation.{entries, violations}
 use Rattle.cfd_semantics.specs.Orphan.{left_entries, right_entries, orphans}
@@ -35,7 +35,7 @@ IsWideForCind index number ids = ForSome (slice_get index.cinds.items number) (�
 abbrev pub IsViolationCountOfDep : BenchIndex → ℕ → ℕ → Type 0
 IsViolationCountOfDep index number count =
     (rules : Book) (texts : List (List ℕ)) (tuples : ℕ → ℕ → Option (List ℕ)) (dep : Dep) (rows : List (ℕ × List ℕ))
-    → AreDistinct texts → AreIndexesOf rules texts index → AreInStep group_watch tuples index.groups.items
+    → HaveOneId texts → AreIndexesOf rules texts index → AreInStep group_watch tuples index.groups.items
     → slice_get (book_deps rules) number ≡ Some dep → AreRowsInTexts texts (tuples dep.table) rows
     → count ≡ length (violations bytes_eq dep.rule (entries dep.rule (renamed_rows (text_of texts) rows)))
 
@@ -43,7 +43,7 @@ IsViolationCountOfDep index number count =
 abbrev pub IsOrphanCountOfCind : BenchIndex → ℕ → ℕ → Type 0
 IsOrphanCountOfCind index number count =
     (rules : Book) (texts : List (List ℕ)) (tuples : ℕ → ℕ → Option (List ℕ)) (cind : Cind) (lefts rights : List (ℕ × List ℕ))
-    → AreDistinct texts → AreIndexesOf rules texts index → AreInStep cind_watch tuples index.cinds.items
+    → HaveOneId texts → AreIndexesOf rules texts index → AreInStep cind_watch tuples index.cinds.items
     → slice_get (book_cinds rules) number ≡ Some cind → AreRowsInTexts texts (tuples cind.left) lefts → AreRowsInTexts texts (tuples cind.right) rights
     → count ≡ length (orphans bytes_eq cind.rule (left_entries cind.rule (renamed_rows (text_of texts) lefts)) (right_entries cind.rule (renamed_rows (text_of texts) rights)))
 
@@ -54,7 +54,7 @@ IsOrphanCountOfCind index number count =
 abbrev pub AreViolationsOfRow : BenchIndex → ℕ → ℕ → List ℕ → List (ℕ × Violation) → Type 0
 AreViolationsOfRow index number row ids found =
     (rules : Book) (texts : List (List ℕ)) (tuples : ℕ → ℕ → Option (List ℕ)) (dep : Dep) (rows : List (ℕ × List ℕ))
-    → AreDistinct texts → AreIndexesOf rules texts index → AreInStep group_watch tuples index.groups.items
+    → HaveOneId texts → AreIndexesOf rules texts index → AreInStep group_watch tuples index.groups.items
     → slice_get (book_deps rules) number ≡ Some dep → AreRowsInTexts texts (tuples dep.table) rows → tuples dep.table row ≡ Some ids
     → found ≡ filter (λ violation. violation.1.row == row) (violations bytes_eq dep.rule (entries dep.rule (renamed_rows (text_of texts) rows)))
 
@@ -62,7 +62,7 @@ AreViolationsOfRow index number row ids found =
 abbrev pub AreOrphansOfRow : BenchIndex → ℕ → ℕ → List ℕ → List (ℕ × ℕ) → Type 0
 AreOrphansOfRow index number row ids found =
     (rules : Book) (texts : List (List ℕ)) (tuples : ℕ → ℕ → Option (List ℕ)) (cind : Cind) (lefts rights : List (ℕ × List ℕ))
-    → AreDistinct texts → AreIndexesOf rules texts index → AreInStep cind_watch tuples index.cinds.items
+    → HaveOneId texts → AreIndexesOf rules texts index → AreInStep cind_watch tuples index.cinds.items
     → slice_get (book_cinds rules) number ≡ Some cind → AreRowsInTexts texts (tuples cind.left) lefts → AreRowsInTexts texts (tuples cind.right) rights
     → tuples cind.left row ≡ Some ids
     → found ≡ filter (λ orphan. orphan.1 == row) (orphans bytes_eq cind.rule (left_entries cind.rule (renamed_rows (text_of texts) lefts)) (right_entries cind.rule (renamed_rows (text_of texts) rights)))

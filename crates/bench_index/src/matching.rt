@@ -7,7 +7,7 @@ ghost use Rattle.cfd_semantics.specs.Pattern.{all_match, matches};
 ghost use Rattle.row_store.specs.Tuple.{ids_of};
 ghost use Rattle.row_store.specs.Watch.{IsWide};
 ghost use Rattle.bench_index.specs.ByIds.{HasText};
-ghost use Rattle.bench_index.specs.Lists.{text_at, texts_at};
+ghost use Rattle.bench_index.specs.Lists.{text_of_cell, texts_at};
 
 use cfd_semantics::{Dependency, Pattern, TableauRow};
 use row_store::Tuple;
@@ -24,7 +24,7 @@ pub(crate) fn is_single(
     requires wide { IsWide (rule.now.a ∷ rule.now.x) (ids_of tuple.now) }
     requires named { All (HasText pool.now) (ids_of tuple.now) }
     ensures { result ≡ (all_match bytes_eq tableau_row.now.x (texts_at pool.now (ids_of tuple.now) rule.now.x)
-        && not (matches bytes_eq tableau_row.now.a (text_at pool.now (ids_of tuple.now) rule.now.a))) }
+        && not (matches bytes_eq tableau_row.now.a (text_of_cell pool.now (ids_of tuple.now) rule.now.a))) }
 {
     matches_all(tableau_row.x.as_slice(), rule.x.as_slice(), pool, tuple)
         && !matches_at(&tableau_row.a, rule.a, pool, tuple)
@@ -50,7 +50,7 @@ fn matches_all(cells: &[Pattern<Text>], x: &[usize], pool: &Pool, tuple: &Tuple)
 fn matches_at(cell: &Pattern<Text>, attribute: usize, pool: &Pool, tuple: &Tuple) -> bool
     requires wide { attribute < length (ids_of tuple.now) }
     requires named { All (HasText pool.now) (ids_of tuple.now) }
-    ensures { result ≡ matches bytes_eq cell.now (text_at pool.now (ids_of tuple.now) attribute) }
+    ensures { result ≡ matches bytes_eq cell.now (text_of_cell pool.now (ids_of tuple.now) attribute) }
 {
     matches(cell, pool.text(tuple.as_slice()[attribute]))
 }

@@ -31,7 +31,7 @@ use Rattle.cell_values.proofs.Meaning.{AreValues, IsCovered, is_constant}
 use Rattle.cell_values.proofs.ValueFacts.{covered_if_admitted, values_good}
 use Rattle.cell_values.proofs.ValueOrder.{found_in, occurring_found, occurring_rises, Rising}
 use Rattle.cfd_consistency.specs.Question.{asks, cells_from, row_clause, rule_clauses, table_question}
-use Rattle.cfd_consistency.specs.Witness.{plain_text, text_at, tuple_of}
+use Rattle.cfd_consistency.specs.Witness.{plain_text, witness_text, tuple_of}
 use Rattle.cfd_consistency.proofs.Asked.{asked_left, asked_right, domain_valid, IsValidRule}
 use Rattle.cfd_consistency.proofs.CellLists.{cell_there, cells_are, IsCellAt, truth_at, truth_by, var_cell}
 use Rattle.cfd_consistency.proofs.Lists.{All-flat_map, All-map_filter, AllZip-at, AllZip-long, part_of_flat_map, part_of_map_filter}
@@ -156,15 +156,15 @@ module _ (attrs : List Attr) (valid : All IsValidAttr attrs) (rules : List Rule)
     tuple = tuple_of attrs values truth
 
     tuple_long : length tuple ≡ length attrs
-    tuple_long = length-map-range_with_len (λ (attr : ℕ). text_at values truth attr (domain_at attrs attr) (found_in values attr)) 0 (length attrs)
+    tuple_long = length-map-range_with_len (λ (attr : ℕ). witness_text values truth attr (domain_at attrs attr) (found_in values attr)) 0 (length attrs)
 
-    pub text_there : (attr : ℕ) → attr < length attrs → text_of tuple attr ≡ text_at values truth attr (domain_at attrs attr) (found_in values attr)
-    text_there attr within = get_or-map-range_with_len (λ (attr : ℕ). text_at values truth attr (domain_at attrs attr) (found_in values attr)) 0 (length attrs) attr attr [] within (omega arith)
+    pub text_there : (attr : ℕ) → attr < length attrs → text_of tuple attr ≡ witness_text values truth attr (domain_at attrs attr) (found_in values attr)
+    text_there attr within = get_or-map-range_with_len (λ (attr : ℕ). witness_text values truth attr (domain_at attrs attr) (found_in values attr)) 0 (length attrs) attr attr [] within (omega arith)
 
     chosen_there : (attr : ℕ) (cell : CellValues) → found_in values attr ≡ Some cell → text_of tuple attr ≡ chosen_text cell.values (chosen truth (values_before values attr) (length cell.values))
     chosen_there attr cell found =
         let (within, there, is) = occurring_found attrs rules attr cell found in
-        text_there attr within ∙ ap (text_at values truth attr (domain_at attrs attr)) found
+        text_there attr within ∙ ap (witness_text values truth attr (domain_at attrs attr)) found
 
     cell_at : (attr : ℕ) (cell : CellValues) → found_in values attr ≡ Some cell → 0 < length cell.values → Contains (cells_from 0 values) (var_cell (0 + values_before values attr) cell)
     cell_at attr cell found some = cell_there 0 values attr cell rises found some
@@ -207,7 +207,7 @@ module _ (attrs : List Attr) (valid : All IsValidAttr attrs) (rules : List Rule)
     finite_plain attr texts within finite none =
         let good : IsValidDomain (Finite texts) = subst IsValidDomain finite (domain_valid attrs attr valid within) in
         let some = good.some in
-        let is : text_of tuple attr ≡ get_or texts 0 [] = text_there attr within ∙ ap (text_at values truth attr (domain_at attrs attr)) none ∙ ap plain_text finite in
+        let is : text_of tuple attr ≡ get_or texts 0 [] = text_there attr within ∙ ap (witness_text values truth attr (domain_at attrs attr)) none ∙ ap plain_text finite in
         subst (Contains texts) (sym is) (Contains-get_or texts 0 [] (omega arith))
 
     finite_admitted : (attr : ℕ) (texts : List (List ℕ)) (found : Option CellValues) → attr < length attrs → domain_at attrs attr ≡ Finite texts → found_in values attr ≡ found → Contains texts (text_of tuple attr)

@@ -23,7 +23,7 @@ use Rattle.cell_values.specs.Values.{constants_at, has_other, occurring, once_af
 use Rattle.cell_values.proofs.Choices.{fresh_there}
 use Rattle.cell_values.proofs.ValueFacts.{with_text_cases}
 use Rattle.cell_values.proofs.ValueOrder.{found_in, occurring_found}
-use Rattle.cfd_consistency.specs.Witness.{plain_text, text_at, tuple_of}
+use Rattle.cfd_consistency.specs.Witness.{plain_text, witness_text, tuple_of}
 use Rattle.cfd_consistency.proofs.Asked.{domain_valid, IsValidRule}
 use Rattle.cfd_consistency.proofs.Lists.{All-flat_map, All-map_filter, zip_related}
 use Rattle.std.proofs.lemmas.List.{length-replicate}
@@ -98,7 +98,7 @@ module _ (attrs : List Attr) (valid : All IsValidAttr attrs) (rules : List Rule)
   plain_short AnyText good = let bound = fresh_short 0 [] (All-nil (λ (t : List ℕ). length t ≤ 0)) in omega arith
   plain_short (Finite values) good = let some = good.some in let bound = (good.constants 0 [] (omega arith)).bound in omega arith
 
-  text_short : (truth : ℕ → Bool) (attr : ℕ) (found : Option CellValues) → attr < length attrs → found_in (occurring attrs rules) attr ≡ found → length (text_at (occurring attrs rules) truth attr (domain_at attrs attr) found) ≤ 1026
+  text_short : (truth : ℕ → Bool) (attr : ℕ) (found : Option CellValues) → attr < length attrs → found_in (occurring attrs rules) attr ≡ found → length (witness_text (occurring attrs rules) truth attr (domain_at attrs attr) found) ≤ 1026
   text_short truth attr None within is = plain_short (domain_at attrs attr) (domain_valid attrs attr valid within)
   text_short truth attr (Some cell) within is =
       let (inside, there, own) = occurring_found attrs rules attr cell is in
@@ -108,7 +108,7 @@ module _ (attrs : List Attr) (valid : All IsValidAttr attrs) (rules : List Rule)
 
   pub tuple_short : (truth : ℕ → Bool) → All (λ (text : List ℕ). length text ≤ 65535) (tuple_of attrs (occurring attrs rules) truth)
   tuple_short truth =
-      All-map (λ (text : List ℕ). length text ≤ 65535) (λ (attr : ℕ). text_at (occurring attrs rules) truth attr (domain_at attrs attr) (found_in (occurring attrs rules) attr)) (range_with_len 0 (length attrs)) (λ k d within.
+      All-map (λ (text : List ℕ). length text ≤ 65535) (λ (attr : ℕ). witness_text (occurring attrs rules) truth attr (domain_at attrs attr) (found_in (occurring attrs rules) attr)) (range_with_len 0 (length attrs)) (λ k d within.
       let n = length-range_with_len 0 (length attrs) in
       let attr : get_or (range_with_len 0 (length attrs)) k d ≡ k = get_or-range_with_len 0 (length attrs) k d (omega arith) ∙ omega arith in
       let bound = text_short truth k (found_in (occurring attrs rules) k) (omega arith) refl in

@@ -17,9 +17,9 @@ plain_text AnyText = fresh_past 0 []
 plain_text (Finite values) = slice_index_or values 0 []
 
 -- one that occurs has the value whose variable is true, and else a fresh text
-abbrev pub text_at : List CellValues → (ℕ → Bool) → ℕ → Domain → Option CellValues → List ℕ
-text_at values truth attr domain None = plain_text domain
-text_at values truth attr domain (Some cell) = chosen_text cell.values (chosen truth (values_before values attr) (length cell.values))
+abbrev pub witness_text : List CellValues → (ℕ → Bool) → ℕ → Domain → Option CellValues → List ℕ
+witness_text values truth attr domain None = plain_text domain
+witness_text values truth attr domain (Some cell) = chosen_text cell.values (chosen truth (values_before values attr) (length cell.values))
 
 abbrev pub tuple_of : List Attr → List CellValues → (ℕ → Bool) → List (List ℕ)
-tuple_of attrs values truth = map (λ attr. text_at values truth attr (domain_at attrs attr) (find (λ (cell : CellValues). cell.attr == attr) values)) (range_with_len 0 (length attrs))
+tuple_of attrs values truth = map (λ attr. witness_text values truth attr (domain_at attrs attr) (find (λ (cell : CellValues). cell.attr == attr) values)) (range_with_len 0 (length attrs))

@@ -4,7 +4,7 @@ ghost use Rattle.std.specs.Prelude.{◌≡◌, ◌+◌, ◌≤◌, ◌==◌, fal
 ghost use Rattle.schema_core.specs.Schemas.{IsValidAttr, IsValidDomain};
 ghost use Rattle.cell_values.specs.Values.{AreFew};
 ghost use Rattle.cfd_consistency.specs.Question.{total_values};
-ghost use Rattle.cfd_consistency.specs.Witness.{plain_text, text_at, tuple_of};
+ghost use Rattle.cfd_consistency.specs.Witness.{plain_text, witness_text, tuple_of};
 
 use cell_values::{CellValues, cell_of, chosen, chosen_text, fresh_past, values_before};
 use schema_core::{Attr, Domain, List, Text, Texts};
@@ -24,12 +24,12 @@ pub fn tuple_of(
 {
     let mut tuple = List::new(alloc);
     for attr in 0..attrs.len() {
-        tuple.push(text_at(alloc, values, truth, attr, &attrs[attr].domain)?)?;
+        tuple.push(witness_text(alloc, values, truth, attr, &attrs[attr].domain)?)?;
     }
     Ok(tuple)
 }
 
-fn text_at(
+fn witness_text(
     alloc: Global,
     values: &[CellValues],
     truth: &[bool],
@@ -39,7 +39,7 @@ fn text_at(
     requires valid { IsValidDomain domain.now }
     requires few { AreFew values.now }
     requires told { total_values values.now ≤ length truth.now }
-    ensures { IfOk result (λ text. text ≡ text_at values.now (λ var. slice_index_or truth.now var false) attr domain.now (find (λ cell. cell.attr == attr) values.now)) }
+    ensures { IfOk result (λ text. text ≡ witness_text values.now (λ var. slice_index_or truth.now var false) attr domain.now (find (λ cell. cell.attr == attr) values.now)) }
 {
     match cell_of(values, attr) {
         Some(cell) => {

@@ -29,7 +29,7 @@ use Rattle.cell_values.proofs.Meaning.{AreValues}
 use Rattle.cell_values.proofs.ValueFacts.{with_text_cases, values_good}
 use Rattle.cfd_implication.specs.declared.side.Side.{Side}
 use Rattle.cfd_implication.specs.declared.side.Side.TheVariants.{First, Second}
-use Rattle.cfd_implication.specs.Pairs.{plain_text, new_text, text_for, constant_of, second_new, value_text, text_at, tuple_of}
+use Rattle.cfd_implication.specs.Pairs.{plain_text, new_text, text_for, constant_of, second_new, value_text, pair_text, tuple_of}
 use Rattle.cfd_implication.specs.Question.{equal_var, value_var, var_cells}
 use Rattle.cfd_implication.proofs.Truths.{text_of}
 use Rattle.cfd_implication.proofs.Order.{RisesFrom, placed_at, rises_above, second_at}
@@ -187,8 +187,8 @@ module _ (attrs : List Attr) (valid : AllByRecursion IsValidAttr attrs) (rules :
   abbrev found_in : ℕ → Option CellValues
   found_in attr = find (λ (x : CellValues). nat_eq x.attr attr) cells
 
-  text_is : (side : Side) (attr : ℕ) → attr < length attrs → text_of (tuple_of side attrs cells truth) attr ≡ text_at side cells truth attr (domain_at attrs attr) (found_in attr)
-  text_is side attr within = get_or-map-range_with_len (λ n. text_at side cells truth n (domain_at attrs n) (found_in n)) 0 (length attrs) attr attr [] within (omega arith)
+  text_is : (side : Side) (attr : ℕ) → attr < length attrs → text_of (tuple_of side attrs cells truth) attr ≡ pair_text side cells truth attr (domain_at attrs attr) (found_in attr)
+  text_is side attr within = get_or-map-range_with_len (λ n. pair_text side cells truth n (domain_at attrs n) (found_in n)) 0 (length attrs) attr attr [] within (omega arith)
 
   attr_within : (c : CellValues) → Contains cells c → c.attr < length attrs
   attr_within c there =
@@ -203,7 +203,7 @@ module _ (attrs : List Attr) (valid : AllByRecursion IsValidAttr attrs) (rules :
       subst AreValues from.is (values_good all_rules from.attr (domain_at attrs from.attr) (valid_domain_at attrs from.attr valid))
 
   value_is : (side : Side) (c : CellValues) → Contains cells c → text_of (tuple_of side attrs cells truth) c.attr ≡ value_text side cells truth c.attr c
-  value_is side c there = text_is side c.attr (attr_within c there) ∙ ap (text_at side cells truth c.attr (domain_at attrs c.attr)) (find_at 0 cells c (rises attrs all_rules) there)
+  value_is side c there = text_is side c.attr (attr_within c there) ∙ ap (pair_text side cells truth c.attr (domain_at attrs c.attr)) (find_at 0 cells c (rises attrs all_rules) there)
 
   texts_fit : (c : CellValues) → Contains cells c → AreTexts truth (equal_var cells c.attr) c (constant_of truth (value_var First cells c.attr) c) (constant_of truth (value_var Second cells c.attr) c) (value_text First cells truth c.attr c) (value_text Second cells truth c.attr c)
   texts_fit c there =
@@ -273,7 +273,7 @@ module _ (attrs : List Attr) (valid : AllByRecursion IsValidAttr attrs) (rules :
     plain_admitted AnyText good = tt
     plain_admitted (Finite values) good = let some = good.some in Contains-get_or values 0 [] (omega arith)
 
-    text_admitted : (side : Side) (attr : ℕ) (found : Option CellValues) → found_in attr ≡ found → attr < length attrs → Admits (domain_at attrs attr) (text_at side cells truth attr (domain_at attrs attr) found)
+    text_admitted : (side : Side) (attr : ℕ) (found : Option CellValues) → found_in attr ≡ found → attr < length attrs → Admits (domain_at attrs attr) (pair_text side cells truth attr (domain_at attrs attr) found)
     text_admitted side attr None is within = plain_admitted (domain_at attrs attr) (valid_domain_at attrs attr valid)
     text_admitted side attr (Some c) is within =
         let (named, there) = found_attr cells attr c is in
@@ -282,7 +282,7 @@ module _ (attrs : List Attr) (valid : AllByRecursion IsValidAttr attrs) (rules :
         value_admitted side attr (domain_at attrs attr) refl c there named (subst (λ n. cell_values all_rules n (domain_at attrs n) ≡ c) attr_is from.is)
 
     pub is_tuple : (side : Side) → IsTupleOf attrs (tuple_of side attrs cells truth)
-    is_tuple side = tuple_by attrs (λ n. text_at side cells truth n (domain_at attrs n) (found_in n)) 0 (λ k within. let same : k ≡ 0 + k = omega arith in subst (λ n. Admits (domain_at attrs k) (text_at side cells truth n (domain_at attrs n) (found_in n))) same (text_admitted side k (found_in k) refl within))
+    is_tuple side = tuple_by attrs (λ n. pair_text side cells truth n (domain_at attrs n) (found_in n)) 0 (λ k within. let same : k ≡ 0 + k = omega arith in subst (λ n. Admits (domain_at attrs k) (pair_text side cells truth n (domain_at attrs n) (found_in n))) same (text_admitted side k (found_in k) refl within))
 
   -- ---- short texts
 
@@ -315,7 +315,7 @@ module _ (attrs : List Attr) (valid : AllByRecursion IsValidAttr attrs) (rules :
       let one = constant_of truth (value_var First cells attr) c in
       for_short c (second_new c e one) (constant_of truth (value_var Second cells attr) c) short (second_short c e one short)
 
-  text_short : (side : Side) (attr : ℕ) (found : Option CellValues) → found_in attr ≡ found → length (text_at side cells truth attr (domain_at attrs attr) found) ≤ 2052
+  text_short : (side : Side) (attr : ℕ) (found : Option CellValues) → found_in attr ≡ found → length (pair_text side cells truth attr (domain_at attrs attr) found) ≤ 2052
   text_short side attr None is = plain_short (domain_at attrs attr) (valid_domain_at attrs attr valid)
   text_short side attr (Some c) is =
       let (named, there) = found_attr cells attr c is in
@@ -324,4 +324,4 @@ module _ (attrs : List Attr) (valid : AllByRecursion IsValidAttr attrs) (rules :
       value_short side attr c (subst (λ (x : CellValues). Short 1025 x.values) from.is (other_short (has_other all_rules from.attr domain) (constants_at all_rules from.attr domain) (constants_short from.attr domain (valid_domain_at attrs from.attr valid))))
 
   pub is_short : (side : Side) → All (λ (text : List ℕ). length text ≤ answer_bytes) (tuple_of side attrs cells truth)
-  is_short side = all_map (λ (text : List ℕ). length text ≤ answer_bytes) (λ n. text_at side cells truth n (domain_at attrs n) (found_in n)) (range_with_len 0 (length attrs)) (λ n there. let bound = text_short side n (found_in n) refl in omega arith)
+  is_short side = all_map (λ (text : List ℕ). length text ≤ answer_bytes) (λ n. pair_text side cells truth n (domain_at attrs n) (found_in n)) (range_with_len 0 (length attrs)) (λ n there. let bound = text_short side n (found_in n) refl in omega arith)

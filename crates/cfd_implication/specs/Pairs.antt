@@ -42,9 +42,9 @@ value_text First cells truth attr cell = text_for cell (new_text cell) (constant
 value_text Second cells truth attr cell =
     text_for cell (second_new cell (truth (equal_var cells attr)) (constant_of truth (value_var First cells attr) cell)) (constant_of truth (value_var Second cells attr) cell)
 
-abbrev pub text_at : Side → List CellValues → (ℕ → Bool) → ℕ → Domain → Option CellValues → List ℕ
-text_at side cells truth attr domain None = plain_text domain
-text_at side cells truth attr domain (Some cell) = value_text side cells truth attr cell
+abbrev pub pair_text : Side → List CellValues → (ℕ → Bool) → ℕ → Domain → Option CellValues → List ℕ
+pair_text side cells truth attr domain None = plain_text domain
+pair_text side cells truth attr domain (Some cell) = value_text side cells truth attr cell
 
 abbrev pub tuple_of : Side → List Attr → List CellValues → (ℕ → Bool) → List (List ℕ)
-tuple_of side attrs cells truth = map (λ attr. text_at side cells truth attr (domain_at attrs attr) (find (λ (cell : CellValues). cell.attr == attr) cells)) (range_with_len 0 (length attrs))
+tuple_of side attrs cells truth = map (λ attr. pair_text side cells truth attr (domain_at attrs attr) (find (λ (cell : CellValues). cell.attr == attr) cells)) (range_with_len 0 (length attrs))

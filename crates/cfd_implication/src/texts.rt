@@ -3,7 +3,7 @@
 ghost use Rattle.std.specs.Prelude.{◌≡◌, ◌+◌, ◌*◌, ◌<◌, ◌≤◌, ◌==◌, false, find, length, All, IfOk, IfSome, slice_index_or, sum_by};
 ghost use Rattle.schema_core.specs.Schemas.{IsValidAttr, IsValidDomain};
 ghost use Rattle.cell_values.specs.Values.{AreFew};
-ghost use Rattle.cfd_implication.specs.Pairs.{plain_text, new_text, text_for, constant_of, second_new, value_text, text_at, tuple_of};
+ghost use Rattle.cfd_implication.specs.Pairs.{plain_text, new_text, text_for, constant_of, second_new, value_text, pair_text, tuple_of};
 ghost use Rattle.cfd_implication.specs.Question.{equal_var, value_var, var_total};
 ghost use Rattle.cfd_implication.specs.declared.side.Side.TheVariants.{First, Second};
 
@@ -146,7 +146,7 @@ fn value_text(
     }
 }
 
-fn text_at(
+fn pair_text(
     alloc: Global,
     side: Side,
     cells: &[CellValues],
@@ -158,7 +158,7 @@ fn text_at(
     requires few { AreFew cells.now }
     requires constants { All (λ cell. cell.constants ≤ length cell.values) cells.now }
     requires told { var_total cells.now ≤ length truth.now }
-    ensures { IfOk result (λ text. text ≡ text_at side cells.now (λ var. slice_index_or truth.now var false) attr domain.now (find (λ cell. cell.attr == attr) cells.now)) }
+    ensures { IfOk result (λ text. text ≡ pair_text side cells.now (λ var. slice_index_or truth.now var false) attr domain.now (find (λ cell. cell.attr == attr) cells.now)) }
 {
     match cell_of(cells, attr) {
         Some(cell) => value_text(alloc, side, cells, truth, cell),
@@ -182,7 +182,7 @@ pub fn tuple_of(
 {
     let mut tuple = List::new(alloc);
     for attr in 0..attrs.len() {
-        tuple.push(text_at(alloc, side, cells, truth, attr, &attrs[attr].domain)?)?;
+        tuple.push(pair_text(alloc, side, cells, truth, attr, &attrs[attr].domain)?)?;
     }
     Ok(tuple)
 }

@@ -9,7 +9,7 @@ use Rattle.std.specs.Str.{bytes_eq}
 use Rattle.std.proofs.lemmas.Bool.{cases_eq, cases_lt}
 use Rattle.std.proofs.lemmas.Bool.Decides.{nat_tests}
 use Rattle.std.proofs.lemmas.Option.{none-some, same_Some, slice_get_within}
-use Rattle.marked_map.specs.MarkedMap.{with_mark, without_mark, KeepsOthers, AreDistinct, HasKey, IsAbsent, Enters}
+use Rattle.marked_map.specs.MarkedMap.{with_mark, without_mark, KeepsOthers, HaveDistinctKeys, HasKey, IsAbsent, Enters}
 use Rattle.cfd_semantics.specs.declared.inclusion.InclusionRow.{InclusionRow}
 use Rattle.cfd_semantics.specs.Orphan.{SideEntry}
 use Rattle.cfd_semantics.proofs.InclusionLaw.{both_true}
@@ -60,7 +60,7 @@ with_key (e ∷ es) zero v at = (e.0, let value : e.1 ≡ v = same_Some e.1 v at
 with_key (e ∷ es) (suc i) v at = with_key es i v at
 
 -- no pair stands twice where no key does
-pub once : (m : KeyedRows) → AreDistinct same_key m → (i j : ℕ) (x : Pair) → slice_get m.pairs i ≡ Some x → slice_get m.pairs j ≡ Some x → i ≡ j
+pub once : (m : KeyedRows) → HaveDistinctKeys same_key m → (i j : ℕ) (x : Pair) → slice_get m.pairs i ≡ Some x → slice_get m.pairs j ≡ Some x → i ≡ j
 once m distinct i j x at also = distinct i j x.0 x.0 (key_there m.pairs i x at) (key_there m.pairs j x also) (same_list x.0.items)
 
 pub has_key_at : (m : KeyedRows) (place : ℕ) (k : Vec ℕ Global) (v : KeyRows) (key : List ℕ) → slice_get m.pairs place ≡ Some (k, v) → k.items ≡ key → HasKeyAt m place key
@@ -94,7 +94,7 @@ pub moved_same : (old new : KeyedRows) (place at : ℕ) → place < length old.p
 moved_same old new place at within (stays is same) side e = ap (λ m. held m side e) is
 moved_same old new place at within (swaps beside is) side e = ap (list_any (is_under side e)) is ∙ swapped_pass (is_under side e) old.pairs place at within beside
 
-pub moved_apart : (old new : KeyedRows) (place at : ℕ) → AreDistinct same_key old → place < length old.pairs → Moved old new place at
+pub moved_apart : (old new : KeyedRows) (place at : ℕ) → HaveDistinctKeys same_key old → place < length old.pairs → Moved old new place at
     → (i : ℕ) (x : Pair) → i ≢ at → slice_get new.pairs i ≡ Some x → slice_get old.pairs place ≢ Some x
 moved_apart old new place at distinct within (stays is same) i x apart there was = apart (once old distinct i place x (ap (λ (m : KeyedRows). slice_get m.pairs i) (sym is) ∙ there) was ∙ sym same)
 moved_apart old new place at distinct within (swaps beside is) i x apart there was =
@@ -117,7 +117,7 @@ unmark_moves old new place at within already unmarks there = elim (cases_lt plac
   | inr high ↦ let is = already high in stays is.1 is.0
 ]
 
-pub takes_mark : (tableau : List (InclusionRow ℕ)) (old new : KeyedRows) (place at : ℕ) (k : Vec ℕ Global) (v : KeyRows) → AreDistinct same_key old → place < length old.pairs → slice_get old.pairs place ≡ Some (k, v)
+pub takes_mark : (tableau : List (InclusionRow ℕ)) (old new : KeyedRows) (place at : ℕ) (k : Vec ℕ Global) (v : KeyRows) → HaveDistinctKeys same_key old → place < length old.pairs → slice_get old.pairs place ≡ Some (k, v)
     → Moved old new place at → slice_get new.pairs at ≡ slice_get old.pairs place → KeepsOthers old place new → ((at < new.marked) × (is_dirty tableau v ≡ true)) ⊎ ((new.marked ≤ at) × (is_dirty tableau v ≡ false))
     → AreMarkedRightBut place tableau old → AreMarkedRight tableau new
 takes_mark tableau old new place at k v distinct within was moved same keeps right others =
@@ -179,12 +179,12 @@ module _ (m : KeyedRows) (place : ℕ) (k : Vec ℕ Global) (v w : KeyRows) (at 
   }
 
   -- only the pair with the key can have an entry
-  elsewhere : AreDistinct same_key m → (key : List ℕ) → k.items ≡ key → (i : ℕ) (x : Pair) → i ≢ place → slice_get m.pairs i ≡ Some x → bytes_eq key x.0.items ≡ false
+  elsewhere : HaveDistinctKeys same_key m → (key : List ℕ) → k.items ≡ key → (i : ℕ) (x : Pair) → i ≢ place → slice_get m.pairs i ≡ Some x → bytes_eq key x.0.items ≡ false
   elsewhere distinct key is i x apart there =
       never (bytes_eq key x.0.items) (λ same. apart (distinct i place x.0 k (key_there m.pairs i x there) (key_there m.pairs place (k, v) at)
       (ap (λ xs. bytes_eq x.0.items xs) (is ∙ equal_lists key x.0.items same) ∙ same_list x.0.items)))
 
-  pub entry_there : (key pattern : List ℕ) (row : ℕ) → AreDistinct same_key m → k.items ≡ key → held m side (record { key = key; pattern = pattern; row = row }) ≡ has (rows_on v side) pattern row
+  pub entry_there : (key pattern : List ℕ) (row : ℕ) → HaveDistinctKeys same_key m → k.items ≡ key → held m side (record { key = key; pattern = pattern; row = row }) ≡ has (rows_on v side) pattern row
   entry_there key pattern row distinct is = of (has (rows_on v side) pattern row) refl
     where
       own : bytes_eq key k.items ≡ true
@@ -199,7 +199,7 @@ module _ (m : KeyedRows) (place : ℕ) (k : Vec ℕ Global) (v w : KeyRows) (at 
         | inr apart ↦ ap (λ b. b && has (rows_on x.1 side) pattern row) (elsewhere distinct key is i x apart there)
       ])
 
-  pub take_there : (key pattern : List ℕ) (row : ℕ) → AreDistinct same_key m → k.items ≡ key → ChangesOn side (HasRowLess pattern row) v w → HoldsLess side (is_entry key pattern row) m written
+  pub take_there : (key pattern : List ℕ) (row : ℕ) → HaveDistinctKeys same_key m → k.items ≡ key → ChangesOn side (HasRowLess pattern row) v w → HoldsLess side (is_entry key pattern row) m written
   take_there key pattern row distinct is changes = record {
     here = λ e. set_less (is_under side e) m.pairs place k v w (is_entry key pattern row e) at
         (ap (λ b. bytes_eq e.key k.items && b) (changes.here e.pattern e.row) ∙ less_over (bytes_eq e.key k.items) (bytes_eq e.pattern pattern && e.row == row) (has (rows_on v side) e.pattern e.row)
@@ -225,7 +225,7 @@ module _ (m : KeyedRows) (place : ℕ) (k : Vec ℕ Global) (v w : KeyRows) (at 
     | inr apart ↦ subst (λ (o : Option Pair). IsSomeAnd o (λ pair. pair.0.items ≡ key)) (sym (set_beside m.pairs place p w apart)) has_key
   ]
 
-  pub written_distinct : AreDistinct same_key m → AreDistinct same_key written
+  pub written_distinct : HaveDistinctKeys same_key m → HaveDistinctKeys same_key written
   written_distinct distinct = subst (λ ks. (i j : ℕ) (x y : Vec ℕ Global) → slice_get ks i ≡ Some x → slice_get ks j ≡ Some y → same_key x y ≡ true → i ≡ j) (sym (keys_kept m.pairs place)) distinct
     where
       keys_kept : (es : List Pair) (n : ℕ) → keys_of (set_value_at es n w) ≡ keys_of es

@@ -12,7 +12,7 @@ use Rattle.std.proofs.lemmas.Map.Text.{is_eq-slice_cmp}
 use Rattle.std.proofs.lemmas.Slice.Eq.{bytes_eq-Decides}
 use Rattle.cind_index.specs.declared.row_set.RowSet.{RowSet}
 use Rattle.cind_index.specs.declared.side_rows.SideRows.TheVariants.{Several}
-use Rattle.cind_index.specs.RowsHeld.{Patterns, rows_in, in_map, is_in, HasRowMore, HasRowLess, HaveTheSame}
+use Rattle.cind_index.specs.RowsHeld.{Patterns, rows_for, in_map, is_in, HasRowMore, HasRowLess, HaveTheSame}
 
 -- ---- results
 
@@ -46,14 +46,14 @@ flip_lists xs ys = by (bytes_eq xs ys) (bytes_eq ys xs) refl refl
 
 -- ---- the rows with each list of pattern values, once those with one are others
 
-pub rows_updated : (old new : Patterns) (pattern : List ℕ) (now : Option RowSet) → rows_in new pattern ≡ now
+pub rows_updated : (old new : Patterns) (pattern : List ℕ) (now : Option RowSet) → rows_for new pattern ≡ now
     → KeepsOthers (λ (x y : Vec ℕ Global). is_eq (slice_cmp nat_cmp x.items y.items)) (λ (k : Vec ℕ Global). is_eq (slice_cmp nat_cmp pattern k.items)) old.entries new.entries
-    → (ids : List ℕ) → rows_in new ids ≡ cond (bytes_eq ids pattern) now (rows_in old ids)
+    → (ids : List ℕ) → rows_for new ids ≡ cond (bytes_eq ids pattern) now (rows_for old ids)
 unfolding KeepsOthers
 rows_updated old new pattern now at others ids = by (bytes_eq ids pattern) refl
   where
-    by : (b : Bool) → bytes_eq ids pattern ≡ b → rows_in new ids ≡ cond b now (rows_in old ids)
-    by true e = ap (rows_in new) (equal_lists ids pattern e) ∙ at
+    by : (b : Bool) → bytes_eq ids pattern ≡ b → rows_for new ids ≡ cond b now (rows_for old ids)
+    by true e = ap (rows_for new) (equal_lists ids pattern e) ∙ at
     by false e = others (λ (k : Vec ℕ Global). is_eq (slice_cmp nat_cmp ids k.items))
         (λ x y is. ap (λ xs. is_eq (slice_cmp nat_cmp xs y.items)) (equal_lists ids x.items (sym (is_eq-slice_cmp ids x.items) ∙ is)))
         (λ k is. is_eq-slice_cmp ids k.items ∙ ap (bytes_eq ids) (sym (equal_lists pattern k.items (sym (is_eq-slice_cmp pattern k.items) ∙ is))) ∙ e)
@@ -62,16 +62,16 @@ rows_updated old new pattern now at others ids = by (bytes_eq ids pattern) refl
 abbrev pub among : Option RowSet → ℕ → Bool
 among rows other = option_map_or (λ rows. is_in rows other) rows false
 
-module _ (old new : Patterns) (pattern : List ℕ) (row : ℕ) (was now : Option RowSet) (at : rows_in old pattern ≡ was) (updated : (ids : List ℕ) → rows_in new ids ≡ cond (bytes_eq ids pattern) now (rows_in old ids)) where
+module _ (old new : Patterns) (pattern : List ℕ) (row : ℕ) (was now : Option RowSet) (at : rows_for old pattern ≡ was) (updated : (ids : List ℕ) → rows_for new ids ≡ cond (bytes_eq ids pattern) now (rows_for old ids)) where
   changed : (test : Bool → ℕ → Bool → Bool) → ((ids : List ℕ) (other : ℕ) → bytes_eq ids pattern ≡ true → among now other ≡ test true other (among was other)) → ((other : ℕ) (b : Bool) → b ≡ test false other b)
       → (ids : List ℕ) (other : ℕ) → in_map new ids other ≡ test (bytes_eq ids pattern) other (in_map old ids other)
   changed test here beside ids other = by (bytes_eq ids pattern) refl
     where
       by : (b : Bool) → bytes_eq ids pattern ≡ b → in_map new ids other ≡ test b other (in_map old ids other)
       by true e =
-          ap (λ rows. among rows other) (updated ids ∙ ap (λ b. cond b now (rows_in old ids)) e) ∙ here ids other e
-          ∙ ap (λ rows. test true other (among rows other)) (sym (ap (rows_in old) (equal_lists ids pattern e) ∙ at))
-      by false e = ap (λ rows. among rows other) (updated ids ∙ ap (λ b. cond b now (rows_in old ids)) e) ∙ beside other (in_map old ids other)
+          ap (λ rows. among rows other) (updated ids ∙ ap (λ b. cond b now (rows_for old ids)) e) ∙ here ids other e
+          ∙ ap (λ rows. test true other (among rows other)) (sym (ap (rows_for old) (equal_lists ids pattern e) ∙ at))
+      by false e = ap (λ rows. among rows other) (updated ids ∙ ap (λ b. cond b now (rows_for old ids)) e) ∙ beside other (in_map old ids other)
 
   pub one_more : ((other : ℕ) → among now other ≡ (other == row || among was other)) → HasRowMore pattern row (Several old) (Several new)
   one_more here = changed (λ b other held. (b && other == row) || held) (λ ids other e. here other) (λ other held. refl)
@@ -82,12 +82,12 @@ module _ (old new : Patterns) (pattern : List ℕ) (row : ℕ) (was now : Option
   pub as_many : ((other : ℕ) → among now other ≡ among was other) → HaveTheSame (Several old) (Several new)
   as_many here = changed (λ b other held. held) (λ ids other e. here other) (λ other held. refl)
 
-  pub beside_same : (ids : List ℕ) → bytes_eq ids pattern ≡ false → rows_in new ids ≡ rows_in old ids
-  beside_same ids e = updated ids ∙ ap (λ b. cond b now (rows_in old ids)) e
+  pub beside_same : (ids : List ℕ) → bytes_eq ids pattern ≡ false → rows_for new ids ≡ rows_for old ids
+  beside_same ids e = updated ids ∙ ap (λ b. cond b now (rows_for old ids)) e
 
 -- a map with one list of pattern values more, in a map that had none but the row
 pub beside_held : (old new : Patterns) (held pattern : List ℕ) (rows : RowSet) (row : ℕ) → bytes_eq pattern held ≡ false → ((ids : List ℕ) (other : ℕ) → in_map old ids other ≡ (bytes_eq ids pattern && other == row))
-    → ((ids : List ℕ) → rows_in new ids ≡ cond (bytes_eq ids held) (Some rows) (rows_in old ids))
+    → ((ids : List ℕ) → rows_for new ids ≡ cond (bytes_eq ids held) (Some rows) (rows_for old ids))
     → (ids : List ℕ) (other : ℕ) → in_map new ids other ≡ ((bytes_eq ids pattern && other == row) || (bytes_eq ids held && is_in rows other))
 beside_held old new held pattern rows row apart had updated ids other = by (bytes_eq ids held) refl
   where
@@ -98,16 +98,16 @@ beside_held old new held pattern rows row apart had updated ids other = by (byte
     by : (b : Bool) → bytes_eq ids held ≡ b → in_map new ids other ≡ ((bytes_eq ids pattern && other == row) || (b && is_in rows other))
     by true e =
         let not_pattern : bytes_eq ids pattern ≡ false = ap (λ xs. bytes_eq xs pattern) (equal_lists ids held e) ∙ flip_lists held pattern ∙ apart in
-        ap (λ found. among found other) (updated ids ∙ ap (λ b. cond b (Some rows) (rows_in old ids)) e) ∙ sym (ap (λ b. (b && other == row) || is_in rows other) not_pattern)
-    by false e = ap (λ found. among found other) (updated ids ∙ ap (λ b. cond b (Some rows) (rows_in old ids)) e) ∙ had ids other ∙ or_false (bytes_eq ids pattern && other == row)
+        ap (λ found. among found other) (updated ids ∙ ap (λ b. cond b (Some rows) (rows_for old ids)) e) ∙ sym (ap (λ b. (b && other == row) || is_in rows other) not_pattern)
+    by false e = ap (λ found. among found other) (updated ids ∙ ap (λ b. cond b (Some rows) (rows_for old ids)) e) ∙ had ids other ∙ or_false (bytes_eq ids pattern && other == row)
 
 -- rows of which none is left go away with their pattern values
-pub last_less : (old mid new : Patterns) (pattern : List ℕ) (row : ℕ) → ((other : ℕ) → (not (other == row) && in_map old pattern other) ≡ false) → ((ids : List ℕ) → bytes_eq ids pattern ≡ false → rows_in mid ids ≡ rows_in old ids)
-    → ((ids : List ℕ) → rows_in new ids ≡ cond (bytes_eq ids pattern) None (rows_in mid ids)) → HasRowLess pattern row (Several old) (Several new)
+pub last_less : (old mid new : Patterns) (pattern : List ℕ) (row : ℕ) → ((other : ℕ) → (not (other == row) && in_map old pattern other) ≡ false) → ((ids : List ℕ) → bytes_eq ids pattern ≡ false → rows_for mid ids ≡ rows_for old ids)
+    → ((ids : List ℕ) → rows_for new ids ≡ cond (bytes_eq ids pattern) None (rows_for mid ids)) → HasRowLess pattern row (Several old) (Several new)
 last_less old mid new pattern row none others updated ids other = by (bytes_eq ids pattern) refl
   where
     by : (b : Bool) → bytes_eq ids pattern ≡ b → in_map new ids other ≡ (not (b && other == row) && in_map old ids other)
     by true e =
-        ap (λ found. among found other) (updated ids ∙ ap (λ b. cond b None (rows_in mid ids)) e)
+        ap (λ found. among found other) (updated ids ∙ ap (λ b. cond b None (rows_for mid ids)) e)
         ∙ sym (none other) ∙ ap (λ xs. not (other == row) && in_map old xs other) (sym (equal_lists ids pattern e))
-    by false e = ap (λ found. among found other) (updated ids ∙ ap (λ b. cond b None (rows_in mid ids)) e ∙ others ids e)
+    by false e = ap (λ found. among found other) (updated ids ∙ ap (λ b. cond b None (rows_for mid ids)) e ∙ others ids e)

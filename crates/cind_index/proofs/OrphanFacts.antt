@@ -17,7 +17,7 @@ use Rattle.std.proofs.lemmas.List.Filters.{dedup_is}
 use Rattle.std.proofs.lemmas.List.Sorted.{Contains-permutation}
 use Rattle.std.proofs.lemmas.Map.Keys.{IsStrictlyIncreasing-dedup}
 use Rattle.std.proofs.lemmas.List.Kept.{AllPairs-cons, AllPairs-from_increasing, Contains-dedup_nat, Contains-from_dedup}
-use Rattle.marked_map.specs.MarkedMap.{AreDistinct, HasKey, IsAbsent}
+use Rattle.marked_map.specs.MarkedMap.{HaveDistinctKeys, HasKey, IsAbsent}
 use Rattle.cfd_semantics.specs.declared.inclusion.InclusionRow.{InclusionRow}
 use Rattle.cfd_semantics.specs.declared.inclusion.Inclusion.{Inclusion}
 use Rattle.cfd_semantics.specs.Orphan.{SideEntry, left_entry_of, answers}
@@ -77,7 +77,7 @@ module _ (m : KeyedRows) where
     ]),
   )
 
-module _ (m : KeyedRows) (distinct : AreDistinct same_key m) where
+module _ (m : KeyedRows) (distinct : HaveDistinctKeys same_key m) where
   -- ---- the answers to a left entry stand under its key
 
   same_pair : (i j : ℕ) (x y : Pair) → slice_get m.pairs i ≡ Some x → slice_get m.pairs j ≡ Some y → x.0.items ≡ y.0.items → x ≡ y
@@ -259,7 +259,7 @@ other_constants m t left pattern is differ = (
   (λ unanswered. absurd (clash (bytes_eq t.xp pattern) (ap (bytes_eq t.xp) is ∙ unanswered.constants) differ)),
 )
 
-pub key_is_found : (m : KeyedRows) → AreDistinct same_key m → (k : Vec ℕ Global) (place : ℕ) (v : KeyRows) (t : InclusionRow ℕ) (left : SideEntry ℕ) (pattern : List ℕ) → HasKey same_key m k place → slice_get (values_of m.pairs) place ≡ Some v
+pub key_is_found : (m : KeyedRows) → HaveDistinctKeys same_key m → (k : Vec ℕ Global) (place : ℕ) (v : KeyRows) (t : InclusionRow ℕ) (left : SideEntry ℕ) (pattern : List ℕ) → HasKey same_key m k place → slice_get (values_of m.pairs) place ≡ Some v
     → k.items ≡ left.key → pattern ≡ left.pattern → bytes_eq t.xp pattern ≡ true → TellsOrphan (not (has_some v.rights t.yp)) m t left
 key_is_found m distinct k place v t left pattern (stored, at, same) value key is constants =
     let pair = pair_there m.pairs place stored v at value in

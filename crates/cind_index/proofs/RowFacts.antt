@@ -17,7 +17,7 @@ use Rattle.cind_index.specs.declared.row_set.RowSet.TheVariants.{One, More}
 use Rattle.cind_index.specs.declared.side_rows.SideRows.{SideRows}
 use Rattle.cind_index.specs.declared.side_rows.SideRows.TheVariants.{Empty, Single, Several}
 use Rattle.cind_index.specs.declared.key_rows.KeyRows.{KeyRows}
-use Rattle.cind_index.specs.RowsHeld.{is_in, is_filled, rows_in, has, has_some, lacks_answer, is_dirty, HaveTheSame, ChangesOn}
+use Rattle.cind_index.specs.RowsHeld.{is_in, is_filled, rows_for, has, has_some, lacks_answer, is_dirty, HaveTheSame, ChangesOn}
 use Rattle.cind_index.proofs.PairFacts.{same_truth}
 
 -- ---- lists of row ids
@@ -85,7 +85,7 @@ some_row (Single held rows) pattern = (
       let both = both_true (bytes_eq pattern held.items) (is_in rows one.0) one.1 in
       ap (λ b. b && is_filled rows) both.0 ∙ (some_in rows).1 (one.0, both.1)),
 )
-some_row (Several patterns) pattern = among_some (rows_in patterns pattern)
+some_row (Several patterns) pattern = among_some (rows_for patterns pattern)
 
 pub same_some : (old new : SideRows) → HaveTheSame old new → (pattern : List ℕ) → has_some new pattern ≡ has_some old pattern
 same_some old new same pattern =

@@ -32,11 +32,11 @@ is_filled (One held) = true
 is_filled (More rows) = nat_lt 0 (length rows.keys)
 
 -- the rows with these pattern values in a map
-abbrev pub rows_in : Patterns → List ℕ → Option RowSet
-rows_in patterns pattern = tree.get_by (λ (held : Vec ℕ Global). slice_cmp nat_cmp pattern held.items) patterns
+abbrev pub rows_for : Patterns → List ℕ → Option RowSet
+rows_for patterns pattern = tree.get_by (λ (held : Vec ℕ Global). slice_cmp nat_cmp pattern held.items) patterns
 
 abbrev pub in_map : Patterns → List ℕ → ℕ → Bool
-in_map patterns pattern row = option_map_or (λ rows. is_in rows row) (rows_in patterns pattern) false
+in_map patterns pattern row = option_map_or (λ rows. is_in rows row) (rows_for patterns pattern) false
 
 -- whether the row is held with these pattern values, and whether any row is
 abbrev pub has : SideRows → List ℕ → ℕ → Bool
@@ -47,7 +47,7 @@ has (Several patterns) pattern row = in_map patterns pattern row
 abbrev pub has_some : SideRows → List ℕ → Bool
 has_some Empty pattern = false
 has_some (Single held rows) pattern = bytes_eq pattern held.items && is_filled rows
-has_some (Several patterns) pattern = option_map_or is_filled (rows_in patterns pattern) false
+has_some (Several patterns) pattern = option_map_or is_filled (rows_for patterns pattern) false
 
 -- ---- changes
 

@@ -3,7 +3,7 @@
 ghost use Rattle.std.specs.Prelude.{◌≡◌, ◌⊎◌, true, false, option_copied, ◌==◌, ◌&&◌, ◌||◌, ℕ, List, not, ◌↔◌, IsTrue, IfOk, OnOk, OnErr, Contains};
 ghost use Rattle.std.specs.Option.{option_map_or};
 ghost use Rattle.std.specs.Str.{bytes_eq};
-ghost use Rattle.cind_index.specs.RowsHeld.{is_in, is_filled, rows_in, in_map, has, has_some, HasRowMore, HasRowLess, HaveTheSame, HasNothing};
+ghost use Rattle.cind_index.specs.RowsHeld.{is_in, is_filled, rows_for, in_map, has, has_some, HasRowMore, HasRowLess, HaveTheSame, HasNothing};
 
 use crate::row_set::RowSet;
 use row_store::RowId;
@@ -179,7 +179,7 @@ fn take_from_map(patterns: &mut Patterns, pattern: &[ValueId], row: RowId)
 fn take_in_map(patterns: &mut Patterns, pattern: &[ValueId], row: RowId) -> bool
     ensures left { result ≡ false → HasRowLess pattern.now row (SideRows.Several patterns.old) (SideRows.Several patterns.new) }
     ensures none { result ≡ true → (other : ℕ) → (not (other == row) && in_map patterns.old pattern.now other) ≡ false }
-    ensures others { (ids : List ℕ) → bytes_eq ids pattern.now ≡ false → rows_in patterns.new ids ≡ rows_in patterns.old ids }
+    ensures others { (ids : List ℕ) → bytes_eq ids pattern.now ≡ false → rows_for patterns.new ids ≡ rows_for patterns.old ids }
 {
     match patterns.get_mut(pattern) {
         Some(rows) => rows.take(row),

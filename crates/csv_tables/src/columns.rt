@@ -13,7 +13,7 @@ ghost use Rattle.csv_tables.specs.TableFiles.{column_fault, column_place, domain
 ghost use Rattle.csv_tables.specs.declared.fault.TableFault.TheVariants as fault;
 
 use crate::fault::TableFault;
-use crate::fields::{has_longer_field, is_text, place_of, text_at};
+use crate::fields::{has_longer_field, is_text, place_of, utf8_field};
 use csv::ByteRecord;
 use schema_core::{Attr, Limits, List, Table, Text, Texts};
 use std::alloc::Global;
@@ -102,7 +102,7 @@ fn check_column(
     ensures { let left = column_fault table.now (take place (fields_of header.now)) (drop place (fields_of header.now)) in
         UnlessMemory table_tells (λ _. left ≡ column_fault table.now (take (place + 1) (fields_of header.now)) (drop (place + 1) (fields_of header.now))) (λ f. left ≡ Some f) result }
 {
-    let name = text_at(header, place);
+    let name = utf8_field(header, place);
     if table.attr_named(name).is_none() {
         return Err(TableFault::HeaderColumn(Text::new(alloc, name)?));
     }
@@ -180,7 +180,7 @@ fn cell(
     ensures domain { let is_admitted = admits attr.now.domain (slice_index_or (fields_of fields.now) place []) in
         UnlessMemory table_tells (λ _. is_admitted ≡ true) (λ f. (is_admitted ≡ false) × (f ≡ fault.NotInDomain at attr.now.name)) result }
 {
-    let text = text_at(fields, place);
+    let text = utf8_field(fields, place);
     if !attr.domain.admits(text) {
         let attr = attr.name.clone()?;
         return Err(TableFault::NotInDomain { at, attr });

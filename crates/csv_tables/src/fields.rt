@@ -27,7 +27,7 @@ pub(crate) fn field_text(fields: &ByteRecord, place: usize) -> Option<&str>
 }
 
 /// The field at the place of a record whose fields are UTF-8.
-pub(crate) fn text_at(fields: &ByteRecord, place: usize) -> &str
+pub(crate) fn utf8_field(fields: &ByteRecord, place: usize) -> &str
     requires inside { place < length (fields_of fields.now) }
     requires text { list_all is_utf8 (fields_of fields.now) ≡ true }
     ensures { result.now ≡ slice_index_or (fields_of fields.now) place [] }

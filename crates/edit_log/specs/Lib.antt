@@ -1,2 +1,2 @@
-pub mod Trail
+pub mod Journal
 pub mod Log

@@ -15,9 +15,9 @@ pub struct Log {
 
 impl Model for Log {
     ghost use Rattle.std.specs.Prelude.{◌≤◌, ◌-◌, take, drop, vec_len, vec_capacity};
-    ghost use Rattle.edit_log.specs.Trail.{Trail};
+    ghost use Rattle.edit_log.specs.Journal.{Journal};
 
-    ghost Value = { Trail };
+    ghost Value = { Journal };
 
     ghost view = { λ s. record { past = take s.place s.changes.items; undone = drop s.place s.changes.items; spare = vec_capacity s.changes - s.place } };
 
@@ -26,7 +26,7 @@ impl Model for Log {
 
 impl Log {
     ghost use Rattle.std.specs.Borrow.{sem};
-    ghost use Rattle.edit_log.specs.Trail.{last_of, first_of};
+    ghost use Rattle.edit_log.specs.Journal.{last_change, first_change};
     ghost use Rattle.edit_log.specs.Log.{EndsSo, MovesBack, MovesForward};
 
     pub fn new(alloc: Global) -> Self
@@ -63,14 +63,14 @@ impl Log {
 
     /// The last past change.
     pub fn last(&self) -> Option<&Change>
-        ensures { option_copied result ≡ last_of self.now.past }
+        ensures { option_copied result ≡ last_change self.now.past }
     {
         self.changes.get(self.place.checked_sub(1)?)
     }
 
     /// The change that comes next when one is done again.
     pub fn next(&self) -> Option<&Change>
-        ensures { option_copied result ≡ first_of self.now.undone }
+        ensures { option_copied result ≡ first_change self.now.undone }
     {
         self.changes.get(self.place)
     }
@@ -78,7 +78,7 @@ impl Log {
     /// Takes the last past change back: it is the next to be done again. Gives the change.
     pub fn back(&mut self) -> Option<&Change>
         ensures* after { sem 𝓛 (EndsSo self.entry (MovesBack (option_copied result) self.old)) }
-        ensures given { option_copied result ≡ last_of self.old.past }
+        ensures given { option_copied result ≡ last_change self.old.past }
     {
         let before = self.place.checked_sub(1)?;
         self.place = before;
@@ -88,7 +88,7 @@ impl Log {
     /// Makes the next undone change again: it is the last past one. Gives the change.
     pub fn forward(&mut self) -> Option<&Change>
         ensures* after { sem 𝓛 (EndsSo self.entry (MovesForward (option_copied result) self.old)) }
-        ensures given { option_copied result ≡ first_of self.old.undone }
+        ensures given { option_copied result ≡ first_change self.old.undone }
     {
         if self.place == self.changes.len() {
             return None;

@@ -4,7 +4,7 @@ use Rattle.std.specs.Prelude.{◌≢◌, Any, IsErrAnd}
 use Rattle.row_store.specs.Tuple.{ids_of}
 use Rattle.schema_core.specs.Lookups.{attrs_at}
 use Rattle.schema_core.specs.declared.schema.Attr.{Attr}
-use Rattle.value_pool.specs.Pool.{AreDistinct}
+use Rattle.value_pool.specs.Pool.{HaveOneId}
 use Rattle.rule_model.specs.Books.{IsBook}
 use Rattle.rule_runs.specs.declared.moves.Start.{Start}
 use Rattle.rule_runs.specs.Marks.{marked}
@@ -27,7 +27,7 @@ use Rattle.fix_engine.proofs.VerdictFacts.{verdict_from}
 abbrev pub named : Start → List (List ℕ) → Question (List ℕ)
 named start names = question start.rules.now start.pool.now start.masters.now start.table (ids_of start.tuple.now) names
 
-module _ (start : Start) (names : List (List ℕ)) (book : IsBook start.rules.now) (distinct : AreDistinct start.pool.now) (is_start : IsStart start) where
+module _ (start : Start) (names : List (List ℕ)) (book : IsBook start.rules.now) (distinct : HaveOneId start.pool.now) (is_start : IsStart start) where
   -- where the marks are those of the names, what is found at the start is a verdict on the question
   pub verdict_named : (v : Verdict) → ((attr : ℕ) → marked start.vouched attr ≡ is_vouched (attrs_at start.rules.now.schema start.table) names attr)
       → HasTuplesIn start.rules.now start.pool.now start.table v → IsFound (asked_at start) v → IsVerdictOn start.pool.now (named start names) v

@@ -8,7 +8,7 @@ use Rattle.std.specs.Str.{bytes_eq}
 use Rattle.std.proofs.lemmas.List.{take-map}
 use Rattle.std.proofs.lemmas.Option.{slice_get-get_or, slice_get-map}
 use Rattle.schema_core.specs.Lookups.{attrs_at}
-use Rattle.value_pool.specs.Pool.{AreDistinct}
+use Rattle.value_pool.specs.Pool.{HaveOneId}
 use Rattle.rule_model.specs.Books.{Book, book_edits}
 use Rattle.master_index.specs.Masters.{Masters}
 use Rattle.rule_runs.specs.declared.moves.Move.{Move}
@@ -29,7 +29,7 @@ known_row : (rules : Book) (pool : List (List ℕ)) (table : ℕ) (o : Option (L
 known_row rules pool table None is_tuple = tt
 known_row rules pool table (Some ids) is_tuple = is_tuple.ids
 
-module _ (rules : Book) (pool : List (List ℕ)) (masters : Masters) (table : ℕ) (distinct : AreDistinct pool) (are : AreMasters rules pool masters) where
+module _ (rules : Book) (pool : List (List ℕ)) (masters : Masters) (table : ℕ) (distinct : HaveOneId pool) (are : AreMasters rules pool masters) where
   abbrev Known : ℕ → Type 0
   Known id = id < length pool
 

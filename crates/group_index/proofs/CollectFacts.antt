@@ -11,7 +11,7 @@ use Rattle.std.proofs.lemmas.List.Elements.{All-contains}
 use Rattle.std.proofs.lemmas.List.Sorted.{IsPermutation-map, IsPermutation-sym, Contains-permutation}
 use Rattle.std.proofs.lemmas.Map.Keys.{IsDistinct-IsPermutation, apart_from_distinct}
 use Rattle.std.proofs.lemmas.Option.{same_Some}
-use Rattle.marked_map.specs.MarkedMap.{AreDistinct}
+use Rattle.marked_map.specs.MarkedMap.{HaveDistinctKeys}
 use Rattle.cfd_semantics.specs.declared.dependency.TableauRow.{TableauRow}
 use Rattle.cfd_semantics.specs.declared.dependency.Dependency.{Dependency}
 use Rattle.cfd_semantics.specs.declared.violation.Violation.{Violation}
@@ -112,7 +112,7 @@ module _ (groups : KeyedGroups) (t : TableauRow ℕ) where
   longer : (count : ℕ) (w : Violation) → ListedAt count w → ListedAt (count + 1) w
   longer count w it = record { place = it.place; group = it.group; own = it.own; below = omega (arith, it.below); at = it.at; member = it.member; row = it.row; listed = it.listed }
 
-module _ (groups : KeyedGroups) (distinct : AreDistinct same_key groups) (t : TableauRow ℕ) (settled : HasOneARow (λ (e : Entry ℕ). e.row) (is_in groups.pairs)) where
+module _ (groups : KeyedGroups) (distinct : HaveDistinctKeys same_key groups) (t : TableauRow ℕ) (settled : HasOneARow (λ (e : Entry ℕ). e.row) (is_in groups.pairs)) where
   -- two pairs with one row are one, in one group
   one_row : (i j : ℕ) (g h : KeyedGroup) (p q : Pair) → slice_get groups.pairs i ≡ Some g → slice_get groups.pairs j ≡ Some h → Contains (pairs_of g.1) p → Contains (pairs_of h.1) q → p.1 ≡ q.1 → (i ≡ j) × (p ≡ q)
   one_row i j g h p q at_i at_j inside beside same =

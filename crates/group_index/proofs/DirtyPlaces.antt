@@ -6,7 +6,7 @@ use Rattle.std.specs.List.{list_any, IsDistinct, AllByRecursion}
 use Rattle.std.specs.Str.{bytes_eq}
 use Rattle.std.proofs.lemmas.Bool.{cases_lt}
 use Rattle.std.proofs.lemmas.Option.{none-some, same_Some}
-use Rattle.marked_map.specs.MarkedMap.{AreDistinct}
+use Rattle.marked_map.specs.MarkedMap.{HaveDistinctKeys}
 use Rattle.cfd_semantics.specs.declared.dependency.TableauRow.{TableauRow}
 use Rattle.cfd_semantics.specs.declared.dependency.Dependency.{Dependency}
 use Rattle.cfd_semantics.specs.Pattern.{matches, all_match}
@@ -63,7 +63,7 @@ module _ (d : Dependency ℕ) (groups : KeyedGroups) where
     pub key : group.0.items ≡ x
     pub dirty : is_dirty_at d.rows group ≡ true
 
-  module _ (distinct : AreDistinct same_key groups) where
+  module _ (distinct : HaveDistinctKeys same_key groups) where
     dirty_by : (t : TableauRow ℕ) (g : KeyedGroup) → Contains d.rows t → all_match nat_eq t.x g.0.items ≡ true → disagree t.a (pairs_of g.1) ≡ true → is_dirty_at d.rows g ≡ true
     dirty_by t g inside matched disagrees =
         any_from_found (λ t. all_match nat_eq t.x g.0.items && disagree t.a (pairs_of g.1)) d.rows t inside (both_so (all_match nat_eq t.x g.0.items) (disagree t.a (pairs_of g.1)) matched disagrees)
@@ -156,7 +156,7 @@ once (suc m) (g ∷ gs) distinct = (
 )
 
 -- so many groups are dirty as are marked
-pub dirty_are_marked : (made : GroupsMade) (groups : KeyedGroups) (s : GroupSet) (count : ℕ) → set_of made groups ≡ s → AreDistinct same_key groups → AreMarked made.dependency.rows groups → groups.marked ≤ length groups.pairs → count ≡ groups.marked → AreDirty s count
+pub dirty_are_marked : (made : GroupsMade) (groups : KeyedGroups) (s : GroupSet) (count : ℕ) → set_of made groups ≡ s → HaveDistinctKeys same_key groups → AreMarked made.dependency.rows groups → groups.marked ≤ length groups.pairs → count ≡ groups.marked → AreDirty s count
 dirty_are_marked made groups s count view distinct are fits is = subst (λ (r : GroupSet). AreDirty r count) view (record {
   groups = firsts groups.marked groups.pairs;
   once = once groups.marked groups.pairs (λ i j g h one other same. distinct i j g.0 h.0 (key_at groups.pairs i g one) (key_at groups.pairs j h other) same);

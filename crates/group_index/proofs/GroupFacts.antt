@@ -12,7 +12,7 @@ use Rattle.std.proofs.lemmas.List.Folds.{list_any-append}
 use Rattle.std.proofs.lemmas.Option.{none-some, same_Some, slice_get_within}
 use Rattle.std.proofs.lemmas.Slice.Eq.{bytes_eq-Decides}
 use Rattle.marked_map.specs.Lending.{with_value}
-use Rattle.marked_map.specs.MarkedMap.{HasKey, AreDistinct, Enters}
+use Rattle.marked_map.specs.MarkedMap.{HasKey, HaveDistinctKeys, Enters}
 use Rattle.cfd_semantics.specs.Violation.{Entry}
 use Rattle.group_index.specs.declared.group.Group.{Group}
 use Rattle.group_index.specs.declared.group.Group.TheVariants.{One}
@@ -326,7 +326,7 @@ module _ (old mid : KeyedGroups) (key : Vec ℕ Global) (a row place : ℕ) (v w
 
 -- ---- a pair is taken from the group at a place
 
-module _ (old : KeyedGroups) (place : ℕ) (key : Vec ℕ Global) (v w : Group) (entry : Entry ℕ) (at : slice_get old.pairs place ≡ Some (key, v)) (is : key.items ≡ entry.x) (distinct : AreDistinct same_key old) where
+module _ (old : KeyedGroups) (place : ℕ) (key : Vec ℕ Global) (v w : Group) (entry : Entry ℕ) (at : slice_get old.pairs place ≡ Some (key, v)) (is : key.items ≡ entry.x) (distinct : HaveDistinctKeys same_key old) where
   -- no other group has the entry's key
   other_key : (j : ℕ) (group : KeyedGroup) → slice_get old.pairs j ≡ Some group → group.0.items ≡ entry.x → j ≡ place
   other_key j group stands same =

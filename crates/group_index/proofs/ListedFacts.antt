@@ -9,7 +9,7 @@ use Rattle.std.specs.BTreeSet.{BTreeSet}
 use Rattle.std.specs.List.Sorted.{IsStrictlySortedBy}
 use Rattle.std.proofs.lemmas.Bool.Decides.{nat_tests}
 use Rattle.std.proofs.lemmas.Map.Keys.{Less-from_sorted}
-use Rattle.marked_map.specs.MarkedMap.{AreDistinct}
+use Rattle.marked_map.specs.MarkedMap.{HaveDistinctKeys}
 use Rattle.cfd_semantics.specs.declared.pattern.Pattern.{Pattern}
 use Rattle.cfd_semantics.specs.declared.dependency.TableauRow.{TableauRow}
 use Rattle.cfd_semantics.specs.declared.violation.Violation.{Violation}
@@ -52,7 +52,7 @@ adds_listed cell group pairs first second old new is leads ordered added = recor
 abbrev with_partner : Pair → ℕ → Violation
 with_partner p partner = record { row = p.1; partner = Some partner }
 
-module _ (made : GroupsMade) (groups : KeyedGroups) (distinct : AreDistinct same_key groups) (t : TableauRow ℕ) (place : ℕ) (key : Vec ℕ Global) (v : Group) (at : slice_get groups.pairs place ≡ Some (key, v))
+module _ (made : GroupsMade) (groups : KeyedGroups) (distinct : HaveDistinctKeys same_key groups) (t : TableauRow ℕ) (place : ℕ) (key : Vec ℕ Global) (v : Group) (at : slice_get groups.pairs place ≡ Some (key, v))
     (matched : all_match nat_eq t.x key.items ≡ true) (first : Option Pair) (second : Option ℕ) (leads : AreLeads t.a (IsAmong (pairs_of v)) first second) where
   partner_is : (p : Pair) → matches nat_eq t.a p.0 ≡ true → IsPartnerOf (set_of made groups) t (entry_in key p) (partner_by first second p.0)
   partner_is p does =

@@ -6,7 +6,7 @@ use Rattle.std.specs.declared.vec.Vec.{Vec}
 use Rattle.std.specs.declared.alloc.Global.{Global}
 use Rattle.std.proofs.lemmas.Bool.Decides.{nat_tests}
 use Rattle.std.proofs.lemmas.Option.{same_Some, slice_get-get_or}
-use Rattle.marked_map.specs.MarkedMap.{IsAbsent, AreDistinct}
+use Rattle.marked_map.specs.MarkedMap.{IsAbsent, HaveDistinctKeys}
 use Rattle.cfd_semantics.specs.declared.dependency.TableauRow.{TableauRow}
 use Rattle.cfd_semantics.specs.Pattern.{matches, all_match}
 use Rattle.cfd_semantics.specs.Violation.{Entry}
@@ -33,7 +33,7 @@ module _ (groups : KeyedGroups) (place : ℕ) (key : Vec ℕ Global) (v : Group)
   entry_of_pair p inside =
       is_in_from groups.pairs (entry_in key p) place (key, v) at (both_so (bytes_eq key.items key.items) (has_pair (pairs_of v) p) (same_ids key.items key.items refl) (has_from (pairs_of v) p inside))
 
-  module _ (distinct : AreDistinct same_key groups) where
+  module _ (distinct : HaveDistinctKeys same_key groups) where
     -- an entry with the group's key is a pair of it
     pub pair_of_entry : (e : Entry ℕ) → key.items ≡ e.x → is_in groups.pairs e ≡ true → Contains (pairs_of v) (e.a, e.row)
     pair_of_entry e same inside =

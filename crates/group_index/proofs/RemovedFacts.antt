@@ -5,7 +5,7 @@ use Rattle.std.specs.declared.vec.Vec.{Vec}
 use Rattle.std.specs.declared.alloc.Global.{Global}
 use Rattle.std.proofs.lemmas.Bool.{cases_lt, cases_eq}
 use Rattle.std.proofs.lemmas.Option.{same_Some}
-use Rattle.marked_map.specs.MarkedMap.{IsAbsent, AreDistinct, KeepsOthers}
+use Rattle.marked_map.specs.MarkedMap.{IsAbsent, HaveDistinctKeys, KeepsOthers}
 use Rattle.cfd_semantics.specs.declared.dependency.TableauRow.{TableauRow}
 use Rattle.cfd_semantics.specs.Violation.{Entry}
 use Rattle.group_index.specs.declared.group.Group.{Group}
@@ -26,7 +26,7 @@ content_absent old entry key is absent e = by (is_entry entry e) refl
         clash (same_key key it.group.0) (same_ids key.items it.group.0.items (is ∙ (is_entry_parts entry e same).x ∙ sym own)) (absent it.place it.group.0 (key_at old.pairs it.place it.group it.at)))
 
 -- a group with the pair alone is taken away
-module _ (old new : KeyedGroups) (place : ℕ) (key : Vec ℕ Global) (v w : Group) (taken : KeyedGroup) (at : slice_get old.pairs place ≡ Some (key, v)) (distinct : AreDistinct same_key old)
+module _ (old new : KeyedGroups) (place : ℕ) (key : Vec ℕ Global) (v w : Group) (taken : KeyedGroup) (at : slice_get old.pairs place ≡ Some (key, v)) (distinct : HaveDistinctKeys same_key old)
     (is_taken : slice_get (set_value_at old.pairs place w) place ≡ Some taken) (others : KeepsOthers (record { pairs = set_value_at old.pairs place w; marked = old.marked }) place new) (gone : IsAbsent same_key new taken.0) where
   abbrev mid : KeyedGroups
   mid = record { pairs = set_value_at old.pairs place w; marked = old.marked }

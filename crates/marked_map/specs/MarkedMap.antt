@@ -44,8 +44,8 @@ module _ {K V : Type 0} where
     IsAbsent m key = (place : ℕ) (stored : K) → slice_get (keys_of m.pairs) place ≡ Some stored → same key stored ≡ false
 
     -- equal keys stand at one place
-    abbrev pub AreDistinct : MarkedPairs K V → Type 0
-    AreDistinct m = (place other : ℕ) (key stored : K) → slice_get (keys_of m.pairs) place ≡ Some key
+    abbrev pub HaveDistinctKeys : MarkedPairs K V → Type 0
+    HaveDistinctKeys m = (place other : ℕ) (key stored : K) → slice_get (keys_of m.pairs) place ≡ Some key
         → slice_get (keys_of m.pairs) other ≡ Some stored → same key stored ≡ true → place ≡ other
 
     -- a key that is there keeps its pair, and a new one comes in last, unmarked, with the fresh value

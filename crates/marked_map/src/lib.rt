@@ -12,7 +12,7 @@ ghost use Rattle.std.specs.Prelude.{◌≡◌, ◌+◌, ◌-◌, ◌<◌, ◌≤
 ghost use Rattle.std.specs.Borrow.{sem};
 ghost use Rattle.std.specs.Map.{keys_of, values_of};
 ghost use Rattle.marked_map.specs.Lending.{lends_value};
-ghost use Rattle.marked_map.specs.MarkedMap.{AreDistinct, Enters, HasKey, IsAbsent, KeepsOthers, with_mark, without_mark, without_pair};
+ghost use Rattle.marked_map.specs.MarkedMap.{HaveDistinctKeys, Enters, HasKey, IsAbsent, KeepsOthers, with_mark, without_mark, without_pair};
 
 mod entry;
 
@@ -58,7 +58,7 @@ impl<K: Eq + Hash, V> MarkedMap<K, V> {
     /// How many pairs there are.
     pub fn len(&self) -> usize
         ensures len { result ≡ length self.now.pairs }
-        ensures distinct { AreDistinct K.eq self.now }
+        ensures distinct { HaveDistinctKeys K.eq self.now }
     {
         self.map.len()
     }
@@ -77,7 +77,7 @@ impl<K: Eq + Hash, V> MarkedMap<K, V> {
         ensures within { IfSome result (λ place. place < length self.now.pairs) }
         ensures absent { IfNone result (IsAbsent K.eq self.now key.now) }
         ensures probes { steps.new ≡ steps.old + 1 }
-        ensures distinct { AreDistinct K.eq self.now }
+        ensures distinct { HaveDistinctKeys K.eq self.now }
     {
         steps.tick();
         self.map.get_index_of(key)
@@ -101,7 +101,7 @@ impl<K: Eq + Hash, V> MarkedMap<K, V> {
         ensures absent { OnErr result (IsAbsent K.eq self.old key) }
         ensures err { OnErr result (self.new ≡ self.old) }
         ensures probes { steps.new ≡ steps.old + 1 }
-        ensures distinct { AreDistinct K.eq self.new }
+        ensures distinct { HaveDistinctKeys K.eq self.new }
     {
         find_or_push(&mut self.map, key, fresh, steps)
     }

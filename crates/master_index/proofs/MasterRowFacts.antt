@@ -11,7 +11,7 @@ use Rattle.std.proofs.lemmas.Bool.Decides.{nat_tests}
 use Rattle.std.proofs.lemmas.Cmp.{then_total, on_total, nat_cmp_total}
 use Rattle.std.proofs.lemmas.Map.Lookups.{exact_pairs, exact_unsigned}
 use Rattle.row_store.specs.Tuple.{Tuple, ids_of}
-use Rattle.master_index.specs.Masters.{RowName, MasterRows, row_name_cmp, rows_in}
+use Rattle.master_index.specs.Masters.{RowName, MasterRows, row_name_cmp, rows_of_entries}
 
 pub names_total : IsTotalOrder row_name_cmp
 names_total = then_total (on_total (λ (name : RowName). name.0) nat_cmp_total) (on_total (λ (name : RowName). name.1) nat_cmp_total)
@@ -39,11 +39,11 @@ found_alike (e ∷ entries) name = by (same_name name e.0) (name_tie name e.0) (
     by false is rest = ap (λ b. cond b (Some (ids_of e.1)) (find row_name_cmp name (map (λ entry. (entry.0, ids_of entry.1)) entries))) is ∙ rest
 
 -- a row is found where the hashed map has it
-pub row_found : (entries : List (RowName × Tuple)) (name : RowName) → finite.get (rows_in entries) name ≡ option_map ids_of (lookup (same_name name) entries)
+pub row_found : (entries : List (RowName × Tuple)) (name : RowName) → finite.get (rows_of_entries entries) name ≡ option_map ids_of (lookup (same_name name) entries)
 row_found entries name = finite.get-from_entries names_total (map (λ entry. (entry.0, ids_of entry.1)) entries) name ∙ found_alike entries name
 
 -- and the hashed map has it where it is found
-pub row_stands : (entries : List (RowName × Tuple)) (name : RowName) → IsSome (finite.get (rows_in entries) name) → IsSome (lookup (same_name name) entries)
+pub row_stands : (entries : List (RowName × Tuple)) (name : RowName) → IsSome (finite.get (rows_of_entries entries) name) → IsSome (lookup (same_name name) entries)
 row_stands entries name there = by (lookup (same_name name) entries) (subst IsSome (row_found entries name) there)
   where
     by : (o : Option Tuple) → IsSome (option_map ids_of o) → IsSome o
@@ -60,24 +60,24 @@ unseen false o = refl
 
 module _ (old new : List (RowName × Tuple)) (name : RowName) where
   pub rows_inserted : (tuple : Tuple) → ((other : RowName) → lookup (same_name other) new ≡ cond (same_name name other) (Some tuple) (lookup (same_name other) old))
-      → rows_in new ≡ finite.insert (rows_in old) name (ids_of tuple)
-  rows_inserted tuple is = finite.same_map names_total names_apart (rows_in new) (finite.insert (rows_in old) name (ids_of tuple)) (λ other.
+      → rows_of_entries new ≡ finite.insert (rows_of_entries old) name (ids_of tuple)
+  rows_inserted tuple is = finite.same_map names_total names_apart (rows_of_entries new) (finite.insert (rows_of_entries old) name (ids_of tuple)) (λ other.
       row_found new other ∙ ap (option_map ids_of) (is other) ∙ seen (same_name name other) tuple (lookup (same_name other) old)
       ∙ ap (cond (same_name name other) (Some (ids_of tuple))) (sym (row_found old other))
-      ∙ ap (λ b. cond b (Some (ids_of tuple)) (finite.get (rows_in old) other)) (sym (name_tie_back other name))
-      ∙ sym (finite.get-insert names_total (rows_in old) name (ids_of tuple) other))
+      ∙ ap (λ b. cond b (Some (ids_of tuple)) (finite.get (rows_of_entries old) other)) (sym (name_tie_back other name))
+      ∙ sym (finite.get-insert names_total (rows_of_entries old) name (ids_of tuple) other))
 
   pub rows_removed : ((other : RowName) → lookup (same_name other) new ≡ cond (same_name name other) None (lookup (same_name other) old))
-      → rows_in new ≡ finite.remove (rows_in old) name
-  rows_removed is = finite.same_map names_total names_apart (rows_in new) (finite.remove (rows_in old) name) (λ other.
+      → rows_of_entries new ≡ finite.remove (rows_of_entries old) name
+  rows_removed is = finite.same_map names_total names_apart (rows_of_entries new) (finite.remove (rows_of_entries old) name) (λ other.
       row_found new other ∙ ap (option_map ids_of) (is other) ∙ unseen (same_name name other) (lookup (same_name other) old)
       ∙ ap (cond (same_name name other) None) (sym (row_found old other))
-      ∙ ap (λ b. cond b None (finite.get (rows_in old) other)) (sym (name_tie_back other name))
-      ∙ sym (finite.get-remove names_total (rows_in old) name other))
+      ∙ ap (λ b. cond b None (finite.get (rows_of_entries old) other)) (sym (name_tie_back other name))
+      ∙ sym (finite.get-remove names_total (rows_of_entries old) name other))
 
 -- the same rows, however the hashed map orders them
-pub rows_alike : (old new : List (RowName × Tuple)) → ((other : RowName) → lookup (same_name other) new ≡ lookup (same_name other) old) → rows_in new ≡ rows_in old
-rows_alike old new is = finite.same_map names_total names_apart (rows_in new) (rows_in old) (λ other. row_found new other ∙ ap (option_map ids_of) (is other) ∙ sym (row_found old other))
+pub rows_alike : (old new : List (RowName × Tuple)) → ((other : RowName) → lookup (same_name other) new ≡ lookup (same_name other) old) → rows_of_entries new ≡ rows_of_entries old
+rows_alike old new is = finite.same_map names_total names_apart (rows_of_entries new) (rows_of_entries old) (λ other. row_found new other ∙ ap (option_map ids_of) (is other) ∙ sym (row_found old other))
 
 -- the rows after a change, as indexes see them
 pub row_after_insert : (rows : MasterRows) (table row t r : ℕ) (ids : List ℕ) → finite.get (finite.insert rows (table, row) ids) (t, r) ≡ cond ((t == table) && (r == row)) (Some ids) (finite.get rows (t, r))

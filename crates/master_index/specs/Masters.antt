@@ -52,5 +52,5 @@ masters_code =
     (λ _. refl)
 
 -- the rows in a hashed map's entries
-abbrev pub rows_in : List (RowName × Tuple) → MasterRows
-rows_in entries = finite.from_entries (map (λ entry. (entry.0, ids_of entry.1)) entries)
+abbrev pub rows_of_entries : List (RowName × Tuple) → MasterRows
+rows_of_entries entries = finite.from_entries (map (λ entry. (entry.0, ids_of entry.1)) entries)

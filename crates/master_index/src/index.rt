@@ -24,7 +24,7 @@ pub struct MasterIndex {
 
 impl Model for MasterIndex {
     ghost use Rattle.std.specs.Prelude.{map};
-    ghost use Rattle.master_index.specs.Masters.{Masters, masters_code, rows_in};
+    ghost use Rattle.master_index.specs.Masters.{Masters, masters_code, rows_of_entries};
 
     ghost Value = { Masters };
 
@@ -32,9 +32,9 @@ impl Model for MasterIndex {
 
     ghost use Rattle.master_index.specs.InStep.{IsMasterIndex};
 
-    ghost view = { λ m. record { lists = map (λ index. index.list) m.columns.items; rows = rows_in m.tuples.entries } };
+    ghost view = { λ m. record { lists = map (λ index. index.list) m.columns.items; rows = rows_of_entries m.tuples.entries } };
 
-    ghost invariant = { λ m. IsMasterIndex m.columns.items (rows_in m.tuples.entries) };
+    ghost invariant = { λ m. IsMasterIndex m.columns.items (rows_of_entries m.tuples.entries) };
 }
 
 impl MasterIndex {

@@ -6,6 +6,7 @@ use super::*;
 use rule_model::{RuleBook, RuleFault};
 use schema_core::{Limits, parse_schema};
 use std::alloc::{AllocError, Global};
+use std::process::Abort;
 use std::test::Fail;
 
 const SCHEMA: &[u8] =
@@ -60,7 +61,18 @@ fn refused(alloc: Global, fault: &ParseFault) -> Result<String, AllocError> {
 fn outcome(alloc: Global, rules: &[u8], limits: &Limits) -> Result<String, Fail>
     requires { AreLimits limits.now }
 {
-    let schema = parse_schema(alloc, SCHEMA, limits)?;
+    outcome_over(alloc, SCHEMA, rules, limits)
+}
+
+fn outcome_over(
+    alloc: Global,
+    schema: &[u8],
+    rules: &[u8],
+    limits: &Limits,
+) -> Result<String, Fail>
+    requires { AreLimits limits.now }
+{
+    let schema = parse_schema(alloc, schema, limits)?;
     match parse_rules(alloc, schema, rules, limits) {
         Ok(book) => {
             let deps = book.deps().as_slice().len();
@@ -277,10 +289,70 @@ fn limits_and_bytes(rt: HostRuntime) -> Result<(), Fail> {
     Ok(())
 }
 
-/// A rule file with a set of so many members.
-fn with_members(alloc: Global, count: u32) -> Result<String, AllocError> {
+/// A schema with an attribute of the name that parts an editing rule.
+const GIVES: &[u8] =
+    b"table cust 'c'\nattr zip\nattr gives\nattr city\nmaster book 'b'\nattr zip\nattr city\n";
+
+/// Rules over it, with what they give.
+const GIVES_CASES: &str = "\
+0 0 1 | edit e cust using book: gives=zip gives city=city\n\
+0 0 1 | edit e cust using book: zip=zip gives gives = city when gives='a'\n\
+1 NoMatchColumn | edit e cust using book: gives gives=zip\n\
+1 UnknownAttr gives | edit e cust using book: gives gives=gives\n\
+1 UnknownAttr gives | edit e cust using book: zip=gives gives city=city\n\
+1 TargetInX gives | edit e cust using book: gives=zip gives gives=city\n";
+
+/// Two faults at once, of which one is told; `@` ends a line. The book has room for one dependency.
+const FIRST_FAULTS: &str = "\
+3 BadLine | cfd f cust: [] -> [AC, city]@row || _, _@row _@\n\
+1 TooMany Deps | cfd f cust: [] -> [AC, city]@row || _, _@index@\n\
+1 TooMany Deps | cfd f cust: [] -> [AC, city]@row || _, _@cfd@\n\
+1 RepeatedAttr AC | cind c cust[zip, AC; AC] in book[zip, zip; ]@row 'x' ||@\n\
+1 RepeatedAttr zip | cind c cust[zip, AC; ] in book[zip, city; zip]@row || 'x'@\n\
+1 RepeatedAttr zip | edit e cust using book: zip=zip, zip=city gives city=city when AC='1', AC='2'@\n\
+1 WidthMismatch | cind c cust[zip; ] in book[zip; CC]@row ||@row || '44'@\n\
+1 ConstantOutsideDomain CC 9 | cfd f cust: [CC] -> [AC]@row not {'9', '01', '01'} || _@\n";
+
+/// A text with line ends for its `@`.
+fn with_lines(alloc: Global, text: &str) -> Result<String, AllocError> {
+    let mut lines = String::new(alloc);
+    for line in text.split('@') {
+        lines.push_str(line)?;
+        lines.push_str("\n")?;
+    }
+    Ok(lines)
+}
+
+/// Each line of a table: what rules over a schema give, and the rules.
+fn run(
+    rt: &(impl Abort + AllocGlobal),
+    schema: &[u8],
+    table: &str,
+    limits: &Limits,
+) -> Result<(), Fail>
+    requires { AreLimits limits.now }
+{
+    for line in table.lines() {
+        let (want, rules) = line.split_once(" | ").unwrap_or(("", ""));
+        let rules = with_lines(rt.alloc(), rules)?;
+        let got = outcome_over(rt.alloc(), schema, rules.as_bytes(), limits)?;
+        assert_eq!(rt; got.as_str(), want, "{line}");
+    }
+    Ok(())
+}
+
+#[test]
+fn first_faults(rt: HostRuntime) -> Result<(), Fail> {
+    let limits = Limits::standard();
+    run(&rt, GIVES, GIVES_CASES, &limits)?;
+    run(&rt, SCHEMA, FIRST_FAULTS, &Limits { deps: 1, ..limits })
+}
+
+/// A rule file, the beginning of which is given, with a set of so many members.
+fn with_members(alloc: Global, beginning: &str, count: u32) -> Result<String, AllocError> {
     let mut text = String::new(alloc);
-    text.push_str("cfd f cust: [AC] -> [city]\nrow in {'first'")?;
+    text.push_str(beginning)?;
+    text.push_str(" {'first'")?;
     for member in 1..count {
         let member = format!(in alloc; ", '{member}'")?;
         text.push_str(member.as_str())?;
@@ -291,13 +363,15 @@ fn with_members(alloc: Global, count: u32) -> Result<String, AllocError> {
 
 #[test]
 fn members_of_a_set(rt: HostRuntime) -> Result<(), Fail> {
-    for (count, want) in [
-        (1, "1 0 0"),
-        (63, "1 0 0"),
-        (64, "1 0 0"),
-        (65, "2 BadLine"),
+    let set = "cfd f cust: [AC] -> [city]\nrow in";
+    for (beginning, count, want) in [
+        (set, 1, "1 0 0"),
+        (set, 63, "1 0 0"),
+        (set, 64, "1 0 0"),
+        (set, 65, "2 BadLine"),
+        ("cfd f x: [AC] -> [y]\nrow not", 65, "2 BadLine"),
     ] {
-        let rules = with_members(rt.alloc(), count)?;
+        let rules = with_members(rt.alloc(), beginning, count)?;
         let got = outcome(rt.alloc(), rules.as_bytes(), &Limits::standard())?;
         assert_eq!(rt; got.as_str(), want, "at {count}");
     }

@@ -10,7 +10,7 @@ use Rattle.std.proofs.lemmas.Option.{cond_some, none-some, same_Some, slice_get-
 use Rattle.std.proofs.lemmas.List.{map-append}
 use Rattle.std.specs.Option.{option_map}
 use native.Mathlib.Decide.{dec_lt}
-use Rattle.value_pool.specs.Pool.{HasId, IsNew, AreDistinct, KeepsIds}
+use Rattle.value_pool.specs.Pool.{HasId, IsNew, HaveOneId, KeepsIds}
 
 module _ {K : Type 0} (f : K → List ℕ) where
   -- no item from here on has the text of the item before it
@@ -20,7 +20,7 @@ module _ {K : Type 0} (f : K → List ℕ) where
   apart text (k ∷ ks) (suc id) h has = apart text ks id h.1 has
 
   -- keys that are apart have distinct texts
-  pub AreDistinct-map : (keys : List K) → IsDistinct (λ x y. bytes_eq (f x) (f y)) keys → AreDistinct (map f keys)
+  pub AreDistinct-map : (keys : List K) → IsDistinct (λ x y. bytes_eq (f x) (f y)) keys → HaveOneId (map f keys)
   unfolding IsDistinct
   AreDistinct-map [] d text one other p q = absurd (none-some text p)
   AreDistinct-map (k ∷ ks) d text zero zero p q = refl

@@ -10,8 +10,8 @@ abbrev pub IsNew : List (List ℕ) → List ℕ → Type 0
 IsNew texts text = (id : ℕ) → ¬ HasId texts text id
 
 -- no text has two ids
-abbrev pub AreDistinct : List (List ℕ) → Type 0
-AreDistinct texts = (text : List ℕ) (one other : ℕ) → HasId texts text one → HasId texts text other → one ≡ other
+abbrev pub HaveOneId : List (List ℕ) → Type 0
+HaveOneId texts = (text : List ℕ) (one other : ℕ) → HasId texts text one → HasId texts text other → one ≡ other
 
 -- each text that had an id has it still
 abbrev pub KeepsIds : List (List ℕ) → List (List ℕ) → Type 0

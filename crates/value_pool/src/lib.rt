@@ -3,7 +3,7 @@
 #![tactic(auto)]
 
 ghost use Rattle.std.specs.Prelude.{◌≡◌, ◌<◌, [], length, IfSome, IfNone, IfOk, OnOk, OnErr};
-ghost use Rattle.value_pool.specs.Pool.{AreDistinct, HasId, Interns, IsNew, KeepsIds};
+ghost use Rattle.value_pool.specs.Pool.{HaveOneId, HasId, Interns, IsNew, KeepsIds};
 
 use indexmap::IndexSet;
 use std::alloc::{AllocError, Global};
@@ -22,13 +22,13 @@ pub struct Pool {
 
 impl Model for Pool {
     ghost use Rattle.std.specs.Prelude.{List, map, ℕ, string_bytes};
-    ghost use Rattle.value_pool.specs.Pool.{AreDistinct};
+    ghost use Rattle.value_pool.specs.Pool.{HaveOneId};
 
     ghost Value = { List (List ℕ) };
 
     ghost view = { λ pool. map string_bytes pool.texts.keys };
 
-    ghost invariant = { λ pool. AreDistinct (map string_bytes pool.texts.keys) };
+    ghost invariant = { λ pool. HaveOneId (map string_bytes pool.texts.keys) };
 }
 
 impl Pool {
@@ -44,7 +44,7 @@ impl Pool {
     /// How many texts there are. Each number below it is the id of one.
     pub fn len(&self) -> usize
         ensures len { result ≡ length self.now }
-        ensures distinct { AreDistinct self.now }
+        ensures distinct { HaveOneId self.now }
     {
         self.texts.len()
     }
@@ -58,7 +58,7 @@ impl Pool {
 
         // Whatever the outcome, no id changes its text.
         ensures kept { KeepsIds self.old self.new }
-        ensures distinct { AreDistinct self.new }
+        ensures distinct { HaveOneId self.new }
     {
         if let Some(id) = self.find(text) {
             return Ok(id);
@@ -73,7 +73,7 @@ impl Pool {
         ensures found { IfSome result (HasId self.now text.now) }
         ensures within { IfSome result (λ id. id < length self.now) }
         ensures absent { IfNone result (IsNew self.now text.now) }
-        ensures distinct { AreDistinct self.now }
+        ensures distinct { HaveOneId self.now }
     {
         self.texts.get_index_of(text)
     }

@@ -9,7 +9,7 @@ use Rattle.cfd_semantics.specs.Pattern.{matches, all_match}
 use Rattle.cfd_semantics.specs.Violation.{violation_of}
 use Rattle.row_store.specs.Tuple.{ids_of}
 use Rattle.bench_index.specs.ByIds.{IsRowByIds}
-use Rattle.bench_index.specs.Lists.{text_at, texts_at}
+use Rattle.bench_index.specs.Lists.{text_of_cell, texts_at}
 use Rattle.bench_index.proofs.ByRows.{list_more, rows_passed}
 use Rattle.bench_index.proofs.Lines.{single_by_ids}
 use Rattle.bench_index.proofs.Reading.{zip_at}
@@ -33,8 +33,8 @@ line_of-requires-clause-alone g c t e at is =
     let beside = subst (λ (rows : List (TableauRow _)). slice_get rows c.loop-k.k ≡ Some row) c.as_slice-tableau.ensures there in
     let by_ids = zip_at (IsRowByIds texts) rule.rows d.rows c.loop-k.k row t c.requires.rule.rows beside at in
     c.is_single-alone.ensures
-    ∙ ap (λ x. all_match bytes_eq row.x (texts_at texts ids x) && not (matches bytes_eq row.a (text_at texts ids rule.a))) (sym c.requires.rule.x)
-    ∙ ap (λ a. all_match bytes_eq row.x (texts_at texts ids d.x) && not (matches bytes_eq row.a (text_at texts ids a))) (sym c.requires.rule.a)
+    ∙ ap (λ x. all_match bytes_eq row.x (texts_at texts ids x) && not (matches bytes_eq row.a (text_of_cell texts ids rule.a))) (sym c.requires.rule.x)
+    ∙ ap (λ a. all_match bytes_eq row.x (texts_at texts ids d.x) && not (matches bytes_eq row.a (text_of_cell texts ids a))) (sym c.requires.rule.a)
     ∙ single_by_ids texts ids c.requires.named c.len-len.ensures.distinct d c.args.row e row t c.requires.wide is by_ids
 
 pub loop-k-preserved : goal.loop-k-preserved

@@ -8,7 +8,7 @@ use Rattle.schema_core.specs.Lookups.{domain_at}
 use Rattle.schema_core.specs.declared.schema.Attr.{Attr}
 use Rattle.schema_core.specs.declared.schema.Domain.{Domain}
 use Rattle.schema_core.specs.declared.schema.Domain.TheVariants.{AnyText}
-use Rattle.cfd_consistency.specs.Witness.{text_at}
+use Rattle.cfd_consistency.specs.Witness.{witness_text}
 use Rattle.cell_values.proofs.ValueOrder.{found_in}
 use Rattle.cfd_consistency.proofs.witness.tuple_of.Goals as goal
 
@@ -18,11 +18,11 @@ loop-attr-preserved c =
     let values = c.args.values.now in
     let attr = c.loop-attr.attr in
     let truth : ℕ → Bool = λ var. slice_index_or c.args.truth.now var false in
-    let made : ℕ → List ℕ = λ at. text_at values truth at (domain_at attrs at) (found_in values at) in
+    let made : ℕ → List ℕ = λ at. witness_text values truth at (domain_at attrs at) (found_in values at) in
     let item : Attr = c.index-attrs-attr.result in
     let domain-is : (get_or attrs attr item).domain ≡ domain_at attrs attr = sym (ap (λ (o : Option Attr). option_map_or (λ (a : Attr). a.domain) o AnyText) (slice_get-get_or attrs attr item c.loop-attr-test.true)) in
-    let text : c.in_ok-text_at.field-0 ≡ made attr = c.in_ok-text_at.ensures ∙ ap (λ (domain : Domain). text_at values truth attr domain (found_in values attr)) domain-is in
+    let text : c.in_ok-witness_text.field-0 ≡ made attr = c.in_ok-witness_text.ensures ∙ ap (λ (domain : Domain). witness_text values truth attr domain (found_in values attr)) domain-is in
     c.in_ok-push.ensures.ok
-    ∙ ap (λ (tuple : List (List ℕ)). tuple ++ c.in_ok-text_at.field-0 ∷ []) c.loop-attr.invariant
+    ∙ ap (λ (tuple : List (List ℕ)). tuple ++ c.in_ok-witness_text.field-0 ∷ []) c.loop-attr.invariant
     ∙ ap (λ (t : List ℕ). map made (range_with_len 0 attr) ++ t ∷ []) text
     ∙ sym (map-range_with_len_more made 0 attr attr (omega arith))

@@ -1,5 +1,5 @@
 use Rattle.std.proofs.Common.{subst, IfNone, IfSome}
-use Rattle.marked_map.specs.MarkedMap.{AreDistinct, HasKey, IsAbsent}
+use Rattle.marked_map.specs.MarkedMap.{HaveDistinctKeys, HasKey, IsAbsent}
 use Rattle.marked_map.proofs.MarkedMapLemmas.{one_place, position-NonePasses, position-Passes}
 use Rattle.marked_map.proofs.MarkedMap.find.Goals as goal
 
@@ -18,4 +18,4 @@ returns-clause-absent g c =
 pub returns-clause-distinct : goal.returns-clause-distinct
 returns-clause-distinct g c =
     let same = g.K.PartialEq.eq in
-    subst (AreDistinct same) c.self.view_is (one_place same g.met.K.Eq.laws _ c.get_index_of.ensures.unique)
+    subst (HaveDistinctKeys same) c.self.view_is (one_place same g.met.K.Eq.laws _ c.get_index_of.ensures.unique)

@@ -1,7 +1,7 @@
 use Rattle.std.proofs.Common.{◌≡◌, ◌<◌, length, ap, sym, subst, ◌∙◌, Some, refl, option_copied, arith}
 use Rattle.std.proofs.lemmas.List.{length-map}
 use Rattle.std.specs.FinMap as finmap
-use Rattle.edit_log.specs.Trail.{first_of}
+use Rattle.edit_log.specs.Journal.{first_change}
 use Rattle.edit_log.specs.Log.{MovesForward}
 use Rattle.bench_core.specs.History.{IsRedone}
 use Rattle.bench_core.specs.Stored.{Stored, stored}
@@ -20,12 +20,12 @@ returns-in_default-clause-nothing g c =
 
 pub returns-in_err-new-clause-nothing : goal.returns-in_err-new-clause-nothing
 returns-in_err-new-clause-nothing g c =
-    let last : first_of c.args.self.now.log.undone ≡ Some c.in-Some.change.now = sym c.next.ensures ∙ ap option_copied c.in-Some.is in
+    let last : first_change c.args.self.now.log.undone ≡ Some c.in-Some.change.now = sym c.next.ensures ∙ ap option_copied c.in-Some.is in
     (λ is. absurd (not-nothing-to-redo c.from_residual.result c.from_residual.ensures.1 is), λ none. absurd (some-first c.args.self.now.log.undone c.in-Some.change.now last (no-undone c.args.self.now.pool c.args.self.now.log.undone (tables_of c.args.self.now) none)))
 
 pub index_mut-store-requires : goal.index_mut-store-requires
 index_mut-store-requires g c =
-    let last : first_of c.args.self.now.log.undone ≡ Some c.in-Some.change.now = sym c.next.ensures ∙ ap option_copied c.in-Some.is in
+    let last : first_change c.args.self.now.log.undone ≡ Some c.in-Some.change.now = sym c.next.ensures ∙ ap option_copied c.in-Some.is in
     let made = first-can c.requires.held c.in-Some.change.now last in
     let inside : c.in-Some.change.now.table < length c.args.self.now.stores.items = rw length-map at (there-within (CanMake c.in-Some.change.now) (tables_of c.args.self.now) c.in-Some.change.now.table made) in
     omega (arith, inside, c.args.self.now.stores.ok.0)
@@ -37,7 +37,7 @@ returns-in_err-ready_insert-clause-held g c =
 
 pub returns-in_err-ready_insert-clause-nothing : goal.returns-in_err-ready_insert-clause-nothing
 returns-in_err-ready_insert-clause-nothing g c =
-    let last : first_of c.args.self.now.log.undone ≡ Some c.in-Some.change.now = sym c.next.ensures ∙ ap option_copied c.in-Some.is in
+    let last : first_change c.args.self.now.log.undone ≡ Some c.in-Some.change.now = sym c.next.ensures ∙ ap option_copied c.in-Some.is in
     (λ is. absurd (not-nothing-to-redo c.from_residual-in_err-ready_insert.result c.from_residual-in_err-ready_insert.ensures.1 is), λ none. absurd (some-first c.args.self.now.log.undone c.in-Some.change.now last (no-undone c.args.self.now.pool c.args.self.now.log.undone (tables_of c.args.self.now) none)))
 
 pub returns-in_err-ready_insert-clause-unchanged : goal.returns-in_err-ready_insert-clause-unchanged
@@ -46,7 +46,7 @@ returns-in_err-ready_insert-clause-unchanged g c =
 
 pub make-requires-clause-id_left : goal.make-requires-clause-id_left
 make-requires-clause-id_left g c =
-    let last : first_of c.args.self.now.log.undone ≡ Some c.in-Some.change.now = sym c.next.ensures ∙ ap option_copied c.in-Some.is in
+    let last : first_change c.args.self.now.log.undone ≡ Some c.in-Some.change.now = sym c.next.ensures ∙ ap option_copied c.in-Some.is in
     let made = first-can c.requires.held c.in-Some.change.now last in
     let inside : c.in-Some.change.now.table < length c.args.self.now.stores.items = rw length-map at (there-within (CanMake c.in-Some.change.now) (tables_of c.args.self.now) c.in-Some.change.now.table made) in
     let store = c.index_mut-store.result.now in
@@ -55,12 +55,12 @@ make-requires-clause-id_left g c =
 
 pub make-requires-clause-there : goal.make-requires-clause-there
 make-requires-clause-there g c =
-    let last : first_of c.args.self.now.log.undone ≡ Some c.in-Some.change.now = sym c.next.ensures ∙ ap option_copied c.in-Some.is in
+    let last : first_change c.args.self.now.log.undone ≡ Some c.in-Some.change.now = sym c.next.ensures ∙ ap option_copied c.in-Some.is in
     (first-is c.requires.held c.in-Some.change.now last).there
 
 pub make-requires-clause-can : goal.make-requires-clause-can
 make-requires-clause-can g c =
-    let last : first_of c.args.self.now.log.undone ≡ Some c.in-Some.change.now = sym c.next.ensures ∙ ap option_copied c.in-Some.is in
+    let last : first_change c.args.self.now.log.undone ≡ Some c.in-Some.change.now = sym c.next.ensures ∙ ap option_copied c.in-Some.is in
     let made = first-can c.requires.held c.in-Some.change.now last in
     let inside : c.in-Some.change.now.table < length c.args.self.now.stores.items = rw length-map at (there-within (CanMake c.in-Some.change.now) (tables_of c.args.self.now) c.in-Some.change.now.table made) in
     let store = c.index_mut-store.result.now in
@@ -70,7 +70,7 @@ make-requires-clause-can g c =
 
 pub recount-requires-clause-table : goal.recount-requires-clause-table
 recount-requires-clause-table g c =
-    let last : first_of c.args.self.now.log.undone ≡ Some c.in-Some.change.now = sym c.next.ensures ∙ ap option_copied c.in-Some.is in
+    let last : first_change c.args.self.now.log.undone ≡ Some c.in-Some.change.now = sym c.next.ensures ∙ ap option_copied c.in-Some.is in
     let made = first-can c.requires.held c.in-Some.change.now last in
     let inside : c.in-Some.change.now.table < length c.args.self.now.stores.items = rw length-map at (there-within (CanMake c.in-Some.change.now) (tables_of c.args.self.now) c.in-Some.change.now.table made) in
     let store = c.index_mut-store.result.now in
@@ -79,7 +79,7 @@ recount-requires-clause-table g c =
 
 pub recount-requires-clause-rows : goal.recount-requires-clause-rows
 recount-requires-clause-rows g c =
-    let last : first_of c.args.self.now.log.undone ≡ Some c.in-Some.change.now = sym c.next.ensures ∙ ap option_copied c.in-Some.is in
+    let last : first_change c.args.self.now.log.undone ≡ Some c.in-Some.change.now = sym c.next.ensures ∙ ap option_copied c.in-Some.is in
     let made = first-can c.requires.held c.in-Some.change.now last in
     let inside : c.in-Some.change.now.table < length c.args.self.now.stores.items = rw length-map at (there-within (CanMake c.in-Some.change.now) (tables_of c.args.self.now) c.in-Some.change.now.table made) in
     let store = c.index_mut-store.result.now in
@@ -93,7 +93,7 @@ recount-requires-clause-rows g c =
 
 pub recount-requires-clause-cells : goal.recount-requires-clause-cells
 recount-requires-clause-cells g c =
-    let last : first_of c.args.self.now.log.undone ≡ Some c.in-Some.change.now = sym c.next.ensures ∙ ap option_copied c.in-Some.is in
+    let last : first_change c.args.self.now.log.undone ≡ Some c.in-Some.change.now = sym c.next.ensures ∙ ap option_copied c.in-Some.is in
     let made = first-can c.requires.held c.in-Some.change.now last in
     let inside : c.in-Some.change.now.table < length c.args.self.now.stores.items = rw length-map at (there-within (CanMake c.in-Some.change.now) (tables_of c.args.self.now) c.in-Some.change.now.table made) in
     let store = c.index_mut-store.result.now in
@@ -107,7 +107,7 @@ recount-requires-clause-cells g c =
 
 pub returns-clause-held : goal.returns-clause-held
 returns-clause-held g c =
-    let last : first_of c.args.self.now.log.undone ≡ Some c.in-Some.change.now = sym c.next.ensures ∙ ap option_copied c.in-Some.is in
+    let last : first_change c.args.self.now.log.undone ≡ Some c.in-Some.change.now = sym c.next.ensures ∙ ap option_copied c.in-Some.is in
     let made = first-can c.requires.held c.in-Some.change.now last in
     let inside : c.in-Some.change.now.table < length c.args.self.now.stores.items = rw length-map at (there-within (CanMake c.in-Some.change.now) (tables_of c.args.self.now) c.in-Some.change.now.table made) in
     let store = c.index_mut-store.result.now in
@@ -126,7 +126,7 @@ returns-clause-held g c =
 
 pub returns-clause-redone : goal.returns-clause-redone
 returns-clause-redone g c =
-    let last : first_of c.args.self.now.log.undone ≡ Some c.in-Some.change.now = sym c.next.ensures ∙ ap option_copied c.in-Some.is in
+    let last : first_change c.args.self.now.log.undone ≡ Some c.in-Some.change.now = sym c.next.ensures ∙ ap option_copied c.in-Some.is in
     let made = first-can c.requires.held c.in-Some.change.now last in
     let inside : c.in-Some.change.now.table < length c.args.self.now.stores.items = rw length-map at (there-within (CanMake c.in-Some.change.now) (tables_of c.args.self.now) c.in-Some.change.now.table made) in
     let store = c.index_mut-store.result.now in
@@ -139,7 +139,7 @@ returns-clause-redone g c =
 
 pub returns-clause-nothing : goal.returns-clause-nothing
 returns-clause-nothing g c =
-    let last : first_of c.args.self.now.log.undone ≡ Some c.in-Some.change.now = sym c.next.ensures ∙ ap option_copied c.in-Some.is in
+    let last : first_change c.args.self.now.log.undone ≡ Some c.in-Some.change.now = sym c.next.ensures ∙ ap option_copied c.in-Some.is in
     (λ is. absurd (cc), λ none. absurd (some-first c.args.self.now.log.undone c.in-Some.change.now last (no-undone c.args.self.now.pool c.args.self.now.log.undone (tables_of c.args.self.now) none)))
 
 pub returns-in_default-clause-probes : goal.returns-in_default-clause-probes
@@ -158,7 +158,7 @@ returns-in_err-ready_insert-clause-indexed g c =
 
 pub follow_change-requires : goal.follow_change-requires
 follow_change-requires g c =
-    let last : first_of c.args.self.now.log.undone ≡ Some c.in-Some.change.now = sym c.next.ensures ∙ ap option_copied c.in-Some.is in
+    let last : first_change c.args.self.now.log.undone ≡ Some c.in-Some.change.now = sym c.next.ensures ∙ ap option_copied c.in-Some.is in
     forward-can (tables_of c.args.self.now) c.requires.held.history.present c.requires.indexed c.in-Some.change.now (first-can c.requires.held c.in-Some.change.now last) (bench-forward c.requires.held c.in-Some.change.now last)
 
 pub returns-in_err-follow_change-clause-held : goal.returns-in_err-follow_change-clause-held
@@ -173,7 +173,7 @@ returns-in_err-follow_change-clause-indexed g c =
 
 pub returns-in_err-follow_change-clause-nothing : goal.returns-in_err-follow_change-clause-nothing
 returns-in_err-follow_change-clause-nothing g c =
-    let last : first_of c.args.self.now.log.undone ≡ Some c.in-Some.change.now = sym c.next.ensures ∙ ap option_copied c.in-Some.is in
+    let last : first_change c.args.self.now.log.undone ≡ Some c.in-Some.change.now = sym c.next.ensures ∙ ap option_copied c.in-Some.is in
     (λ is. absurd (not-nothing-to-redo c.from_residual-in_err-follow_change.result c.from_residual-in_err-follow_change.ensures.1 is), λ none. absurd (some-first c.args.self.now.log.undone c.in-Some.change.now last (no-undone c.args.self.now.pool c.args.self.now.log.undone (tables_of c.args.self.now) none)))
 
 pub returns-in_err-follow_change-clause-unchanged : goal.returns-in_err-follow_change-clause-unchanged
@@ -187,7 +187,7 @@ returns-in_err-follow_change-clause-probes g c =
 
 pub returns-clause-indexed : goal.returns-clause-indexed
 returns-clause-indexed g c =
-    let last : first_of c.args.self.now.log.undone ≡ Some c.in-Some.change.now = sym c.next.ensures ∙ ap option_copied c.in-Some.is in
+    let last : first_change c.args.self.now.log.undone ≡ Some c.in-Some.change.now = sym c.next.ensures ∙ ap option_copied c.in-Some.is in
     let made = first-can c.requires.held c.in-Some.change.now last in
     let inside : c.in-Some.change.now.table < length c.args.self.now.stores.items = rw length-map at (there-within (CanMake c.in-Some.change.now) (tables_of c.args.self.now) c.in-Some.change.now.table made) in
     let store = c.index_mut-store.result.now in

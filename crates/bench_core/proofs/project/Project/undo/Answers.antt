@@ -1,7 +1,7 @@
 use Rattle.std.proofs.Common.{◌≡◌, ◌<◌, length, ap, sym, subst, ◌∙◌, Some, refl, option_copied, arith}
 use Rattle.std.proofs.lemmas.List.{length-map}
 use Rattle.std.specs.FinMap as finmap
-use Rattle.edit_log.specs.Trail.{last_of}
+use Rattle.edit_log.specs.Journal.{last_change}
 use Rattle.edit_log.specs.Log.{MovesBack}
 use Rattle.bench_core.specs.History.{IsUndone}
 use Rattle.bench_core.specs.Stored.{Stored, stored}
@@ -20,12 +20,12 @@ returns-in_default-clause-nothing g c =
 
 pub returns-in_err-old-clause-nothing : goal.returns-in_err-old-clause-nothing
 returns-in_err-old-clause-nothing g c =
-    let last : last_of c.args.self.now.log.past ≡ Some c.in-Some.change.now = sym c.last.ensures ∙ ap option_copied c.in-Some.is in
+    let last : last_change c.args.self.now.log.past ≡ Some c.in-Some.change.now = sym c.last.ensures ∙ ap option_copied c.in-Some.is in
     (λ is. absurd (not-nothing-to-undo c.from_residual.result c.from_residual.ensures.1 is), λ none. absurd (some-last c.args.self.now.log.past c.in-Some.change.now last (no-past c.args.self.now.pool c.args.self.now.log.past (tables_of c.args.self.now) none)))
 
 pub index_mut-store-requires : goal.index_mut-store-requires
 index_mut-store-requires g c =
-    let last : last_of c.args.self.now.log.past ≡ Some c.in-Some.change.now = sym c.last.ensures ∙ ap option_copied c.in-Some.is in
+    let last : last_change c.args.self.now.log.past ≡ Some c.in-Some.change.now = sym c.last.ensures ∙ ap option_copied c.in-Some.is in
     let made = last-made c.requires.held c.in-Some.change.now last in
     let inside : c.in-Some.change.now.table < length c.args.self.now.stores.items = rw length-map at (there-within (HasMade c.in-Some.change.now) (tables_of c.args.self.now) c.in-Some.change.now.table made) in
     omega (arith, inside, c.args.self.now.stores.ok.0)
@@ -37,7 +37,7 @@ returns-in_err-ready_insert-clause-held g c =
 
 pub returns-in_err-ready_insert-clause-nothing : goal.returns-in_err-ready_insert-clause-nothing
 returns-in_err-ready_insert-clause-nothing g c =
-    let last : last_of c.args.self.now.log.past ≡ Some c.in-Some.change.now = sym c.last.ensures ∙ ap option_copied c.in-Some.is in
+    let last : last_change c.args.self.now.log.past ≡ Some c.in-Some.change.now = sym c.last.ensures ∙ ap option_copied c.in-Some.is in
     (λ is. absurd (not-nothing-to-undo c.from_residual-in_err-ready_insert.result c.from_residual-in_err-ready_insert.ensures.1 is), λ none. absurd (some-last c.args.self.now.log.past c.in-Some.change.now last (no-past c.args.self.now.pool c.args.self.now.log.past (tables_of c.args.self.now) none)))
 
 pub returns-in_err-ready_insert-clause-unchanged : goal.returns-in_err-ready_insert-clause-unchanged
@@ -46,12 +46,12 @@ returns-in_err-ready_insert-clause-unchanged g c =
 
 pub take_back-requires-clause-there : goal.take_back-requires-clause-there
 take_back-requires-clause-there g c =
-    let last : last_of c.args.self.now.log.past ≡ Some c.in-Some.change.now = sym c.last.ensures ∙ ap option_copied c.in-Some.is in
+    let last : last_change c.args.self.now.log.past ≡ Some c.in-Some.change.now = sym c.last.ensures ∙ ap option_copied c.in-Some.is in
     (last-is c.requires.held c.in-Some.change.now last).there
 
 pub take_back-requires-clause-made : goal.take_back-requires-clause-made
 take_back-requires-clause-made g c =
-    let last : last_of c.args.self.now.log.past ≡ Some c.in-Some.change.now = sym c.last.ensures ∙ ap option_copied c.in-Some.is in
+    let last : last_change c.args.self.now.log.past ≡ Some c.in-Some.change.now = sym c.last.ensures ∙ ap option_copied c.in-Some.is in
     let made = last-made c.requires.held c.in-Some.change.now last in
     let inside : c.in-Some.change.now.table < length c.args.self.now.stores.items = rw length-map at (there-within (HasMade c.in-Some.change.now) (tables_of c.args.self.now) c.in-Some.change.now.table made) in
     let store = c.index_mut-store.result.now in
@@ -61,7 +61,7 @@ take_back-requires-clause-made g c =
 
 pub recount-requires-clause-table : goal.recount-requires-clause-table
 recount-requires-clause-table g c =
-    let last : last_of c.args.self.now.log.past ≡ Some c.in-Some.change.now = sym c.last.ensures ∙ ap option_copied c.in-Some.is in
+    let last : last_change c.args.self.now.log.past ≡ Some c.in-Some.change.now = sym c.last.ensures ∙ ap option_copied c.in-Some.is in
     let made = last-made c.requires.held c.in-Some.change.now last in
     let inside : c.in-Some.change.now.table < length c.args.self.now.stores.items = rw length-map at (there-within (HasMade c.in-Some.change.now) (tables_of c.args.self.now) c.in-Some.change.now.table made) in
     let store = c.index_mut-store.result.now in
@@ -70,7 +70,7 @@ recount-requires-clause-table g c =
 
 pub recount-requires-clause-rows : goal.recount-requires-clause-rows
 recount-requires-clause-rows g c =
-    let last : last_of c.args.self.now.log.past ≡ Some c.in-Some.change.now = sym c.last.ensures ∙ ap option_copied c.in-Some.is in
+    let last : last_change c.args.self.now.log.past ≡ Some c.in-Some.change.now = sym c.last.ensures ∙ ap option_copied c.in-Some.is in
     let made = last-made c.requires.held c.in-Some.change.now last in
     let inside : c.in-Some.change.now.table < length c.args.self.now.stores.items = rw length-map at (there-within (HasMade c.in-Some.change.now) (tables_of c.args.self.now) c.in-Some.change.now.table made) in
     let store = c.index_mut-store.result.now in
@@ -84,7 +84,7 @@ recount-requires-clause-rows g c =
 
 pub recount-requires-clause-cells : goal.recount-requires-clause-cells
 recount-requires-clause-cells g c =
-    let last : last_of c.args.self.now.log.past ≡ Some c.in-Some.change.now = sym c.last.ensures ∙ ap option_copied c.in-Some.is in
+    let last : last_change c.args.self.now.log.past ≡ Some c.in-Some.change.now = sym c.last.ensures ∙ ap option_copied c.in-Some.is in
     let made = last-made c.requires.held c.in-Some.change.now last in
     let inside : c.in-Some.change.now.table < length c.args.self.now.stores.items = rw length-map at (there-within (HasMade c.in-Some.change.now) (tables_of c.args.self.now) c.in-Some.change.now.table made) in
     let store = c.index_mut-store.result.now in
@@ -98,7 +98,7 @@ recount-requires-clause-cells g c =
 
 pub returns-clause-held : goal.returns-clause-held
 returns-clause-held g c =
-    let last : last_of c.args.self.now.log.past ≡ Some c.in-Some.change.now = sym c.last.ensures ∙ ap option_copied c.in-Some.is in
+    let last : last_change c.args.self.now.log.past ≡ Some c.in-Some.change.now = sym c.last.ensures ∙ ap option_copied c.in-Some.is in
     let made = last-made c.requires.held c.in-Some.change.now last in
     let inside : c.in-Some.change.now.table < length c.args.self.now.stores.items = rw length-map at (there-within (HasMade c.in-Some.change.now) (tables_of c.args.self.now) c.in-Some.change.now.table made) in
     let store = c.index_mut-store.result.now in
@@ -117,7 +117,7 @@ returns-clause-held g c =
 
 pub returns-clause-undone : goal.returns-clause-undone
 returns-clause-undone g c =
-    let last : last_of c.args.self.now.log.past ≡ Some c.in-Some.change.now = sym c.last.ensures ∙ ap option_copied c.in-Some.is in
+    let last : last_change c.args.self.now.log.past ≡ Some c.in-Some.change.now = sym c.last.ensures ∙ ap option_copied c.in-Some.is in
     let made = last-made c.requires.held c.in-Some.change.now last in
     let inside : c.in-Some.change.now.table < length c.args.self.now.stores.items = rw length-map at (there-within (HasMade c.in-Some.change.now) (tables_of c.args.self.now) c.in-Some.change.now.table made) in
     let store = c.index_mut-store.result.now in
@@ -130,7 +130,7 @@ returns-clause-undone g c =
 
 pub returns-clause-nothing : goal.returns-clause-nothing
 returns-clause-nothing g c =
-    let last : last_of c.args.self.now.log.past ≡ Some c.in-Some.change.now = sym c.last.ensures ∙ ap option_copied c.in-Some.is in
+    let last : last_change c.args.self.now.log.past ≡ Some c.in-Some.change.now = sym c.last.ensures ∙ ap option_copied c.in-Some.is in
     (λ is. absurd (cc), λ none. absurd (some-last c.args.self.now.log.past c.in-Some.change.now last (no-past c.args.self.now.pool c.args.self.now.log.past (tables_of c.args.self.now) none)))
 
 pub returns-in_default-clause-probes : goal.returns-in_default-clause-probes
@@ -149,7 +149,7 @@ returns-in_err-ready_insert-clause-indexed g c =
 
 pub follow_back-requires : goal.follow_back-requires
 follow_back-requires g c =
-    let last : last_of c.args.self.now.log.past ≡ Some c.in-Some.change.now = sym c.last.ensures ∙ ap option_copied c.in-Some.is in
+    let last : last_change c.args.self.now.log.past ≡ Some c.in-Some.change.now = sym c.last.ensures ∙ ap option_copied c.in-Some.is in
     back-can (tables_of c.args.self.now) c.requires.held.history.present c.requires.indexed c.in-Some.change.now (last-made c.requires.held c.in-Some.change.now last) (bench-back c.requires.held c.in-Some.change.now last)
 
 pub returns-in_err-follow_back-clause-held : goal.returns-in_err-follow_back-clause-held
@@ -164,7 +164,7 @@ returns-in_err-follow_back-clause-indexed g c =
 
 pub returns-in_err-follow_back-clause-nothing : goal.returns-in_err-follow_back-clause-nothing
 returns-in_err-follow_back-clause-nothing g c =
-    let last : last_of c.args.self.now.log.past ≡ Some c.in-Some.change.now = sym c.last.ensures ∙ ap option_copied c.in-Some.is in
+    let last : last_change c.args.self.now.log.past ≡ Some c.in-Some.change.now = sym c.last.ensures ∙ ap option_copied c.in-Some.is in
     (λ is. absurd (not-nothing-to-undo c.from_residual-in_err-follow_back.result c.from_residual-in_err-follow_back.ensures.1 is), λ none. absurd (some-last c.args.self.now.log.past c.in-Some.change.now last (no-past c.args.self.now.pool c.args.self.now.log.past (tables_of c.args.self.now) none)))
 
 pub returns-in_err-follow_back-clause-unchanged : goal.returns-in_err-follow_back-clause-unchanged
@@ -178,7 +178,7 @@ returns-in_err-follow_back-clause-probes g c =
 
 pub returns-clause-indexed : goal.returns-clause-indexed
 returns-clause-indexed g c =
-    let last : last_of c.args.self.now.log.past ≡ Some c.in-Some.change.now = sym c.last.ensures ∙ ap option_copied c.in-Some.is in
+    let last : last_change c.args.self.now.log.past ≡ Some c.in-Some.change.now = sym c.last.ensures ∙ ap option_copied c.in-Some.is in
     let made = last-made c.requires.held c.in-Some.change.now last in
     let inside : c.in-Some.change.now.table < length c.args.self.now.stores.items = rw length-map at (there-within (HasMade c.in-Some.change.now) (tables_of c.args.self.now) c.in-Some.change.now.table made) in
     let store = c.index_mut-store.result.now in

@@ -8,7 +8,7 @@ use Rattle.row_store.specs.Watch.{IsWide}
 use Rattle.row_store.specs.Watches.{HasRemoved, HoldsOfBoth}
 use Rattle.master_index.specs.declared.column_index.ColumnIndex.{ColumnIndex}
 use Rattle.master_index.specs.ColumnWatch.{attributes_of}
-use Rattle.master_index.specs.Masters.{rows_in}
+use Rattle.master_index.specs.Masters.{rows_of_entries}
 use Rattle.master_index.proofs.MasterRowFacts.{row_found, rows_removed}
 use Rattle.master_index.proofs.MasterSteps.{watch, wide_each, row_is_wide, going_each, written_whole, lists_kept, kept_after_remove}
 use Rattle.master_index.proofs.index.MasterIndex.remove.Goals as goal
@@ -17,12 +17,12 @@ pub remove_from_all-requires-clause-present : goal.remove_from_all-requires-clau
 remove_from_all-requires-clause-present g c =
     let there = row_found c.self.inside.tuples.entries (c.args.master, c.args.row) ∙ ap (option_map ids_of) (sym c.in-Some.ensures.value) in
     subst (All (HoldsOfBoth watch c.args.master c.args.row (ids_of c.in-Some.tuple) None)) (sym c.deref_mut.ensures.value)
-    (going_each c.self.inside.columns.items (rows_in c.self.inside.tuples.entries) c.args.master c.args.row (ids_of c.in-Some.tuple) c.self.invariant.in_step there)
+    (going_each c.self.inside.columns.items (rows_of_entries c.self.inside.tuples.entries) c.args.master c.args.row (ids_of c.in-Some.tuple) c.self.invariant.in_step there)
 
 pub remove_from_all-requires-clause-wide_old : goal.remove_from_all-requires-clause-wide_old
 remove_from_all-requires-clause-wide_old g c =
     let there = row_found c.self.inside.tuples.entries (c.args.master, c.args.row) ∙ ap (option_map ids_of) (sym c.in-Some.ensures.value) in
-    let wide = row_is_wide c.self.inside.columns.items (rows_in c.self.inside.tuples.entries) c.args.master c.args.row (ids_of c.in-Some.tuple) c.self.invariant.wide there in
+    let wide = row_is_wide c.self.inside.columns.items (rows_of_entries c.self.inside.tuples.entries) c.args.master c.args.row (ids_of c.in-Some.tuple) c.self.invariant.wide there in
     subst (All (λ (index : ColumnIndex). IsWide (attributes_of index.list c.args.master) (ids_of c.in-Some.tuple))) (sym c.deref_mut.ensures.value) (wide_each c.self.inside.columns.items c.args.master (ids_of c.in-Some.tuple) wide)
 
 pub invariant_of-self : goal.invariant_of-self
@@ -34,7 +34,7 @@ invariant_of-self g c =
     let removed = subst (λ xs. AllZip (HasRemoved watch c.args.master c.args.row old None) xs new) c.deref_mut.ensures.value c.remove_from_all.ensures.removed in
     let whole = written_whole c.self.inside.columns.len was new (omega arith) (sym (length_all_zip (HasRemoved watch c.args.master c.args.row old None) was new removed)) in
     let rows = rows_removed c.self.inside.tuples.entries c.remove.new.self.entries (c.args.master, c.args.row) c.remove.ensures.updates.0 in
-    rw (whole, rows) (kept_after_remove was (rows_in c.self.inside.tuples.entries) c.self.invariant c.args.master c.args.row new old there removed)
+    rw (whole, rows) (kept_after_remove was (rows_of_entries c.self.inside.tuples.entries) c.self.invariant c.args.master c.args.row new old there removed)
 
 pub returns-in-Some-clause-rows : goal.returns-in-Some-clause-rows
 returns-in-Some-clause-rows g c =

@@ -2,7 +2,7 @@
 use Rattle.std.specs.Prelude.{ℕ, ◌-◌, List, length, Option, slice_get}
 use Rattle.edit_log.specs.declared.change.Change.{Change}
 
-pub record Trail : Type 0 where
+pub record Journal : Type 0 where
   -- the oldest first
   pub past : List Change
   -- the next to be done again first
@@ -10,9 +10,9 @@ pub record Trail : Type 0 where
   pub spare : ℕ
 
 -- the last change of a list
-abbrev pub last_of : List Change → Option Change
-last_of changes = slice_get changes (length changes - 1)
+abbrev pub last_change : List Change → Option Change
+last_change changes = slice_get changes (length changes - 1)
 
 -- the first
-abbrev pub first_of : List Change → Option Change
-first_of changes = slice_get changes 0
+abbrev pub first_change : List Change → Option Change
+first_change changes = slice_get changes 0
