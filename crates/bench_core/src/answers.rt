@@ -69,7 +69,9 @@ impl Project {
         let _len = self.pool.len();
         let table = self.rules.deps().as_slice()[dep].table;
         match self.stores[table].get(row) {
-            Some(tuple) => index.index.violations_of_row(&self.rules, &self.pool, dep, row, tuple, steps),
+            Some(tuple) => index
+                .index
+                .violations_of_row(&self.rules, &self.pool, dep, row, tuple, steps),
             None => Ok(List::new(*self.stores.allocator())),
         }
     }

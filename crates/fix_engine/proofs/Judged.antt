@@ -14,7 +14,6 @@ use Rattle.rule_model.specs.declared.edit_rule.EditRule.{EditRule}
 use Rattle.rule_runs.specs.declared.moves.Move.{Move}
 use Rattle.rule_runs.specs.Marks.{with_attr}
 use Rattle.rule_runs.specs.Moves.{Applies, Basis, Corrects, Fits, IsReady, MatchesPattern, Stage, after, correction, values_in}
-
 use Rattle.rule_runs.proofs.Moving.{after-is, parts}
 use Rattle.fix_engine.specs.Fixes.{AllEndIn, IsFullRun, Question, stage_after}
 use Rattle.fix_engine.proofs.Judging.{Agree, Among, Differ, judged}
@@ -26,14 +25,14 @@ Decided P = P ⊎ ¬ P
 
 both : {P Q : Type 0} → Decided P → Decided Q → Decided (P × Q)
 both one other = elim one [
-  | inl p ↦ elim other [ | inl q ↦ inl (p, q) | inr isnt ↦ inr (λ pair. isnt pair.1) ]
+  | inl p ↦ elim other [ inl q ↦ inl (p, q) | inr isnt ↦ inr (λ pair. isnt pair.1) ]
   | inr isnt ↦ inr (λ pair. isnt pair.0)
 ]
 
 each : {X : Type 0} (P : X → Type 0) → ((x : X) → Decided (P x)) → (xs : List X) → Decided (All P xs)
 each P decide [] = inl (All-nil P)
 each P decide (x ∷ xs) = elim (decide x) [
-  | inl head ↦ elim (each P decide xs) [ | inl tail ↦ inl (All-cons P x xs head tail) | inr isnt ↦ inr (λ all. isnt (All-tail P x xs all)) ]
+  | inl head ↦ elim (each P decide xs) [ inl tail ↦ inl (All-cons P x xs head tail) | inr isnt ↦ inr (λ all. isnt (All-tail P x xs all)) ]
   | inr isnt ↦ inr (λ all. isnt (All-head P x xs all))
 ]
 
@@ -48,7 +47,7 @@ same_bool false true = inr (λ e. cc)
 same_bool false false = inl refl
 
 pub same_number : (n m : ℕ) → Decided (n ≡ m)
-same_number n m = elim (eqb_tells n m) [ | inl (is, e) ↦ inl e | inr (is, apart) ↦ inr apart ]
+same_number n m = elim (eqb_tells n m) [ inl (is, e) ↦ inl e | inr (is, apart) ↦ inr apart ]
 
 below-suc : (k n : ℕ) → k < suc n → k ≢ n → k < n
 below-suc k n within apart = ⊎_elim (λ lt. lt) (λ ge. absurd (apart (omega arith))) (cases_lt k n)
@@ -99,7 +98,7 @@ all_moves (suc n) rows = with_rule n rows ++ all_moves n rows
 
 pub among-left : {X : Type 0} (xs ys : List X) (x : X) → Among xs x → Among (xs ++ ys) x
 among-left [] ys x among = absurd among
-among-left (y ∷ xs) ys x among = elim among [ | inl is ↦ inl is | inr later ↦ inr (among-left xs ys x later) ]
+among-left (y ∷ xs) ys x among = elim among [ inl is ↦ inl is | inr later ↦ inr (among-left xs ys x later) ]
 
 pub among-right : {X : Type 0} (xs ys : List X) (x : X) → Among ys x → Among (xs ++ ys) x
 among-right [] ys x among = among
@@ -127,7 +126,7 @@ module _ {V : Type 0} (same : (v w : V) → Decided (v ≡ w)) where
   same_list [] (w ∷ ws) = inr (λ e. cc)
   same_list (v ∷ vs) [] = inr (λ e. cc)
   same_list (v ∷ vs) (w ∷ ws) = elim (same v w) [
-    | inl e ↦ elim (same_list vs ws) [ | inl es ↦ inl (cc) | inr isnt ↦ inr (λ all. isnt (cc)) ]
+    | inl e ↦ elim (same_list vs ws) [ inl es ↦ inl (cc) | inr isnt ↦ inr (λ all. isnt (cc)) ]
     | inr isnt ↦ inr (λ all. isnt (cc))
   ]
 
@@ -135,7 +134,7 @@ module _ {V : Type 0} (same : (v w : V) → Decided (v ≡ w)) where
   same_option None None = inl refl
   same_option None (Some w) = inr (λ e. none-some w e)
   same_option (Some v) None = inr (λ e. none-some v (sym e))
-  same_option (Some v) (Some w) = elim (same v w) [ | inl e ↦ inl (ap Some e) | inr isnt ↦ inr (λ e. isnt (same_Some v w e)) ]
+  same_option (Some v) (Some w) = elim (same v w) [ inl e ↦ inl (ap Some e) | inr isnt ↦ inr (λ e. isnt (same_Some v w e)) ]
 
   -- different lists differ at a place
   place_of : (vs ws : List V) → vs ≢ ws → (place : ℕ) × (slice_get vs place ≢ slice_get ws place)
@@ -162,11 +161,11 @@ module _ {V : Type 0} (same : (v w : V) → Decided (v ≡ w)) (basis : Basis V)
   ready : (stage : Stage V) (rule : EditRule) → Decided (IsReady basis stage rule)
   ready stage rule =
       let parts_of =
-          both (same_number rule.table basis.table)
-          (both (each (λ attr. stage.validated attr ≡ true) (λ attr. same_bool (stage.validated attr) true) rule.x)
-          (both (each (λ (p : ℕ × EditCell). stage.validated p.0 ≡ true) (λ p. same_bool (stage.validated p.0) true) rule.when)
-          (both (same_bool (stage.validated rule.target) false)
-          (matches stage.tuple rule.when)))) in
+      both (same_number rule.table basis.table)
+      (both (each (λ attr. stage.validated attr ≡ true) (λ attr. same_bool (stage.validated attr) true) rule.x)
+      (both (each (λ (p : ℕ × EditCell). stage.validated p.0 ≡ true) (λ p. same_bool (stage.validated p.0) true) rule.when)
+      (both (same_bool (stage.validated rule.target) false)
+      (matches stage.tuple rule.when)))) in
       elim parts_of [
         | inl all ↦ inl (record { table = all.0; matched = all.1.0; asked = all.1.1.0; target = all.1.1.1.0; pattern = all.1.1.1.1 })
         | inr isnt ↦ inr (λ is. isnt (is.table, (is.matched, (is.asked, (is.target, is.pattern)))))

@@ -64,12 +64,7 @@ fn outcome(alloc: Global, rules: &[u8], limits: &Limits) -> Result<String, Fail>
     outcome_over(alloc, SCHEMA, rules, limits)
 }
 
-fn outcome_over(
-    alloc: Global,
-    schema: &[u8],
-    rules: &[u8],
-    limits: &Limits,
-) -> Result<String, Fail>
+fn outcome_over(alloc: Global, schema: &[u8], rules: &[u8], limits: &Limits) -> Result<String, Fail>
     requires { AreLimits limits.now }
 {
     let schema = parse_schema(alloc, schema, limits)?;

@@ -116,11 +116,7 @@ fn insert<L: Ledger>(
     Ok(())
 }
 
-fn fill<L: Ledger>(
-    alloc: Global,
-    bench: &mut Bench,
-    steps: &mut Steps<L>,
-) -> Result<(), Fail> {
+fn fill<L: Ledger>(alloc: Global, bench: &mut Bench, steps: &mut Steps<L>) -> Result<(), Fail> {
     let rows = [("EH4", "High St"), ("EH4", "Mid St"), ("SW1", "EH4")];
     for (zip, street) in rows {
         insert(alloc, bench, zip, street, steps)?;
