@@ -32,7 +32,8 @@ use Rattle.cfd_implication.specs.Implied.{IsImplied}
 use Rattle.cfd_implication.specs.Question as implication
 use Rattle.cfd_implication.proofs.Questions.{attrs_each}
 use Rattle.cfd_implication.proofs.Theorems.{implied_if_none}
-use Rattle.cert_text.specs.Written.{IsDepDecl, IsWrittenCert}
+use Rattle.rule_parser.specs.ReadRules.{IsDepDecl}
+use Rattle.cert_text.specs.Written.{IsWrittenCert}
 use Rattle.cert_text.specs.declared.cert.Question.{Question}
 use Rattle.cert_text.specs.declared.cert.Question.TheVariants.{Consistent, Implies}
 use Rattle.cert_text.specs.declared.cert.NodeLine.{NodeLine}

@@ -6,7 +6,8 @@ use Rattle.std.specs.Option.{option_map_or}
 use Rattle.std.proofs.lemmas.Option.{slice_get-get_or}
 use Rattle.schema_core.specs.declared.schema.Table.{Table}
 use Rattle.cfd_consistency.proofs.Lists.{AllZip-long}
-use Rattle.cert_text.specs.Written.{IsBudget, IsDepDecl}
+use Rattle.rule_parser.specs.ReadRules.{IsDepDecl}
+use Rattle.cert_text.specs.Written.{IsBudget}
 use Rattle.std.proofs.lemmas.List.{length-map}
 use Rattle.std.proofs.lemmas.List.Elements.{All-from_recursion, recursion_from_All}
 use Rattle.schema_core.specs.Lookups.{attrs_at, domain_at}

@@ -11,7 +11,8 @@ ghost use Rattle.rule_model.specs.Judged.{judged_dep};
 ghost use Rattle.rule_model.specs.Rules.{AreAttrsOf, IsValidDep};
 ghost use Rattle.rule_parser.specs.RuleText.{attr_name, table_name};
 ghost use Rattle.cert_text.specs.CertFiles.{kind_of};
-ghost use Rattle.cert_text.specs.Written.{IsBudget, IsDepDecl, IsNodeOf, IsQuestion, IsReasonOf};
+ghost use Rattle.rule_parser.specs.ReadRules.{IsDepDecl};
+ghost use Rattle.cert_text.specs.Written.{IsBudget, IsNodeOf, IsQuestion, IsReasonOf};
 ghost use Rattle.cert_check.specs.Made.{AreNamed, HaveNames, IsCertOf, IsCertOfDep, IsFound, IsFoundOfDep, IsTreeCert, IsWrittenAnswer, IsWrittenDepAnswer, decl_of, decl_row, named_node, named_reason};
 ghost use Rattle.cert_check.specs.Verdict.{IsVerdict, asks_consistency, asks_implication};
 

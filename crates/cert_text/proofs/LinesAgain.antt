@@ -29,7 +29,8 @@ use Rattle.cert_text.specs.declared.cert.Question.{Question}
 use Rattle.cert_text.specs.declared.cert.Question.TheVariants.{Consistent, Implies}
 use Rattle.cert_text.specs.CertLines.{question_at, answer_at, and_at, values_word}
 use Rattle.cert_text.specs.CertText.{row_parts, dep_parts, question_line, texts_line, tree_line}
-use Rattle.cert_text.specs.Written.{IsDepDecl, IsQuestion, AreTexts, IsBudget}
+use Rattle.rule_parser.specs.ReadRules.{IsDepDecl}
+use Rattle.cert_text.specs.Written.{IsQuestion, AreTexts, IsBudget}
 
 -- ---- texts
 

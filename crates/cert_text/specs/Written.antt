@@ -6,9 +6,7 @@ use Rattle.case_tree.specs.declared.tree.Node.{Node}
 use Rattle.case_tree.specs.declared.tree.Node.TheVariants as shape
 use Rattle.case_tree.specs.declared.tree.Reason.TheVariants as reasons
 use Rattle.schema_core.specs.Names.{IsName}
-use Rattle.rule_model.specs.declared.decl.CfdDecl.{CfdDecl}
-use Rattle.rule_model.specs.declared.decl.CfdRow.{CfdRow}
-use Rattle.rule_model.specs.Declarations.{IsWrittenRow}
+use Rattle.rule_parser.specs.ReadRules.{IsDepDecl}
 use Rattle.cert_text.specs.declared.answers.AnswerLine.{AnswerLine}
 use Rattle.cert_text.specs.declared.answers.AnswerLine.TheVariants.{Values, Closed, Spent}
 use Rattle.cert_text.specs.declared.answers.Kind.{Kind}
@@ -83,17 +81,6 @@ pub record IsBudget (n : ℕ) : Type 0 where
   pub within : n ≤ 1000000
 
 -- ---- questions and answers
-
--- a declaration without a name, of one attribute on the right and one row of that width
-pub record IsDepDecl (cfd : CfdDecl) : Type 0 where
-  pub name : cfd.name ≡ []
-  pub table : IsName cfd.table
-  pub x : All IsName cfd.x
-  pub y : All IsName cfd.y
-  pub right : length cfd.y ≡ 1
-  pub one : length cfd.rows ≡ 1
-  pub rows : All IsWrittenRow cfd.rows
-  pub width : All (λ (row : CfdRow). length row.y ≡ 1) cfd.rows
 
 abbrev pub IsQuestion : Question → Type 0
 IsQuestion (Consistent table) = IsName table

@@ -5,7 +5,8 @@ ghost use Rattle.case_tree.specs.CaseTree.{IsOneTree};
 ghost use Rattle.schema_core.specs.Names.{IsName};
 ghost use Rattle.cert_text.specs.Canonical.{node_lines, HasCanonicalLines, asked_first, witness_cert, counter_cert, case_cert};
 ghost use Rattle.cert_text.specs.CertFiles.{kind_of};
-ghost use Rattle.cert_text.specs.Written.{AreTexts, IsDepDecl, IsQuestion, IsBudget, IsNodeOf, shape_of};
+ghost use Rattle.rule_parser.specs.ReadRules.{IsDepDecl};
+ghost use Rattle.cert_text.specs.Written.{AreTexts, IsQuestion, IsBudget, IsNodeOf, shape_of};
 
 use crate::cert::{Answer, Asked, Cert, CertParts, NodeLine, Question, TreeLines, TupleLine};
 use crate::names::NodeName;

@@ -3,7 +3,6 @@
 ghost use Rattle.std.specs.Prelude.{◌≡◌, ◌++◌, ◌∷◌, [], map, OnOk, IfOk, Ok, decimal};
 ghost use Rattle.std.specs.List.{flat_map};
 ghost use Rattle.schema_core.specs.Spelling.{line_text, file_text};
-ghost use Rattle.rule_parser.specs.RuleText.{attr_parts, value_parts, attrs_parts, members_parts, cell_parts, cfd_parts};
 ghost use Rattle.cert_text.specs.CertFiles.{reads_cert};
 ghost use Rattle.cert_text.specs.Canonical.{with_canonical_lines};
 ghost use Rattle.cert_text.specs.Written.{IsWrittenCert};
@@ -14,9 +13,9 @@ use crate::cert::{Answer, Cert, NodeLine, Question};
 use crate::names::{CellName, NodeName, ReasonName, VarName, Which};
 use crate::parse::kind_of;
 use crate::questions::closed_word;
-use cfd_semantics::Pattern;
 use rule_model::{Cell, CfdDecl, CfdRow};
-use schema_core::{Text, Writes, push_list, push_number, push_quoted, push_spaced_list};
+use rule_parser::{Cells, Values, push_row, push_sides};
+use schema_core::{Text, push_number, push_quoted, push_spaced_list};
 use std::alloc::{AllocError, Global};
 
 // ---- nodes
@@ -114,104 +113,21 @@ fn push_nodes(out: &mut Vec<u8>, nodes: &[NodeLine]) -> Result<(), AllocError>
 
 // ---- questions
 
-/// Names.
-struct Names;
-
-impl Writes<Text> for Names {
-    ghost written = { attr_parts };
-
-    fn push(out: &mut Vec<u8>, attr: &Text) -> Result<(), AllocError> {
-        out.extend_from_slice(attr.as_str().as_bytes())
-    }
-}
-
-/// Texts.
-struct Values;
-
-impl Writes<Text> for Values {
-    ghost written = { value_parts };
-
-    fn push(out: &mut Vec<u8>, value: &Text) -> Result<(), AllocError> {
-        push_quoted(out, value.as_str())
-    }
-}
-
-fn push_members(out: &mut Vec<u8>, members: &[Text]) -> Result<(), AllocError>
-    ensures { OnOk result (out.new.items ≡ out.old.items ++ line_text (members_parts members.now)) }
-{
-    out.push(b'{')?;
-    push_list::<Values, Text>(out, members)?;
-    out.push(b'}')?;
-    Ok(())
-}
-
-/// Cells of a tableau.
-struct Cells;
-
-impl Writes<Cell> for Cells {
-    ghost written = { cell_parts };
-
-    fn push(out: &mut Vec<u8>, cell: &Cell) -> Result<(), AllocError> {
-        match cell {
-            Pattern::Any => {
-                out.push(b'_')?;
-                Ok(())
-            }
-            Pattern::Is(value) => push_quoted(out, value.as_str()),
-            Pattern::In(members) => {
-                out.extend_from_slice(b"in ")?;
-                push_members(out, members.as_slice())
-            }
-            Pattern::NotIn(members) => {
-                out.extend_from_slice(b"not ")?;
-                push_members(out, members.as_slice())
-            }
-        }
-    }
-}
-
-fn push_attrs(out: &mut Vec<u8>, attrs: &[Text]) -> Result<(), AllocError>
-    ensures { OnOk result (out.new.items ≡ out.old.items ++ line_text (attrs_parts attrs.now)) }
-{
-    out.push(b'[')?;
-    push_list::<Names, Text>(out, attrs)?;
-    out.push(b']')?;
-    Ok(())
-}
-
-/// A tableau row, behind a space.
-fn push_row(out: &mut Vec<u8>, row: &CfdRow) -> Result<(), AllocError>
-    ensures { OnOk result (out.new.items ≡ out.old.items ++ line_text (row_parts row.now)) }
-{
-    out.extend_from_slice(b" row")?;
-    push_spaced_list::<Cells, Cell>(out, row.x.as_slice())?;
-    out.extend_from_slice(b" ||")?;
-    push_spaced_list::<Cells, Cell>(out, row.y.as_slice())
-}
-
+/// Tableau rows, each behind a space.
 fn push_rows(out: &mut Vec<u8>, rows: &[CfdRow]) -> Result<(), AllocError>
     ensures { OnOk result (out.new.items ≡ out.old.items ++ line_text (flat_map row_parts rows.now)) }
 {
     for row in rows {
-        push_row(out, row)?;
+        out.push(b' ')?;
+        push_row::<Cells, Cell>(out, row.x.as_slice(), row.y.as_slice())?;
     }
     Ok(())
-}
-
-fn push_sides(out: &mut Vec<u8>, dep: &CfdDecl) -> Result<(), AllocError>
-    ensures { OnOk result (out.new.items ≡ out.old.items ++ line_text (cfd_parts dep.now.table dep.now.x dep.now.y)) }
-{
-    out.extend_from_slice(dep.table.as_str().as_bytes())?;
-    out.extend_from_slice(b": ")?;
-    push_attrs(out, dep.x.as_slice())?;
-    out.extend_from_slice(b" -> ")?;
-    push_attrs(out, dep.y.as_slice())
 }
 
 fn push_dep(out: &mut Vec<u8>, dep: &CfdDecl) -> Result<(), AllocError>
     ensures { OnOk result (out.new.items ≡ out.old.items ++ line_text (dep_parts dep.now)) }
 {
-    push_sides(out, dep)?;
+    push_sides(out, &dep.table, dep.x.as_slice(), dep.y.as_slice())?;
     push_rows(out, dep.rows.as_slice())
 }
 
@@ -221,7 +137,7 @@ fn push_question(out: &mut Vec<u8>, question: &Question) -> Result<(), AllocErro
     match question {
         Question::Consistent(table) => {
             out.extend_from_slice(b"consistent ")?;
-            Names::push(out, table)
+            out.extend_from_slice(table.as_str().as_bytes())
         }
         Question::Implies(dep) => {
             out.extend_from_slice(b"implies ")?;

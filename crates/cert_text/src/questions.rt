@@ -1,22 +1,17 @@
 //! The question of a certificate, and the first lines of its answer.
 
-ghost use Rattle.std.specs.Prelude.{◌≡◌, ◌∷◌, [], IfOk, None};
+ghost use Rattle.std.specs.Prelude.{◌≡◌, IfOk, None};
 ghost use Rattle.schema_core.specs.Phrases.{Reads, text_at};
 ghost use Rattle.schema_core.specs.TokenLists.{list1_at};
-ghost use Rattle.rule_parser.specs.RuleLines.{dep_at};
 ghost use Rattle.cert_text.specs.CertLines.{question_for, question_at, values_word, closed_word, budget_at, answer_for, answer_at, and_at};
-ghost use Rattle.cert_text.specs.Written.{AreTexts, IsDepDecl, IsQuestion, IsAnswerLine, IsDraft};
+ghost use Rattle.cert_text.specs.Written.{AreTexts, IsQuestion, IsAnswerLine, IsDraft};
 ghost use Rattle.cert_text.specs.declared.answers.Kind.TheVariants.{Consistency, Implication};
 
 use crate::answers::{AnswerLine, Draft, Kind};
 use crate::cert::Question;
-use rule_model::{CfdDecl, CfdRow};
-use rule_parser::CellPart;
-use schema_core::{List, Mark, Name, Phrase, Quoted, Text, Texts, Tokens, Unread};
-use std::alloc::{AllocError, Global};
-
-/// A dependency by itself.
-struct DepPart;
+use rule_parser::DepLine;
+use schema_core::{Phrase, Quoted, Text, Texts, Tokens, Unread};
+use std::alloc::Global;
 
 /// The question.
 pub struct QuestionLine;
@@ -33,48 +28,6 @@ pub struct SecondTuple;
 /// Any further line, which may not stand there.
 pub struct NoLine;
 
-fn one<T: Drop>(alloc: Global, item: T) -> Result<List<T>, AllocError>
-    ensures { IfOk result (λ list. list ≡ item ∷ []) }
-{
-    let mut list = List::new(alloc);
-    list.push(item)?;
-    Ok(list)
-}
-
-impl Phrase for DepPart {
-    type Value = CfdDecl;
-
-    ghost reads = { dep_at };
-
-    ghost is_fit = { IsDepDecl };
-
-    #[tactic(auto, unfolding(rule_parser::specs::RuleLines::dep_at))]
-    fn take(alloc: Global, tokens: &mut Tokens) -> Result<CfdDecl, Unread> {
-        let table = tokens.name()?;
-        tokens.mark(Mark::Colon)?;
-        tokens.mark(Mark::OpenBracket)?;
-        let x = tokens.list_until::<Name>(alloc, Mark::CloseBracket)?;
-        tokens.mark(Mark::Arrow)?;
-        tokens.mark(Mark::OpenBracket)?;
-        let y = one(alloc, tokens.name()?)?;
-        tokens.mark(Mark::CloseBracket)?;
-        tokens.word("row")?;
-        let cells = tokens.list_until::<CellPart>(alloc, Mark::Bars)?;
-        let cell = CellPart::take(alloc, tokens)?;
-        let row = CfdRow {
-            x: cells,
-            y: one(alloc, cell)?,
-        };
-        Ok(CfdDecl {
-            name: Text::new(alloc, "")?,
-            table,
-            x,
-            y,
-            rows: one(alloc, row)?,
-        })
-    }
-}
-
 fn question_for(alloc: Global, word: &Text, tokens: &mut Tokens) -> Result<Question, Unread>
     ensures exact { Reads (question_for word.now) tokens.old tokens.new result }
     ensures fit { IfOk result IsQuestion }
@@ -82,7 +35,7 @@ fn question_for(alloc: Global, word: &Text, tokens: &mut Tokens) -> Result<Quest
     if word.is("consistent") {
         Ok(Question::Consistent(tokens.name()?))
     } else if word.is("implies") {
-        Ok(Question::Implies(DepPart::take(alloc, tokens)?))
+        Ok(Question::Implies(DepLine::take(alloc, tokens)?))
     } else {
         Err(Unread::Absent)
     }

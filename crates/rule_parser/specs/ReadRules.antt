@@ -1,7 +1,8 @@
 -- What is true of a declaration as far as its head says it.
-use Rattle.std.specs.Prelude.{◌≡◌, ◌≤◌, ℕ, List, length, All}
+use Rattle.std.specs.Prelude.{◌≡◌, ◌≤◌, ℕ, List, [], length, All}
 use Rattle.schema_core.specs.Names.{IsName}
 use Rattle.rule_model.specs.declared.decl.CfdDecl.{CfdDecl}
+use Rattle.rule_model.specs.declared.decl.CfdRow.{CfdRow}
 use Rattle.rule_model.specs.declared.decl.Decl.{Decl}
 use Rattle.rule_model.specs.declared.decl.Decl.TheVariants.{Cfd, Cind, Edit}
 use Rattle.rule_model.specs.declared.edit_rule.EditCell.{EditCell}
@@ -16,8 +17,13 @@ IsReadHead (Edit edit) = IsWrittenEdit edit
 abbrev pub IsReadPattern : List ℕ × EditCell → Type 0
 IsReadPattern pattern = IsWrittenEditCell pattern.1
 
--- a declaration of one attribute on the right and one row, which could be written
-pub record IsReadDep (cfd : CfdDecl) : Type 0 where
+-- a declaration without a name, of one attribute on the right and one row of that width
+pub record IsDepDecl (cfd : CfdDecl) : Type 0 where
+  pub name : cfd.name ≡ []
+  pub table : IsName cfd.table
+  pub x : All IsName cfd.x
+  pub y : All IsName cfd.y
   pub right : length cfd.y ≡ 1
   pub one : length cfd.rows ≡ 1
   pub rows : All IsWrittenRow cfd.rows
+  pub width : All (λ (row : CfdRow). length row.y ≡ 1) cfd.rows

@@ -7,7 +7,7 @@ ghost use Rattle.schema_core.specs.TokenLists.{none_after};
 ghost use Rattle.schema_core.specs.Tokens.{line_tokens};
 ghost use Rattle.rule_model.specs.Judged.{judged_dep};
 ghost use Rattle.rule_model.specs.Rules.{IsValidDep};
-ghost use Rattle.rule_parser.specs.ReadRules.{IsReadDep};
+ghost use Rattle.rule_parser.specs.ReadRules.{IsDepDecl};
 ghost use Rattle.rule_parser.specs.RuleLines.{dep_at};
 ghost use Rattle.rule_parser.specs.RuleFiles.{reads_dep, read_alone, dep_or_fault};
 
@@ -36,7 +36,7 @@ impl Phrase for DepLine {
 
     ghost reads = { dep_at };
 
-    ghost is_fit = { IsReadDep };
+    ghost is_fit = { IsDepDecl };
 
     #[tactic(auto, unfolding(crate::specs::RuleLines::dep_at))]
     fn take(alloc: Global, tokens: &mut Tokens) -> Result<CfdDecl, Unread> {
@@ -68,7 +68,7 @@ impl Phrase for DepLine {
 /// What the text says as one line of a file.
 fn declaration(alloc: Global, text: &str) -> Result<CfdDecl, ParseFault>
     ensures exact { IsUnlessMemory line_tells (read_alone (λ tokens. none_after (dep_at tokens)) (content_of (line_tokens text.now))) result }
-    ensures fit { IfOk result IsReadDep }
+    ensures fit { IfOk result IsDepDecl }
 {
     match content_of(read_tokens(alloc, text.as_bytes())?) {
         Some(content) => Line { number: 1, content }.read::<DepLine, ParseCause>(alloc),
@@ -81,7 +81,7 @@ fn declaration(alloc: Global, text: &str) -> Result<CfdDecl, ParseFault>
 
 /// The dependency of a declaration, unless it has a fault.
 fn judged(alloc: Global, schema: &Schema, cfd: CfdDecl) -> Result<Dep, ParseFault>
-    requires { IsReadDep cfd }
+    requires { IsDepDecl cfd }
     ensures exact { IsUnlessMemory line_tells (dep_or_fault (judged_dep schema.now cfd)) result }
     ensures valid { IfOk result (IsValidDep schema.now) }
     ensures row { IfOk result (λ dep. length dep.rule.rows ≡ 1) }

@@ -10,11 +10,11 @@ pub mod heads;
 mod print;
 mod rows;
 
-pub use alone::parse_dep;
+pub use alone::{DepLine, parse_dep};
 pub use cells::CellPart;
 pub use fault::{ParseCause, ParseFault};
 pub use file::parse_rules;
-pub use print::{print_dep, print_rules};
+pub use print::{Cells, Values, print_dep, print_rules, push_row, push_sides};
 
 #[cfg(test)]
 mod tests;

@@ -31,8 +31,8 @@ impl Writes<Text> for Attrs {
     }
 }
 
-/// Constants.
-struct Values;
+/// Constants, as lists of them are written.
+pub struct Values;
 
 impl Writes<Text> for Values {
     ghost written = { value_parts };
@@ -60,8 +60,8 @@ fn push_members(out: &mut Vec<u8>, members: &[Text]) -> Result<(), AllocError>
     Ok(())
 }
 
-/// Cells of a tableau.
-struct Cells;
+/// Cells of a tableau, as lists of them are written.
+pub struct Cells;
 
 impl Writes<Cell> for Cells {
     ghost written = { cell_parts };
@@ -144,7 +144,7 @@ fn push_pairs(out: &mut Vec<u8>, left: &[Text], right: &[Text]) -> Result<(), Al
 // ---- declarations
 
 /// A table with two lists of its attributes, as a dependency names them.
-fn push_sides(
+pub fn push_sides(
     out: &mut Vec<u8>,
     table: &Text,
     left: &[Text],
@@ -239,7 +239,11 @@ fn push_edit(out: &mut Vec<u8>, edit: &EditDecl) -> Result<(), AllocError>
 // ---- rows
 
 /// A tableau row: a list on each side of the bars.
-fn push_row<W: Writes<T>, T>(out: &mut Vec<u8>, left: &[T], right: &[T]) -> Result<(), AllocError>
+pub fn push_row<W: Writes<T>, T>(
+    out: &mut Vec<u8>,
+    left: &[T],
+    right: &[T],
+) -> Result<(), AllocError>
     ensures { OnOk result (out.new.items ≡ out.old.items ++ line_text (row_line W.written left.now right.now)) }
 {
     out.extend_from_slice(b"row")?;
