@@ -3,6 +3,7 @@
 ghost use Rattle.std.specs.Prelude.{◌≡◌, ◌++◌, ◌∷◌, [], map, OnOk, IfOk, Ok, decimal};
 ghost use Rattle.std.specs.List.{flat_map};
 ghost use Rattle.schema_core.specs.Spelling.{line_text, file_text};
+ghost use Rattle.rule_parser.specs.RuleText.{attr_parts};
 ghost use Rattle.cert_text.specs.CertFiles.{reads_cert};
 ghost use Rattle.cert_text.specs.Canonical.{with_canonical_lines};
 ghost use Rattle.cert_text.specs.Written.{IsWrittenCert};
@@ -37,6 +38,12 @@ fn push_tuple(out: &mut Vec<u8>, tuple: Which) -> Result<(), AllocError>
         Which::First => push_number_dot(out, 1),
         Which::Second => push_number_dot(out, 2),
     }
+}
+
+fn push_name(out: &mut Vec<u8>, name: &Text) -> Result<(), AllocError>
+    ensures { OnOk result (out.new.items ≡ out.old.items ++ line_text (attr_parts name.now)) }
+{
+    out.extend_from_slice(name.as_str().as_bytes())
 }
 
 fn push_cell_name(out: &mut Vec<u8>, cell: &CellName) -> Result<(), AllocError>
@@ -137,7 +144,7 @@ fn push_question(out: &mut Vec<u8>, question: &Question) -> Result<(), AllocErro
     match question {
         Question::Consistent(table) => {
             out.extend_from_slice(b"consistent ")?;
-            out.extend_from_slice(table.as_str().as_bytes())
+            push_name(out, table)
         }
         Question::Implies(dep) => {
             out.extend_from_slice(b"implies ")?;
