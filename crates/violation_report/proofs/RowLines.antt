@@ -4,14 +4,13 @@ use Rattle.std.specs.Prelude.{IsSome, is_some, slice_get, option_and_then, optio
 use Rattle.std.specs.FinMap as finmap
 use Rattle.std.specs.List.{find, list_any}
 use Rattle.std.specs.Option.{option_map_or}
-use Rattle.std.proofs.lemmas.List.{append-nil}
 use Rattle.std.proofs.lemmas.List.Elements.{All-filter, filter-append}
 use Rattle.cfd_semantics.specs.declared.violation.Violation.{Violation}
 use Rattle.cfd_semantics.specs.Numbered.{numbered}
 use Rattle.rule_model.specs.declared.dep.Dep.{Dep}
 use Rattle.rule_model.specs.declared.cind.Cind.{Cind}
 use Rattle.rule_model.specs.Books.{Book, book_cinds, book_deps}
-use Rattle.bench_core.specs.Answers.{IsRowOfCind, IsRowOfDep, cind_orphans, dep_violations, orphans_at, orphans_of_row, row_texts, violations_at, violations_of_row}
+use Rattle.bench_core.specs.Answers.{IsRowOfCind, IsRowOfDep, cind_orphans, dep_violations, orphans_at, row_texts, violations_at}
 use Rattle.bench_core.specs.State.{Row, State, TableState, has_id, texts_of}
 use Rattle.bench_core.specs.Stored.{Stored, table_state}
 use Rattle.bench_core.proofs.Planned.{texts-absent, texts-there}
@@ -56,53 +55,31 @@ module _ (rules : Book) (table row n : ℕ) where
       by (Some partner) = refl
 
   -- of the lines of a dependency, those about a row of its table, and of another
-  own-dep-lines : dep_is_of rules table n ≡ true → (found : List (ℕ × Violation)) → filter (is_about rules table row) (dep_lines_at n found) ≡ dep_lines_at n (filter (λ violation. violation.1.row == row) found)
+  pub own-dep-lines : dep_is_of rules table n ≡ true → (found : List (ℕ × Violation)) → filter (is_about rules table row) (dep_lines_at n found) ≡ dep_lines_at n (filter (λ violation. violation.1.row == row) found)
   own-dep-lines own = kept_mapped (is_about rules table row) (λ one. dep_line (n, one)) (λ violation. violation.1.row == row) (λ one. dep-about one ∙ ap (λ b. one.1.row == row && b) own ∙ and_true (one.1.row == row))
 
-  other-dep-lines : dep_is_of rules table n ≡ false → (found : List (ℕ × Violation)) → filter (is_about rules table row) (dep_lines_at n found) ≡ []
+  pub other-dep-lines : dep_is_of rules table n ≡ false → (found : List (ℕ × Violation)) → filter (is_about rules table row) (dep_lines_at n found) ≡ []
   other-dep-lines other = none_kept (is_about rules table row) (λ one. dep_line (n, one)) (λ one. dep-about one ∙ ap (λ b. one.1.row == row && b) other ∙ and_false (one.1.row == row))
 
   -- the same for an inclusion
-  own-cind-lines : cind_is_of rules table n ≡ true → (found : List (ℕ × ℕ)) → filter (is_about rules table row) (cind_lines_at n found) ≡ cind_lines_at n (filter (λ orphan. orphan.1 == row) found)
+  pub own-cind-lines : cind_is_of rules table n ≡ true → (found : List (ℕ × ℕ)) → filter (is_about rules table row) (cind_lines_at n found) ≡ cind_lines_at n (filter (λ orphan. orphan.1 == row) found)
   own-cind-lines own = kept_mapped (is_about rules table row) (λ one. cind_line (n, one)) (λ orphan. orphan.1 == row) (λ one. ap (λ b. one.1 == row && b) own ∙ and_true (one.1 == row))
 
-  other-cind-lines : cind_is_of rules table n ≡ false → (found : List (ℕ × ℕ)) → filter (is_about rules table row) (cind_lines_at n found) ≡ []
+  pub other-cind-lines : cind_is_of rules table n ≡ false → (found : List (ℕ × ℕ)) → filter (is_about rules table row) (cind_lines_at n found) ≡ []
   other-cind-lines other = none_kept (is_about rules table row) (λ one. cind_line (n, one)) (λ one. ap (λ b. one.1 == row && b) other ∙ and_false (one.1 == row))
 
--- the lines about the row in those of one rule more: where the rule is of its table, the lines asked for the row
+-- the lines about the row in those of one rule more
 module _ (rules : Book) (state : State) (table row n : ℕ) where
   abbrev about : Line → Bool
   about = is_about rules table row
 
-  module _ (within : n < length (book_deps rules)) where
-    abbrev deps_before : List Line
-    deps_before = map dep_line (numbered (dep_violations state) (take n (book_deps rules)))
+  pub dep-more : n < length (book_deps rules)
+      → filter about (map dep_line (numbered (dep_violations state) (take (n + 1) (book_deps rules)))) ≡ filter about (map dep_line (numbered (dep_violations state) (take n (book_deps rules)))) ++ filter about (dep_lines_at n (violations_at rules state n))
+  dep-more within = ap (filter about) (dep-lines-more rules state n within) ∙ filter-append about (map dep_line (numbered (dep_violations state) (take n (book_deps rules)))) (dep_lines_at n (violations_at rules state n))
 
-    dep-more : filter about (map dep_line (numbered (dep_violations state) (take (n + 1) (book_deps rules)))) ≡ filter about deps_before ++ filter about (dep_lines_at n (violations_at rules state n))
-    dep-more = ap (filter about) (dep-lines-more rules state n within) ∙ filter-append about deps_before (dep_lines_at n (violations_at rules state n))
-
-    pub own-dep-more : dep_is_of rules table n ≡ true
-        → filter about (map dep_line (numbered (dep_violations state) (take (n + 1) (book_deps rules)))) ≡ filter about deps_before ++ dep_lines_at n (violations_of_row rules state n row)
-    own-dep-more own = dep-more ∙ ap (λ more. filter about deps_before ++ more) (own-dep-lines rules table row n own (violations_at rules state n))
-
-    pub other-dep-more : dep_is_of rules table n ≡ false
-        → filter about (map dep_line (numbered (dep_violations state) (take (n + 1) (book_deps rules)))) ≡ filter about deps_before
-    other-dep-more other = dep-more ∙ ap (λ more. filter about deps_before ++ more) (other-dep-lines rules table row n other (violations_at rules state n)) ∙ append-nil (filter about deps_before)
-
-  module _ (within : n < length (book_cinds rules)) where
-    abbrev cinds_before : List Line
-    cinds_before = map cind_line (numbered (cind_orphans state) (take n (book_cinds rules)))
-
-    cind-more : filter about (map cind_line (numbered (cind_orphans state) (take (n + 1) (book_cinds rules)))) ≡ filter about cinds_before ++ filter about (cind_lines_at n (orphans_at rules state n))
-    cind-more = ap (filter about) (cind-lines-more rules state n within) ∙ filter-append about cinds_before (cind_lines_at n (orphans_at rules state n))
-
-    pub own-cind-more : cind_is_of rules table n ≡ true
-        → filter about (map cind_line (numbered (cind_orphans state) (take (n + 1) (book_cinds rules)))) ≡ filter about cinds_before ++ cind_lines_at n (orphans_of_row rules state n row)
-    own-cind-more own = cind-more ∙ ap (λ more. filter about cinds_before ++ more) (own-cind-lines rules table row n own (orphans_at rules state n))
-
-    pub other-cind-more : cind_is_of rules table n ≡ false
-        → filter about (map cind_line (numbered (cind_orphans state) (take (n + 1) (book_cinds rules)))) ≡ filter about cinds_before
-    other-cind-more other = cind-more ∙ ap (λ more. filter about cinds_before ++ more) (other-cind-lines rules table row n other (orphans_at rules state n)) ∙ append-nil (filter about cinds_before)
+  pub cind-more : n < length (book_cinds rules)
+      → filter about (map cind_line (numbered (cind_orphans state) (take (n + 1) (book_cinds rules)))) ≡ filter about (map cind_line (numbered (cind_orphans state) (take n (book_cinds rules)))) ++ filter about (cind_lines_at n (orphans_at rules state n))
+  cind-more within = ap (filter about) (cind-lines-more rules state n within) ∙ filter-append about (map cind_line (numbered (cind_orphans state) (take n (book_cinds rules)))) (cind_lines_at n (orphans_at rules state n))
 
 -- ---- the whole list
 
@@ -122,7 +99,7 @@ any-found p (x ∷ xs) = by (p x) refl
     by true is = rw is refl
     by false is = rw is (any-found p xs)
 
-mapped_some : {X Y : Type 0} (f : X → Y) (o : Option X) → is_some o ≡ is_some (option_map f o)
+pub mapped_some : {X Y : Type 0} (f : X → Y) (o : Option X) → is_some o ≡ is_some (option_map f o)
 mapped_some f None = refl
 mapped_some f (Some x) = refl
 

@@ -3,7 +3,7 @@
 ghost use Rattle.std.specs.Prelude.{◌≡◌, ◌++◌, ◌<◌, [], true, length, filter, All, IfOk, OnOk};
 ghost use Rattle.schema_core.specs.Faults.{IsUnlessMemory};
 ghost use Rattle.rule_model.specs.Books.{book_cinds, book_deps};
-ghost use Rattle.bench_core.specs.Answers.{IsRowOfCind, IsRowOfDep, orphans_of_row, violations_of_row};
+ghost use Rattle.bench_core.specs.Answers.{orphans_at, violations_at};
 ghost use Rattle.violation_report.specs.Explained.{cind_is_of, dep_is_of, explain_tells, explained, explanation, has_row, is_about};
 ghost use Rattle.violation_report.specs.Listing.{cind_lines, cind_lines_at, dep_lines, dep_lines_at};
 ghost use Rattle.violation_report.specs.Text.{IsLineOf};
@@ -40,8 +40,10 @@ impl From<AllocError> for ExplainFault {
 }
 
 /// The lines of the list that a row of a table has, in the list's order. A line that only names the row as a
-/// partner is not among them. The list isn't made: for each rule that has the table on its left the indexes of the
-/// bench are asked for this row, with at most one probe for each tableau row.
+/// partner is not among them.
+///
+/// Cost: the list isn't made. Each rule is looked at, and for each tableau row of a rule of the table (of an inclusion
+/// that has it on the left) an index is probed at most once, however many rows and violations there are.
 pub fn explain<L: Ledger>(
     alloc: Global,
     bench: &Bench,
@@ -98,24 +100,27 @@ fn explain_deps<L: Ledger>(
     ensures { OnOk result (lines.new ≡ filter (is_about bench.now.rules table row) (dep_lines bench.now.rules bench.now.history.present)) }
 {
     for number in 0..bench.rules().deps().as_slice().len() {
-        if dep_is_of(bench.rules(), table, number) {
-            explain_dep(bench, number, row, lines, steps)?;
-        }
+        explain_dep(bench, table, number, row, lines, steps)?;
     }
     Ok(())
 }
 
+/// Appends the lines about the row that a numbered dependency has: none where it is of another table.
 fn explain_dep<L: Ledger>(
     bench: &Bench,
+    table: usize,
     number: usize,
     row: RowId,
     lines: &mut List<Line>,
     steps: &mut Steps<L>,
 ) -> Result<(), AllocError>
     requires dep { number < length (book_deps bench.now.rules) }
-    requires there { IsRowOfDep bench.now.rules bench.now.history.present number row }
-    ensures { OnOk result (lines.new ≡ lines.old ++ dep_lines_at number (violations_of_row bench.now.rules bench.now.history.present number row)) }
+    requires there { has_row bench.now.history.present table row ≡ true }
+    ensures { OnOk result (lines.new ≡ lines.old ++ filter (is_about bench.now.rules table row) (dep_lines_at number (violations_at bench.now.rules bench.now.history.present number))) }
 {
+    if !dep_is_of(bench.rules(), table, number) {
+        return Ok(());
+    }
     let found = bench.violations_of_row(number, row, steps)?;
     push_violations(number, found.as_slice(), lines)
 }
@@ -131,24 +136,27 @@ fn explain_cinds<L: Ledger>(
     ensures { OnOk result (lines.new ≡ lines.old ++ filter (is_about bench.now.rules table row) (cind_lines bench.now.rules bench.now.history.present)) }
 {
     for number in 0..bench.rules().cinds().as_slice().len() {
-        if cind_is_of(bench.rules(), table, number) {
-            explain_cind(bench, number, row, lines, steps)?;
-        }
+        explain_cind(bench, table, number, row, lines, steps)?;
     }
     Ok(())
 }
 
+/// The same of a numbered inclusion, which may have another table on its left.
 fn explain_cind<L: Ledger>(
     bench: &Bench,
+    table: usize,
     number: usize,
     row: RowId,
     lines: &mut List<Line>,
     steps: &mut Steps<L>,
 ) -> Result<(), AllocError>
     requires cind { number < length (book_cinds bench.now.rules) }
-    requires there { IsRowOfCind bench.now.rules bench.now.history.present number row }
-    ensures { OnOk result (lines.new ≡ lines.old ++ cind_lines_at number (orphans_of_row bench.now.rules bench.now.history.present number row)) }
+    requires there { has_row bench.now.history.present table row ≡ true }
+    ensures { OnOk result (lines.new ≡ lines.old ++ filter (is_about bench.now.rules table row) (cind_lines_at number (orphans_at bench.now.rules bench.now.history.present number))) }
 {
+    if !cind_is_of(bench.rules(), table, number) {
+        return Ok(());
+    }
     let found = bench.orphans_of_row(number, row, steps)?;
     push_orphans(number, found.as_slice(), lines)
 }

@@ -1,11 +1,10 @@
-use Rattle.std.proofs.Common.{◌≡◌, ◌<◌, ◌≤◌, ◌++◌, ◌∙◌, sym, ap, length, map, take, filter}
-use Rattle.std.proofs.lemmas.List.{append_assoc, take_all}
-use Rattle.cfd_semantics.specs.Numbered.{numbered}
+use Rattle.std.proofs.Common.{◌≡◌, ◌<◌, ◌≤◌, ◌++◌, ◌∙◌, sym, ap, length, filter}
+use Rattle.std.proofs.lemmas.List.{take_all}
 use Rattle.rule_model.specs.Books.{book_deps}
-use Rattle.bench_core.specs.Answers.{dep_violations, violations_of_row}
+use Rattle.bench_core.specs.Answers.{violations_at}
 use Rattle.violation_report.specs.Explained.{is_about}
-use Rattle.violation_report.specs.Listing.{dep_line, dep_lines_at}
-use Rattle.violation_report.proofs.RowLines.{other-dep-more, own-dep-more, row-of_dep}
+use Rattle.violation_report.specs.Listing.{dep_lines_at}
+use Rattle.violation_report.proofs.RowLines.{dep-more}
 use Rattle.violation_report.proofs.explaining.explain_deps.Goals as goal
 
 pub explain_dep-requires-clause-dep : goal.explain_dep-requires-clause-dep
@@ -14,3 +13,21 @@ explain_dep-requires-clause-dep g c =
     let rules : c.as_slice-number-end.result.now ≡ book_deps bench.rules = c.as_slice-number-end.ensures ∙ c.deps.ensures.deps ∙ ap book_deps c.rules.ensures.value in
     rw rules at c.loop-number-test.true
 
+pub loop-number-preserved : goal.loop-number-preserved
+loop-number-preserved g c =
+    let bench = c.args.bench.now in
+    let n = c.loop-number.number in
+    let about = is_about bench.rules c.args.table c.args.row in
+    let rules : c.as_slice-number-end.result.now ≡ book_deps bench.rules = c.as_slice-number-end.ensures ∙ c.deps.ensures.deps ∙ ap book_deps c.rules.ensures.value in
+    let within : n < length (book_deps bench.rules) = rw rules at c.loop-number-test.true in
+    let more = filter about (dep_lines_at n (violations_at bench.rules bench.history.present n)) in
+    c.in_ok-explain_dep.ensures
+    ∙ ap (λ lines. lines ++ more) c.loop-number.invariant
+    ∙ sym (dep-more bench.rules bench.history.present c.args.table c.args.row n within)
+
+pub returns : goal.returns
+returns g c =
+    let bench = c.args.bench.now in
+    let rules : c.as_slice-number-end.result.now ≡ book_deps bench.rules = c.as_slice-number-end.ensures ∙ c.deps.ensures.deps ∙ ap book_deps c.rules.ensures.value in
+    let past : length (book_deps bench.rules) ≤ c.loop-number.number = rw (← rules) c.loop-number-test.false in
+    rw (take_all c.loop-number.number (book_deps bench.rules) past) at c.loop-number.invariant

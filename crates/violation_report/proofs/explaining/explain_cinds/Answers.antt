@@ -1,0 +1,35 @@
+use Rattle.std.proofs.Common.{◌≡◌, ◌<◌, ◌≤◌, ◌++◌, ◌∙◌, sym, ap, length, map, take, filter}
+use Rattle.std.proofs.lemmas.List.{append_assoc, take_all}
+use Rattle.cfd_semantics.specs.Numbered.{numbered}
+use Rattle.rule_model.specs.Books.{book_cinds}
+use Rattle.bench_core.specs.Answers.{cind_orphans, orphans_at}
+use Rattle.violation_report.specs.Explained.{is_about}
+use Rattle.violation_report.specs.Listing.{cind_line, cind_lines_at}
+use Rattle.violation_report.proofs.RowLines.{cind-more}
+use Rattle.violation_report.proofs.explaining.explain_cinds.Goals as goal
+
+pub explain_cind-requires-clause-cind : goal.explain_cind-requires-clause-cind
+explain_cind-requires-clause-cind g c =
+    let bench = c.args.bench.now in
+    let rules : c.as_slice-number-end.result.now ≡ book_cinds bench.rules = c.as_slice-number-end.ensures ∙ c.cinds.ensures.cinds ∙ ap book_cinds c.rules.ensures.value in
+    rw rules at c.loop-number-test.true
+
+pub loop-number-preserved : goal.loop-number-preserved
+loop-number-preserved g c =
+    let bench = c.args.bench.now in
+    let n = c.loop-number.number in
+    let about = is_about bench.rules c.args.table c.args.row in
+    let rules : c.as_slice-number-end.result.now ≡ book_cinds bench.rules = c.as_slice-number-end.ensures ∙ c.cinds.ensures.cinds ∙ ap book_cinds c.rules.ensures.value in
+    let within : n < length (book_cinds bench.rules) = rw rules at c.loop-number-test.true in
+    let more = filter about (cind_lines_at n (orphans_at bench.rules bench.history.present n)) in
+    c.in_ok-explain_cind.ensures
+    ∙ ap (λ lines. lines ++ more) c.loop-number.invariant
+    ∙ append_assoc c.args.lines.now (filter about (map cind_line (numbered (cind_orphans bench.history.present) (take n (book_cinds bench.rules))))) more
+    ∙ ap (λ lines. c.args.lines.now ++ lines) (sym (cind-more bench.rules bench.history.present c.args.table c.args.row n within))
+
+pub returns : goal.returns
+returns g c =
+    let bench = c.args.bench.now in
+    let rules : c.as_slice-number-end.result.now ≡ book_cinds bench.rules = c.as_slice-number-end.ensures ∙ c.cinds.ensures.cinds ∙ ap book_cinds c.rules.ensures.value in
+    let past : length (book_cinds bench.rules) ≤ c.loop-number.number = rw (← rules) c.loop-number-test.false in
+    rw (take_all c.loop-number.number (book_cinds bench.rules) past) at c.loop-number.invariant
