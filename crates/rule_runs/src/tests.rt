@@ -1,7 +1,6 @@
 //! Moves and runs over a small master table, each with what was written down by hand for it.
 
-ghost use Rattle.std.specs.Prelude.{◌≡◌, ◌<◌, length, All};
-ghost use Rattle.row_store.specs.Tuple.{ids_of};
+ghost use Rattle.std.specs.Prelude.{◌≡◌, ◌<◌};
 ghost use Rattle.rule_runs.specs.Starts.{AreMasters, IsStart};
 
 mod setup;
@@ -255,7 +254,8 @@ fn extended(
         return close_without(alloc, start, left_out);
     };
     assert!(rt; applies(start, start.tuple, start.vouched, first));
-    let run = Run::begin(alloc, start)?.with_move(alloc, start, first)?;
+    let begun = Run::begin(alloc, start)?;
+    let run = begun.with_move(alloc, start, first)?;
     extend(start, run, left_out)
 }
 

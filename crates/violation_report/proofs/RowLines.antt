@@ -1,5 +1,5 @@
 -- Of the lines of the whole list, those that are about a row are the lines asked for that row.
-use Rattle.std.proofs.Common.{◌≡◌, ℕ, ◌+◌, ◌<◌, ◌==◌, ◌&&◌, Bool, true, false, List, [], ◌∷◌, ◌++◌, map, length, take, filter, Option, Some, None, All, refl, sym, ap, subst, ◌∙◌}
+use Rattle.std.proofs.Common.{◌≡◌, ℕ, ◌+◌, ◌<◌, ◌==◌, ◌&&◌, Bool, true, false, List, [], ◌∷◌, ◌++◌, map, length, take, filter, Option, Some, None, All, refl, sym, ap, subst, ◌∙◌, arith}
 use Rattle.std.specs.Prelude.{IsSome, is_some, slice_get, option_and_then, option_map}
 use Rattle.std.specs.FinMap as finmap
 use Rattle.std.specs.List.{find, list_any}
@@ -93,11 +93,11 @@ explained-in_range rules state table row = All-filter (is_about rules table row)
 
 any-found : {X : Type 0} (p : X → Bool) (xs : List X) → list_any p xs ≡ is_some (find p xs)
 any-found p [] = refl
-any-found p (x ∷ xs) = by (p x) refl
+any-found p (x ∷ xs) = by (p x) refl (any-found p xs)
   where
-    by : (b : Bool) → p x ≡ b → list_any p (x ∷ xs) ≡ is_some (find p (x ∷ xs))
-    by true is = rw is refl
-    by false is = rw is (any-found p xs)
+    by : (b : Bool) → p x ≡ b → list_any p xs ≡ is_some (find p xs) → list_any p (x ∷ xs) ≡ is_some (find p (x ∷ xs))
+    by true is ih = rw is refl
+    by false is ih = rw is ih
 
 pub mapped_some : {X Y : Type 0} (f : X → Y) (o : Option X) → is_some o ≡ is_some (option_map f o)
 mapped_some f None = refl

@@ -101,7 +101,9 @@ fn put<L: Ledger>(
         .attrs
         .as_slice()
         .len();
-    assert_eq!(rt; tuple.len(), width);
+    if tuple.len() != width {
+        panic!(rt; "a tuple of another width");
+    }
     masters.add(table, row, tuple, steps)
 }
 
@@ -175,7 +177,9 @@ pub(crate) fn start_of<'a>(
         .attrs
         .as_slice()
         .len();
-    assert_eq!(rt; tuple.len(), width);
+    if tuple.len() != width {
+        panic!(rt; "a tuple of another width");
+    }
     Start {
         rules: &basis.rules,
         pool: &basis.pool,
