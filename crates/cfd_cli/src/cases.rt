@@ -4,7 +4,7 @@
 //! blanks between them; without it they are `run  p`. A line `@ NAME` begins a file. A line `= STATUS` begins what is
 //! written. Files that a case leaves out are those of a project that all cases of the list share.
 use super::*;
-use schema_core::{Limits, List, Text, Texts};
+use schema_core::{List, Text, Texts};
 use shelf_io::{MemoryShelf, MemorySink};
 use std::alloc::{AllocError, Global};
 use std::process::Abort;

@@ -15,6 +15,8 @@ pub use program::{run, run_with};
 #[cfg(test)]
 mod cases;
 #[cfg(test)]
+mod example_tests;
+#[cfg(test)]
 mod fix_tests;
 #[cfg(test)]
 mod limit_tests;

@@ -1,13 +1,13 @@
 //! Projects at the limits of a call, just below and just above them, and one that is large.
+ghost use Rattle.schema_core.specs.Limits.AreLimits;
+
 use super::*;
-use crate::cases::{check_cases, words_of};
+use crate::cases::{check_cases, shelf_of, words_of};
 use schema_core::Limits;
 use shelf_io::{MemoryShelf, MemorySink};
-use std::alloc::{AllocError, Global};
+use std::alloc::AllocError;
 use std::process::Abort;
 use std::test::Fail;
-
-ghost use Rattle.schema_core.specs.Limits.AreLimits;
 
 // Two tables, two dependencies in three `row` lines, two inclusions and two editing rules.
 const TWO_OF_EACH: [(&str, &str); 5] = [
@@ -78,14 +78,6 @@ fn but_for(place: usize, number: u64) -> [u64; 13] {
     most
 }
 
-fn shelf_of(alloc: Global, files: &[(&str, &str)]) -> Result<MemoryShelf, AllocError> {
-    let mut shelf = MemoryShelf::new(alloc, Vec::new(alloc));
-    for (name, text) in files {
-        shelf.hold(name, text.as_bytes())?;
-    }
-    Ok(shelf)
-}
-
 fn expect_under<R: Abort + AllocGlobal>(
     rt: &R,
     most: [u64; 13],
@@ -94,10 +86,14 @@ fn expect_under<R: Abort + AllocGlobal>(
 ) -> Result<(), AllocError> {
     let alloc = rt.alloc();
     let words = words_of(alloc, "run  p")?;
-    let mut shelf = shelf_of(alloc, &TWO_OF_EACH)?;
+    let mut shelf = shelf_of(alloc, &TWO_OF_EACH, "")?;
     let mut out = MemorySink::with_room(alloc, 1_000, Vec::new(alloc))?;
     let ended = run_with(alloc, &words, &mut shelf, &mut out, limits_of(most));
-    assert_eq!(rt; (ended, out.written()), (status, written.as_bytes()), "{most:?}");
+    assert_eq!(rt;
+        (ended, out.written()),
+        (status, written.as_bytes()),
+        "{most:?}"
+    );
     Ok(())
 }
 
@@ -202,7 +198,7 @@ fn long_texts(rt: HostRuntime) -> Result<(), Fail> {
     script.push_str("'\n")?;
     script.push_str(longest.as_str())?;
     script.push_str("x'\n")?;
-    let mut shelf = shelf_of(alloc, &CUSTOMERS)?;
+    let mut shelf = shelf_of(alloc, &CUSTOMERS, "")?;
     shelf.hold("s", script.as_bytes())?;
     let mut out = MemorySink::with_room(alloc, 1_000, Vec::new(alloc))?;
     let ended = run(alloc, &words_of(alloc, "run  p")?, &mut shelf, &mut out);
@@ -212,6 +208,7 @@ fn long_texts(rt: HostRuntime) -> Result<(), Fail> {
 }
 
 const ROWS: u32 = 200_000;
+
 const TURNS: u32 = 50_000;
 
 // Rows that all satisfy the rules, and a count behind each of many edits: none of them may visit the rows.
