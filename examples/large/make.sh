@@ -89,7 +89,7 @@ awk -v rows="$rows" -v wrong="$wrong" '
         firsts = split("Anna Bruno Clara David Emma Felix Greta Hugo Ida Jean Karla Louis Marie Nora Otto Paula", first, " ")
         lasts = split("Weber Petit Koch Moreau Schulz Leroy Braun Girard Vogel Roux Keller Blanc Sommer Faure", last, " ")
         cities = split("Linden Auberive Neustadt Valmont Steinbach Belfort Hochdorf Montclair Waldau Rochefort", city, " ")
-        for (i = cities; i > 0; i--) city[i % cities] = city[i]
+        city[0] = city[cities]
         split("open paid sent", state, " ")
 
         zips = int(rows / 50) + 1
@@ -105,7 +105,6 @@ awk -v rows="$rows" -v wrong="$wrong" '
             name = first[1 + draw(firsts)] " " last[1 + draw(lasts)]
             zip = draw(zips)
             place = city_of(zip)
-            # A person without an order has any state; the others are active.
             if (is_wrong()) {
                 place = city_of(zip + 1)
                 if (fixes < 10) fix[fixes++] = id
@@ -113,6 +112,7 @@ awk -v rows="$rows" -v wrong="$wrong" '
             print "p" id "," name "," country_of(zip) "," code_of(zip) "," place "," (id % 10 ? "yes" : "no") > "people.csv"
         }
 
+        # Every tenth person is not active, and has no order that is open or paid.
         items = int(orders / 20) + 1
         print "number,person,item,price,state" > "orders.csv"
         for (number = 1; number <= orders; number++) {
