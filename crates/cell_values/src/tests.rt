@@ -166,7 +166,11 @@ fn what_rules_tell_apart(rt: HostRuntime) -> Result<(), Fail> {
                 cell_of(occurring(alloc, attrs, &rules)?.as_slice(), number).is_some()
             );
         }
-        assert_eq!(rt; shown(alloc, attrs, &rules)?.as_str().trim(), want, "{case}");
+        assert_eq!(rt;
+            shown(alloc, attrs, &rules)?.as_str().trim(),
+            want,
+            "{case}"
+        );
     }
     Ok(())
 }
@@ -181,12 +185,7 @@ fn push_literals(out: &mut String, clause: &[Literal]) -> Result<(), AllocError>
 }
 
 /// What a clause says of the only cell on the left side of a dependency.
-fn said_of(
-    rt: &impl Abort,
-    alloc: Global,
-    values: &Pool,
-    dep: &Dep,
-) -> Result<String, AllocError> {
+fn said_of(rt: &impl Abort, alloc: Global, values: &Pool, dep: &Dep) -> Result<String, AllocError> {
     let mut out = String::new(alloc);
     let Some(row) = dep.rule.rows.as_slice().first() else {
         panic!(rt; "no row");
@@ -215,7 +214,11 @@ fn what_clauses_say_of_a_cell(rt: HostRuntime) -> Result<(), Fail> {
         let values = texts_of(alloc, values)?;
         let text = format!(in alloc; "t: [a] -> [b] row {cell} || _")?;
         let dep = parse_dep(alloc, &book, text.as_str())?;
-        assert_eq!(rt; said_of(&rt, alloc, &values, &dep)?.as_str().trim(), want, "{case}");
+        assert_eq!(rt;
+            said_of(&rt, alloc, &values, &dep)?.as_str().trim(),
+            want,
+            "{case}"
+        );
     }
     Ok(())
 }
@@ -227,7 +230,11 @@ fn fresh_texts(rt: HostRuntime) -> Result<(), Fail> {
         let (question, want) = cut(case, "=>");
         let (past, texts) = cut(question, ";");
         let texts = texts_of(alloc, texts)?;
-        assert_eq!(rt; fresh_past(alloc, past.len(), &texts)?.as_str(), want, "{case}");
+        assert_eq!(rt;
+            fresh_past(alloc, past.len(), &texts)?.as_str(),
+            want,
+            "{case}"
+        );
     }
     Ok(())
 }
@@ -247,7 +254,11 @@ fn chosen_texts(rt: HostRuntime) -> Result<(), Fail> {
         }
         assert!(rt; values.len() < truth.len());
         let place = chosen(&truth, 1, values.len());
-        assert_eq!(rt; chosen_text(alloc, &values, place)?.as_str(), want, "{case}");
+        assert_eq!(rt;
+            chosen_text(alloc, &values, place)?.as_str(),
+            want,
+            "{case}"
+        );
     }
     Ok(())
 }

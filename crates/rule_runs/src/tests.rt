@@ -236,7 +236,11 @@ fn compare_runs(rt: &impl Abort, alloc: Global, basis: &Basis) -> Result<(), All
         let tuple = tuple_of(alloc, &basis.pool, tuple)?;
         let start = start_of(rt, basis, table, &tuple, marks_of(vouched));
         let moves = moves_of(alloc, moves)?;
-        assert_eq!(rt; checked(alloc, basis, &start, &moves)?.as_str(), want, "{case}");
+        assert_eq!(rt;
+            checked(alloc, basis, &start, &moves)?.as_str(),
+            want,
+            "{case}"
+        );
     }
     Ok(())
 }

@@ -176,7 +176,13 @@ fn explained<L: Ledger>(alloc: Global, blank: Blank) -> Result<Vec<u8>, Fail>
     let mut bench = bench(alloc, &mut steps)?;
     fill(alloc, &mut bench, &mut steps)?;
     let mut out = Vec::new(alloc);
-    for (table, row) in [("cust", 1), ("cust", 2), ("cust", 3), ("cust", 4), ("nope", 1)] {
+    for (table, row) in [
+        ("cust", 1),
+        ("cust", 2),
+        ("cust", 3),
+        ("cust", 4),
+        ("nope", 1),
+    ] {
         match explain(alloc, &bench, table, row, &mut steps) {
             Ok(lines) => {
                 for line in lines.as_slice() {

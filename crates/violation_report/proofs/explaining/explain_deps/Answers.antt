@@ -13,4 +13,3 @@ explain_dep-requires-clause-dep g c =
     let bench = c.args.bench.now in
     let rules : c.as_slice-number-end.result.now ≡ book_deps bench.rules = c.as_slice-number-end.ensures ∙ c.deps.ensures.deps ∙ ap book_deps c.rules.ensures.value in
     rw rules at c.loop-number-test.true
-

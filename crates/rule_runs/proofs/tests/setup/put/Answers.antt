@@ -8,4 +8,3 @@ use Rattle.master_index.specs.Masters.{IsWideFor}
 use Rattle.rule_runs.specs.Starts.{IsTupleIn}
 use Rattle.rule_runs.proofs.TestMasters.{masters-add, tuple_in, wide_for}
 use Rattle.rule_runs.proofs.tests.setup.put.Goals as goal
-
