@@ -7,3 +7,4 @@ pub mod StartFacts
 pub mod Running
 pub mod Searching
 pub mod Renaming
+pub mod TestMasters

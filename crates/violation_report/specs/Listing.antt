@@ -19,6 +19,10 @@ use Rattle.violation_report.specs.declared.line.Line.TheVariants.{Single, Pair, 
 abbrev pub dep_line : ℕ × (ℕ × Violation) → Line
 dep_line (dep, (k, found)) = option_map_or (λ partner. Pair dep k found.row partner) found.partner (Single dep k found.row)
 
+-- the lines of one dependency, by its number
+abbrev pub dep_lines_at : ℕ → List (ℕ × Violation) → List Line
+dep_lines_at dep violations = map (λ found. dep_line (dep, found)) violations
+
 abbrev pub dep_lines : Book → State → List Line
 dep_lines rules state = map dep_line (numbered (dep_violations state) (book_deps rules))
 
@@ -26,6 +30,10 @@ dep_lines rules state = map dep_line (numbered (dep_violations state) (book_deps
 
 abbrev pub cind_line : ℕ × (ℕ × ℕ) → Line
 cind_line (cind, (k, row)) = Orphan cind k row
+
+-- the lines of one inclusion dependency, by its number
+abbrev pub cind_lines_at : ℕ → List (ℕ × ℕ) → List Line
+cind_lines_at cind orphans = map (λ found. cind_line (cind, found)) orphans
 
 abbrev pub cind_lines : Book → State → List Line
 cind_lines rules state = map cind_line (numbered (cind_orphans state) (book_cinds rules))

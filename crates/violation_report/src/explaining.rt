@@ -1,20 +1,21 @@
 //! The lines of the list that a row has.
 
-ghost use Rattle.std.specs.Prelude.{◌≡◌, All, IfOk, filter};
-ghost use Rattle.std.specs.List.{list_any};
+ghost use Rattle.std.specs.Prelude.{◌≡◌, ◌++◌, ◌<◌, [], true, length, filter, All, IfOk, OnOk};
 ghost use Rattle.schema_core.specs.Faults.{IsUnlessMemory};
-ghost use Rattle.bench_core.specs.State.{has_id};
-ghost use Rattle.violation_report.specs.Explained.{cind_is_of, dep_is_of, explain_tells, explanation, is_about};
+ghost use Rattle.rule_model.specs.Books.{book_cinds, book_deps};
+ghost use Rattle.bench_core.specs.Answers.{IsRowOfCind, IsRowOfDep, orphans_of_row, violations_of_row};
+ghost use Rattle.violation_report.specs.Explained.{cind_is_of, dep_is_of, explain_tells, explained, explanation, has_row, is_about};
+ghost use Rattle.violation_report.specs.Listing.{cind_lines, cind_lines_at, dep_lines, dep_lines_at};
 ghost use Rattle.violation_report.specs.Text.{IsLineOf};
 ghost use Rattle.violation_report.specs.declared.explaining.ExplainFault.TheVariants as explain_fault;
 
 use crate::line::Line;
-use crate::listing::list;
+use crate::listing::{push_orphans, push_violations};
 use bench_core::Bench;
 use probe_steps::Steps;
 use row_store::RowId;
 use rule_model::RuleBook;
-use schema_core::{List, Texts};
+use schema_core::List;
 use std::alloc::{AllocError, Global};
 use std::sync::ledger::Ledger;
 
@@ -39,7 +40,8 @@ impl From<AllocError> for ExplainFault {
 }
 
 /// The lines of the list that a row of a table has, in the list's order. A line that only names the row as a
-/// partner is not among them.
+/// partner is not among them. The list isn't made: for each rule that has the table on its left the indexes of the
+/// bench are asked for this row, with at most one probe for each tableau row.
 pub fn explain<L: Ledger>(
     alloc: Global,
     bench: &Bench,
@@ -53,49 +55,102 @@ pub fn explain<L: Ledger>(
     let Some(number) = bench.rules().schema().table_named(table) else {
         return Err(ExplainFault::UnknownTable);
     };
-    if !has_row(bench.rows(number)?.as_slice(), row) {
+    if !has_row(bench, number, row) {
         return Err(ExplainFault::UnknownRow);
     }
-    let lines = list(alloc, bench, steps)?;
-    Ok(lines_about(alloc, bench.rules(), lines.as_slice(), number, row)?)
+    Ok(lines_of(alloc, bench, number, row, steps)?)
 }
 
-fn has_row(rows: &[(RowId, Texts)], id: RowId) -> bool
-    ensures { result ≡ list_any (has_id id) rows.now }
+fn has_row(bench: &Bench, table: usize, row: RowId) -> bool
+    requires { table < length bench.now.history.present }
+    ensures { result ≡ has_row bench.now.history.present table row }
 {
-    rows.iter().any(|row| row.0 == id)
+    bench.store(table).get(row).is_some()
 }
 
-/// The lines that tell of the row, in their order.
-fn lines_about(
+/// The lines of a row that is there.
+fn lines_of<L: Ledger>(
     alloc: Global,
-    rules: &RuleBook,
-    lines: &[Line],
+    bench: &Bench,
     table: usize,
     row: RowId,
+    steps: &mut Steps<L>,
 ) -> Result<List<Line>, AllocError>
-    requires { All (IsLineOf rules.now) lines.now }
-    ensures lines { IfOk result (λ about. about ≡ filter (is_about rules.now table row) lines.now) }
-    ensures in_range { IfOk result (All (IsLineOf rules.now)) }
+    requires { has_row bench.now.history.present table row ≡ true }
+    ensures lines { IfOk result (λ lines. lines ≡ explained bench.now.rules bench.now.history.present table row) }
+    ensures in_range { IfOk result (All (IsLineOf bench.now.rules)) }
 {
-    let mut about = List::new(alloc);
-    for line in lines {
-        if is_about(rules, table, row, line) {
-            about.push(*line)?;
-        }
-    }
-    Ok(about)
+    let mut lines = List::new(alloc);
+    explain_deps(bench, table, row, &mut lines, steps)?;
+    explain_cinds(bench, table, row, &mut lines, steps)?;
+    Ok(lines)
 }
 
-fn is_about(rules: &RuleBook, table: usize, id: RowId, line: &Line) -> bool
-    ensures { result ≡ is_about rules.now table id line.now }
+fn explain_deps<L: Ledger>(
+    bench: &Bench,
+    table: usize,
+    row: RowId,
+    lines: &mut List<Line>,
+    steps: &mut Steps<L>,
+) -> Result<(), AllocError>
+    requires start { lines.old ≡ [] }
+    requires there { has_row bench.now.history.present table row ≡ true }
+    ensures { OnOk result (lines.new ≡ filter (is_about bench.now.rules table row) (dep_lines bench.now.rules bench.now.history.present)) }
 {
-    match line {
-        Line::Single { dep, row, .. } | Line::Pair { dep, row, .. } => {
-            *row == id && dep_is_of(rules, table, *dep)
+    for number in 0..bench.rules().deps().as_slice().len() {
+        if dep_is_of(bench.rules(), table, number) {
+            explain_dep(bench, number, row, lines, steps)?;
         }
-        Line::Orphan { cind, row, .. } => *row == id && cind_is_of(rules, table, *cind),
     }
+    Ok(())
+}
+
+fn explain_dep<L: Ledger>(
+    bench: &Bench,
+    number: usize,
+    row: RowId,
+    lines: &mut List<Line>,
+    steps: &mut Steps<L>,
+) -> Result<(), AllocError>
+    requires dep { number < length (book_deps bench.now.rules) }
+    requires there { IsRowOfDep bench.now.rules bench.now.history.present number row }
+    ensures { OnOk result (lines.new ≡ lines.old ++ dep_lines_at number (violations_of_row bench.now.rules bench.now.history.present number row)) }
+{
+    let found = bench.violations_of_row(number, row, steps)?;
+    push_violations(number, found.as_slice(), lines)
+}
+
+fn explain_cinds<L: Ledger>(
+    bench: &Bench,
+    table: usize,
+    row: RowId,
+    lines: &mut List<Line>,
+    steps: &mut Steps<L>,
+) -> Result<(), AllocError>
+    requires { has_row bench.now.history.present table row ≡ true }
+    ensures { OnOk result (lines.new ≡ lines.old ++ filter (is_about bench.now.rules table row) (cind_lines bench.now.rules bench.now.history.present)) }
+{
+    for number in 0..bench.rules().cinds().as_slice().len() {
+        if cind_is_of(bench.rules(), table, number) {
+            explain_cind(bench, number, row, lines, steps)?;
+        }
+    }
+    Ok(())
+}
+
+fn explain_cind<L: Ledger>(
+    bench: &Bench,
+    number: usize,
+    row: RowId,
+    lines: &mut List<Line>,
+    steps: &mut Steps<L>,
+) -> Result<(), AllocError>
+    requires cind { number < length (book_cinds bench.now.rules) }
+    requires there { IsRowOfCind bench.now.rules bench.now.history.present number row }
+    ensures { OnOk result (lines.new ≡ lines.old ++ cind_lines_at number (orphans_of_row bench.now.rules bench.now.history.present number row)) }
+{
+    let found = bench.orphans_of_row(number, row, steps)?;
+    push_orphans(number, found.as_slice(), lines)
 }
 
 fn dep_is_of(rules: &RuleBook, table: usize, dep: usize) -> bool

@@ -1,15 +1,16 @@
 //! The list of a bench.
 
-ghost use Rattle.std.specs.Prelude.{◌≡◌, ◌↔◌, ◌++◌, ◌<◌, [], length, map, All, IfOk, OnOk};
+ghost use Rattle.std.specs.Prelude.{◌≡◌, ◌↔◌, ◌++◌, ◌<◌, [], length, All, IfOk, OnOk};
 ghost use Rattle.rule_model.specs.Books.{book_cinds, book_deps};
 ghost use Rattle.bench_core.specs.Answers.{orphans_at, violations_at};
-ghost use Rattle.violation_report.specs.Listing.{IsSatisfied, cind_line, cind_lines, dep_line, dep_lines, listing};
+ghost use Rattle.violation_report.specs.Listing.{IsSatisfied, cind_lines, cind_lines_at, dep_line, dep_lines, dep_lines_at, listing};
 ghost use Rattle.violation_report.specs.Text.{IsLineOf};
 
 use crate::line::Line;
 use bench_core::Bench;
 use cfd_semantics::Violation;
 use probe_steps::Steps;
+use row_store::RowId;
 use schema_core::List;
 use std::alloc::{AllocError, Global};
 use std::sync::ledger::Ledger;
@@ -52,17 +53,28 @@ fn list_dep<L: Ledger>(
     steps: &mut Steps<L>,
 ) -> Result<(), AllocError>
     requires { number < length (book_deps bench.now.rules) }
-    ensures { OnOk result (lines.new ≡ lines.old ++ map (λ found. dep_line (number, found)) (violations_at bench.now.rules bench.now.history.present number)) }
+    ensures { OnOk result (lines.new ≡ lines.old ++ dep_lines_at number (violations_at bench.now.rules bench.now.history.present number)) }
 {
     let found = bench.violations(number, steps)?;
-    for (k, violation) in found.as_slice() {
-        lines.push(dep_line(number, *k, violation))?;
+    push_violations(number, found.as_slice(), lines)
+}
+
+/// Appends a line for each of these violations of a numbered dependency.
+pub(crate) fn push_violations(
+    dep: usize,
+    found: &[(usize, Violation)],
+    lines: &mut List<Line>,
+) -> Result<(), AllocError>
+    ensures { OnOk result (lines.new ≡ lines.old ++ dep_lines_at dep found.now) }
+{
+    for (k, violation) in found {
+        lines.push(dep_line(dep, *k, violation))?;
     }
     Ok(())
 }
 
 /// A violation of a numbered dependency and tableau row as a line.
-pub(crate) fn dep_line(dep: usize, k: usize, violation: &Violation) -> Line
+fn dep_line(dep: usize, k: usize, violation: &Violation) -> Line
     ensures { result ≡ dep_line (dep, (k, violation.now)) }
 {
     let row = violation.row;
@@ -97,12 +109,23 @@ fn list_cind<L: Ledger>(
     steps: &mut Steps<L>,
 ) -> Result<(), AllocError>
     requires { number < length (book_cinds bench.now.rules) }
-    ensures { OnOk result (lines.new ≡ lines.old ++ map (λ found. cind_line (number, found)) (orphans_at bench.now.rules bench.now.history.present number)) }
+    ensures { OnOk result (lines.new ≡ lines.old ++ cind_lines_at number (orphans_at bench.now.rules bench.now.history.present number)) }
 {
     let found = bench.orphans(number, steps)?;
-    for (k, row) in found.as_slice() {
+    push_orphans(number, found.as_slice(), lines)
+}
+
+/// Appends a line for each of these orphans of a numbered inclusion.
+pub(crate) fn push_orphans(
+    cind: usize,
+    found: &[(usize, RowId)],
+    lines: &mut List<Line>,
+) -> Result<(), AllocError>
+    ensures { OnOk result (lines.new ≡ lines.old ++ cind_lines_at cind found.now) }
+{
+    for (k, row) in found {
         lines.push(Line::Orphan {
-            cind: number,
+            cind,
             k: *k,
             row: *row,
         })?;

@@ -1,0 +1,153 @@
+-- Of the lines of the whole list, those that are about a row are the lines asked for that row.
+use Rattle.std.proofs.Common.{◌≡◌, ℕ, ◌+◌, ◌<◌, ◌==◌, ◌&&◌, Bool, true, false, List, [], ◌∷◌, ◌++◌, map, length, take, filter, Option, Some, None, All, refl, sym, ap, subst, ◌∙◌}
+use Rattle.std.specs.Prelude.{IsSome, is_some, slice_get, option_and_then, option_map}
+use Rattle.std.specs.FinMap as finmap
+use Rattle.std.specs.List.{find, list_any}
+use Rattle.std.specs.Option.{option_map_or}
+use Rattle.std.proofs.lemmas.List.{append-nil}
+use Rattle.std.proofs.lemmas.List.Elements.{All-filter, filter-append}
+use Rattle.cfd_semantics.specs.declared.violation.Violation.{Violation}
+use Rattle.cfd_semantics.specs.Numbered.{numbered}
+use Rattle.rule_model.specs.declared.dep.Dep.{Dep}
+use Rattle.rule_model.specs.declared.cind.Cind.{Cind}
+use Rattle.rule_model.specs.Books.{Book, book_cinds, book_deps}
+use Rattle.bench_core.specs.Answers.{IsRowOfCind, IsRowOfDep, cind_orphans, dep_violations, orphans_at, orphans_of_row, row_texts, violations_at, violations_of_row}
+use Rattle.bench_core.specs.State.{Row, State, TableState, has_id, texts_of}
+use Rattle.bench_core.specs.Stored.{Stored, table_state}
+use Rattle.bench_core.proofs.Planned.{texts-absent, texts-there}
+use Rattle.violation_report.specs.declared.line.Line.{Line}
+use Rattle.violation_report.specs.Explained.{cind_is_of, dep_is_of, explained, has_row, is_about}
+use Rattle.violation_report.specs.Listing.{cind_line, cind_lines, cind_lines_at, dep_line, dep_lines, dep_lines_at, listing}
+use Rattle.violation_report.specs.Text.{IsLineOf}
+use Rattle.violation_report.proofs.Lists.{listing_in_range}
+use Rattle.violation_report.proofs.Loops.{cind-lines-more, dep-lines-more}
+
+-- ---- lines that are kept
+
+-- what is kept of mapped items, where the test is one of the items
+module _ {X Y : Type 0} (p : Y → Bool) (f : X → Y) (q : X → Bool) (is : (x : X) → p (f x) ≡ q x) where
+  kept_first : (b : Bool) (x : X) (xs : List X) → q x ≡ b → filter p (map f xs) ≡ map f (filter q xs) → filter p (map f (x ∷ xs)) ≡ map f (filter q (x ∷ xs))
+  kept_first true x xs test ih = rw (is x, test) (ap (λ rest. f x ∷ rest) ih)
+  kept_first false x xs test ih = rw (is x, test) ih
+
+  kept_mapped : (xs : List X) → filter p (map f xs) ≡ map f (filter q xs)
+  kept_mapped [] = refl
+  kept_mapped (x ∷ xs) = kept_first (q x) x xs refl (kept_mapped xs)
+
+-- and where no item passes
+none_kept : {X Y : Type 0} (p : Y → Bool) (f : X → Y) (is : (x : X) → p (f x) ≡ false) (xs : List X) → filter p (map f xs) ≡ []
+none_kept p f is [] = refl
+none_kept p f is (x ∷ xs) = rw (is x) (none_kept p f is xs)
+
+and_true : (b : Bool) → (b && true) ≡ b
+and_true true = refl
+and_true false = refl
+
+and_false : (b : Bool) → (b && false) ≡ false
+and_false true = refl
+and_false false = refl
+
+module _ (rules : Book) (table row n : ℕ) where
+  dep-about : (found : ℕ × Violation) → is_about rules table row (dep_line (n, found)) ≡ (found.1.row == row && dep_is_of rules table n)
+  dep-about (k, found) = by found.partner
+    where
+      by : (partner : Option ℕ) → is_about rules table row (dep_line (n, (k, record { row = found.row; partner = partner }))) ≡ (found.row == row && dep_is_of rules table n)
+      by None = refl
+      by (Some partner) = refl
+
+  -- of the lines of a dependency, those about a row of its table, and of another
+  own-dep-lines : dep_is_of rules table n ≡ true → (found : List (ℕ × Violation)) → filter (is_about rules table row) (dep_lines_at n found) ≡ dep_lines_at n (filter (λ violation. violation.1.row == row) found)
+  own-dep-lines own = kept_mapped (is_about rules table row) (λ one. dep_line (n, one)) (λ violation. violation.1.row == row) (λ one. dep-about one ∙ ap (λ b. one.1.row == row && b) own ∙ and_true (one.1.row == row))
+
+  other-dep-lines : dep_is_of rules table n ≡ false → (found : List (ℕ × Violation)) → filter (is_about rules table row) (dep_lines_at n found) ≡ []
+  other-dep-lines other = none_kept (is_about rules table row) (λ one. dep_line (n, one)) (λ one. dep-about one ∙ ap (λ b. one.1.row == row && b) other ∙ and_false (one.1.row == row))
+
+  -- the same for an inclusion
+  own-cind-lines : cind_is_of rules table n ≡ true → (found : List (ℕ × ℕ)) → filter (is_about rules table row) (cind_lines_at n found) ≡ cind_lines_at n (filter (λ orphan. orphan.1 == row) found)
+  own-cind-lines own = kept_mapped (is_about rules table row) (λ one. cind_line (n, one)) (λ orphan. orphan.1 == row) (λ one. ap (λ b. one.1 == row && b) own ∙ and_true (one.1 == row))
+
+  other-cind-lines : cind_is_of rules table n ≡ false → (found : List (ℕ × ℕ)) → filter (is_about rules table row) (cind_lines_at n found) ≡ []
+  other-cind-lines other = none_kept (is_about rules table row) (λ one. cind_line (n, one)) (λ one. ap (λ b. one.1 == row && b) other ∙ and_false (one.1 == row))
+
+-- the lines about the row in those of one rule more: where the rule is of its table, the lines asked for the row
+module _ (rules : Book) (state : State) (table row n : ℕ) where
+  abbrev about : Line → Bool
+  about = is_about rules table row
+
+  module _ (within : n < length (book_deps rules)) where
+    abbrev deps_before : List Line
+    deps_before = map dep_line (numbered (dep_violations state) (take n (book_deps rules)))
+
+    dep-more : filter about (map dep_line (numbered (dep_violations state) (take (n + 1) (book_deps rules)))) ≡ filter about deps_before ++ filter about (dep_lines_at n (violations_at rules state n))
+    dep-more = ap (filter about) (dep-lines-more rules state n within) ∙ filter-append about deps_before (dep_lines_at n (violations_at rules state n))
+
+    pub own-dep-more : dep_is_of rules table n ≡ true
+        → filter about (map dep_line (numbered (dep_violations state) (take (n + 1) (book_deps rules)))) ≡ filter about deps_before ++ dep_lines_at n (violations_of_row rules state n row)
+    own-dep-more own = dep-more ∙ ap (λ more. filter about deps_before ++ more) (own-dep-lines rules table row n own (violations_at rules state n))
+
+    pub other-dep-more : dep_is_of rules table n ≡ false
+        → filter about (map dep_line (numbered (dep_violations state) (take (n + 1) (book_deps rules)))) ≡ filter about deps_before
+    other-dep-more other = dep-more ∙ ap (λ more. filter about deps_before ++ more) (other-dep-lines rules table row n other (violations_at rules state n)) ∙ append-nil (filter about deps_before)
+
+  module _ (within : n < length (book_cinds rules)) where
+    abbrev cinds_before : List Line
+    cinds_before = map cind_line (numbered (cind_orphans state) (take n (book_cinds rules)))
+
+    cind-more : filter about (map cind_line (numbered (cind_orphans state) (take (n + 1) (book_cinds rules)))) ≡ filter about cinds_before ++ filter about (cind_lines_at n (orphans_at rules state n))
+    cind-more = ap (filter about) (cind-lines-more rules state n within) ∙ filter-append about cinds_before (cind_lines_at n (orphans_at rules state n))
+
+    pub own-cind-more : cind_is_of rules table n ≡ true
+        → filter about (map cind_line (numbered (cind_orphans state) (take (n + 1) (book_cinds rules)))) ≡ filter about cinds_before ++ cind_lines_at n (orphans_of_row rules state n row)
+    own-cind-more own = cind-more ∙ ap (λ more. filter about cinds_before ++ more) (own-cind-lines rules table row n own (orphans_at rules state n))
+
+    pub other-cind-more : cind_is_of rules table n ≡ false
+        → filter about (map cind_line (numbered (cind_orphans state) (take (n + 1) (book_cinds rules)))) ≡ filter about cinds_before
+    other-cind-more other = cind-more ∙ ap (λ more. filter about cinds_before ++ more) (other-cind-lines rules table row n other (orphans_at rules state n)) ∙ append-nil (filter about cinds_before)
+
+-- ---- the whole list
+
+pub explained-parts : (rules : Book) (state : State) (table row : ℕ) → explained rules state table row ≡ filter (is_about rules table row) (dep_lines rules state) ++ filter (is_about rules table row) (cind_lines rules state)
+explained-parts rules state table row = filter-append (is_about rules table row) (dep_lines rules state) (cind_lines rules state)
+
+pub explained-in_range : (rules : Book) (state : State) (table row : ℕ) → All (IsLineOf rules) (explained rules state table row)
+explained-in_range rules state table row = All-filter (is_about rules table row) (IsLineOf rules) (listing rules state) (listing_in_range rules state)
+
+-- ---- a row that is there
+
+any-found : {X : Type 0} (p : X → Bool) (xs : List X) → list_any p xs ≡ is_some (find p xs)
+any-found p [] = refl
+any-found p (x ∷ xs) = by (p x) refl
+  where
+    by : (b : Bool) → p x ≡ b → list_any p (x ∷ xs) ≡ is_some (find p (x ∷ xs))
+    by true is = rw is refl
+    by false is = rw is (any-found p xs)
+
+mapped_some : {X Y : Type 0} (f : X → Y) (o : Option X) → is_some o ≡ is_some (option_map f o)
+mapped_some f None = refl
+mapped_some f (Some x) = refl
+
+-- a row is there exactly where it has texts
+pub row-has_texts : (state : State) (table row : ℕ) → has_row state table row ≡ is_some (row_texts state table row)
+row-has_texts state table row = by (slice_get state table) refl
+  where
+    by : (there : Option TableState) → slice_get state table ≡ there → has_row state table row ≡ is_some (row_texts state table row)
+    by None is = rw is refl
+    by (Some t) is = rw is (any-found (has_id row) t.rows ∙ mapped_some (λ (r : Row). r.1) (find (has_id row) t.rows))
+
+-- a row is there exactly where its table's store has it
+pub row-stored : (texts : List (List ℕ)) (state : State) (table row : ℕ) (store : Stored) → slice_get state table ≡ Some (table_state texts store) → has_row state table row ≡ is_some (finmap.get store.rows row)
+row-stored texts state table row store at = row-has_texts state table row ∙ ap (λ o. is_some (option_and_then (λ (t : TableState). texts_of t row) o)) at ∙ by (finmap.get store.rows row) refl
+  where
+    by : (ids : Option (List ℕ)) → finmap.get store.rows row ≡ ids → is_some (texts_of (table_state texts store) row) ≡ is_some (finmap.get store.rows row)
+    by None is = ap is_some (texts-absent texts store row is) ∙ sym (ap is_some is)
+    by (Some ids) is = ap is_some (texts-there texts store row ids is) ∙ sym (ap is_some is)
+
+module _ (rules : Book) (state : State) (table row n : ℕ) (there : has_row state table row ≡ true) where
+  row-is : (other : ℕ) → (other == table) ≡ true → IsSome (row_texts state other row)
+  row-is other same = let is : other ≡ table = grind (arith, same) in subst (λ t. IsSome (row_texts state t row)) (sym is) (sym (row-has_texts state table row) ∙ there)
+
+  pub row-of_dep : dep_is_of rules table n ≡ true → IsRowOfDep rules state n row
+  row-of_dep own dep at = row-is dep.table (sym (ap (λ o. option_map_or (λ (d : Dep). d.table == table) o false) at) ∙ own)
+
+  pub row-of_cind : cind_is_of rules table n ≡ true → IsRowOfCind rules state n row
+  row-of_cind own cind at = row-is cind.left (sym (ap (λ o. option_map_or (λ (c : Cind). c.left == table) o false) at) ∙ own)
