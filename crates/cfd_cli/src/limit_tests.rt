@@ -78,15 +78,17 @@ fn but_for(place: usize, number: u64) -> [u64; 13] {
     most
 }
 
+// The files of the inputs stand in place of those of the project.
 fn expect_under<R: Abort + AllocGlobal>(
     rt: &R,
+    inputs: &str,
     most: [u64; 13],
     status: Status,
     written: &str,
 ) -> Result<(), AllocError> {
     let alloc = rt.alloc();
     let words = words_of(alloc, "run  p")?;
-    let mut shelf = shelf_of(alloc, &TWO_OF_EACH, "")?;
+    let mut shelf = shelf_of(alloc, &TWO_OF_EACH, inputs)?;
     let mut out = MemorySink::with_room(alloc, 1_000, Vec::new(alloc))?;
     let ended = run_with(alloc, &words, &mut shelf, &mut out, limits_of(most));
     assert_eq!(rt;
@@ -99,12 +101,28 @@ fn expect_under<R: Abort + AllocGlobal>(
 
 #[test]
 fn limits_at_below_and_above(rt: HostRuntime) -> Result<(), Fail> {
-    expect_under(&rt, LEAST, Status::Findings, ACCEPTED)?;
+    expect_under(&rt, "", LEAST, Status::Findings, ACCEPTED)?;
     for (place, (least, refused)) in LEAST.iter().zip(REFUSED.iter()).enumerate() {
         let below = but_for(place, least.saturating_sub(1));
-        expect_under(&rt, below, Status::Refused, refused)?;
+        expect_under(&rt, "", below, Status::Refused, refused)?;
         let above = but_for(place, least.saturating_add(1));
-        expect_under(&rt, above, Status::Findings, ACCEPTED)?;
+        expect_under(&rt, "", above, Status::Findings, ACCEPTED)?;
+    }
+    Ok(())
+}
+
+// An insertion is refused where the rows, or the cells of the indexes, would be more than the limits take.
+#[test]
+fn insertions_at_the_limits(rt: HostRuntime) -> Result<(), Fail> {
+    let inputs = "\n@ s\ninsert area '908', 'MH'";
+    for (rows, cells, written) in [
+        (3, 50, "refused RowsFull\n"),
+        (4, 49, "refused RowsFull\n"),
+        (4, 50, "inserted area 2\n"),
+        (5, 51, "inserted area 2\n"),
+    ] {
+        let most = [2, 5, 2, 7, 301, 560, 2, 2, 2, 5, rows, cells, 3];
+        expect_under(&rt, inputs, most, Status::Findings, written)?;
     }
     Ok(())
 }
