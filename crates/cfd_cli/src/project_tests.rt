@@ -1,21 +1,21 @@
-//! Whole projects, each with what the program writes and the status that it ends with.
-//!
-//! A case is a name, files behind `@`, and behind `=` the status and what is written. Files that a case leaves out are those of one
-//! project: a schema, rules, a table with no row and an empty script.
+//! Whole projects, each with what the program writes and the status that it ends with. Files that a case leaves out are
+//! those of one project: a schema, rules, a table with no row and an empty script.
 use super::*;
-use schema_core::{Limits, List, Text};
-use shelf_io::{MemoryShelf, MemorySink};
-use std::alloc::{AllocError, Global};
-use std::process::Abort;
+use crate::cases::check_cases;
 use std::test::Fail;
 
-const SCHEMA: &str =
-    "table cust 'cust.csv'\nattr CC in '01', '44'\nattr AC\nattr zip\nattr street\nattr city\nrules 'r'\nscript 's'\n";
-
-const RULES: &str =
-    "cfd f1 cust: [CC, zip] -> [street]\nrow '44', _ || _\ncfd f2 cust: [AC] -> [city]\nrow '131' || 'EDI'\n";
-
-const HEADER: &str = "CC,AC,zip,street,city\n";
+const SHARED: [(&str, &str); 4] = [
+    (
+        "p",
+        "table cust 'cust.csv'\nattr CC in '01', '44'\nattr AC\nattr zip\nattr street\nattr city\nrules 'r'\nscript 's'\n",
+    ),
+    (
+        "r",
+        "cfd f1 cust: [CC, zip] -> [street]\nrow '44', _ || _\ncfd f2 cust: [AC] -> [city]\nrow '131' || 'EDI'\n",
+    ),
+    ("cust.csv", "CC,AC,zip,street,city\n"),
+    ("s", ""),
+];
 
 const PROJECTS: &str = "
 no row and no command
@@ -470,9 +470,10 @@ list all
 refused 's' BadLine line 2
 ";
 
-// The same for the words `report p`.
+// The same for reports.
 const REPORTS: &str = "
 a row that breaks a constant by itself
+> report  p
 @ cust.csv
 CC,AC,zip,street,city
 01,131,A1,s,EDI
@@ -483,6 +484,7 @@ list
 {\"count\":1,\"lines\":[{\"attr\":\"city\",\"kind\":\"single\",\"row\":2,\"rule\":\"f2\",\"table\":\"cust\",\"tableau\":1}]}
 %%
 the state that the script leads to
+> report  p
 @ cust.csv
 CC,AC,zip,street,city
 01,131,A1,s,EDI
@@ -493,6 +495,7 @@ set cust 2 city 'EDI'
 {\"count\":0,\"lines\":[]}
 %%
 a pair and an orphan
+> report  p
 @ p
 table emp 'emp.csv'
 attr id
@@ -512,6 +515,7 @@ e1,e9
 {\"count\":3,\"lines\":[{\"attr\":\"boss\",\"kind\":\"pair\",\"partner\":2,\"row\":1,\"rule\":\"d1\",\"table\":\"emp\",\"tableau\":2},{\"attr\":\"boss\",\"kind\":\"pair\",\"partner\":1,\"row\":2,\"rule\":\"d1\",\"table\":\"emp\",\"tableau\":2},{\"kind\":\"orphan\",\"row\":2,\"rule\":\"c1\",\"table\":\"emp\",\"tableau\":1}]}
 %%
 a script that is refused
+> report  p
 @ s
 count
 counts
@@ -519,54 +523,12 @@ counts
 refused 's' BadLine line 2
 ";
 
-// The files of a case, and then those that it leaves out.
-fn shelf_of(alloc: Global, inputs: &str) -> Result<MemoryShelf, AllocError> {
-    let mut shelf = MemoryShelf::new(alloc, Vec::new(alloc));
-    for file in inputs.split("\n@ ").skip(1) {
-        if let Some((name, text)) = file.split_once("\n") {
-            shelf.hold(name, text.as_bytes())?;
-        }
-    }
-    shelf.hold("p", SCHEMA.as_bytes())?;
-    shelf.hold("r", RULES.as_bytes())?;
-    shelf.hold("cust.csv", HEADER.as_bytes())?;
-    shelf.hold("s", b"")?;
-    Ok(shelf)
-}
-
-fn check<R: Abort + AllocGlobal>(
-    rt: &R,
-    form: &str,
-    inputs: &str,
-    wanted: &str,
-) -> Result<(), AllocError> {
-    let alloc = rt.alloc();
-    let mut shelf = shelf_of(alloc, inputs)?;
-    let mut out = MemorySink::with_room(alloc, 10_000, Vec::new(alloc))?;
-    let mut words = List::new(alloc);
-    words.push(Text::new(alloc, form)?)?;
-    words.push(Text::new(alloc, "p")?)?;
-    let ended = run(alloc, &words, &mut shelf, &mut out);
-    let mut text = format!(in alloc; "{}\n", ended.number())?.into_bytes();
-    text.extend_from_slice(out.written())?;
-    assert_eq!(rt; text.as_slice(), wanted.as_bytes(), "{inputs}");
-    Ok(())
-}
-
-fn check_all<R: Abort + AllocGlobal>(rt: &R, form: &str, cases: &str) -> Result<(), Fail> {
-    for case in cases.split("%%\n") {
-        let (inputs, wanted) = case.split_once("\n= ").ok_or("a case without an answer")?;
-        check(rt, form, inputs, wanted)?;
-    }
-    Ok(())
-}
-
 #[test]
 fn projects(rt: HostRuntime) -> Result<(), Fail> {
-    check_all(&rt, "run", PROJECTS)
+    check_cases(&rt, &SHARED, PROJECTS)
 }
 
 #[test]
 fn reports(rt: HostRuntime) -> Result<(), Fail> {
-    check_all(&rt, "report", REPORTS)
+    check_cases(&rt, &SHARED, REPORTS)
 }

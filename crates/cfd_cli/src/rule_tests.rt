@@ -1,18 +1,19 @@
-//! Questions about the rules of a project, and certificates that are checked.
-//!
-//! A case is a name, words behind `>` with two blanks between them, files behind `@`, and behind `=` the status and what is
-//! written. Files that a case leaves out are those of one project, whose rules are two, each of which hands on what the
-//! other says.
+//! Questions about the rules of a project, and certificates that are checked. Files that a case leaves out are those of
+//! one project, whose rules are two, each of which hands on what the other says.
 use super::*;
-use schema_core::{List, Text, Texts};
-use shelf_io::{MemoryShelf, MemorySink};
-use std::alloc::{AllocError, Global};
+use crate::cases::{check_cases, expect};
+use shelf_io::MemoryShelf;
+use std::alloc::AllocError;
 use std::process::Abort;
 use std::test::Fail;
 
-const SCHEMA: &str = "table t 't.csv'\nattr A\nattr B\nattr C\nrules 'r'\n";
-
-const RULES: &str = "cfd p1 t: [A] -> [B]\nrow _ || _\ncfd p2 t: [B] -> [C]\nrow _ || _\n";
+const SHARED: [(&str, &str); 2] = [
+    ("p", "table t 't.csv'\nattr A\nattr B\nattr C\nrules 'r'\n"),
+    (
+        "r",
+        "cfd p1 t: [A] -> [B]\nrow _ || _\ncfd p2 t: [B] -> [C]\nrow _ || _\n",
+    ),
+];
 
 const QUESTIONS: &str = "
 two rules that ask for two constants at each value
@@ -268,54 +269,9 @@ const CONSTANT_RULES: &str =
 const REFUTATION: &str =
     "consistent t\nnever\nsplit f='x'\nsplit f='y'\nleaf two f='x' f='y'\nsplit a='1'\nsplit a='2'\nleaf two a='1' a='2'\nleaf clause 3\nleaf clause 1\nsplit f='y'\nsplit a='1'\nsplit a='2'\nleaf two a='1' a='2'\nleaf clause 4\nleaf clause 2\nleaf none f\n";
 
-fn words_of(alloc: Global, line: &str) -> Result<Texts, AllocError> {
-    let mut words = List::new(alloc);
-    for word in line.split("  ") {
-        words.push(Text::new(alloc, word)?)?;
-    }
-    Ok(words)
-}
-
-// The files of a case, and then those that it leaves out.
-fn shelf_of(alloc: Global, inputs: &str) -> Result<MemoryShelf, AllocError> {
-    let mut shelf = MemoryShelf::new(alloc, Vec::new(alloc));
-    for file in inputs.split("\n@ ").skip(1) {
-        if let Some((name, text)) = file.split_once("\n") {
-            shelf.hold(name, text.as_bytes())?;
-        }
-    }
-    shelf.hold("p", SCHEMA.as_bytes())?;
-    shelf.hold("r", RULES.as_bytes())?;
-    Ok(shelf)
-}
-
-fn expect<R: Abort + AllocGlobal>(
-    rt: &R,
-    line: &str,
-    mut shelf: MemoryShelf,
-    wanted: &str,
-) -> Result<(), AllocError> {
-    let alloc = rt.alloc();
-    let words = words_of(alloc, line)?;
-    let mut out = MemorySink::with_room(alloc, 10_000, Vec::new(alloc))?;
-    let ended = run(alloc, &words, &mut shelf, &mut out);
-    let mut text = format!(in alloc; "{}\n", ended.number())?.into_bytes();
-    text.extend_from_slice(out.written())?;
-    assert_eq!(rt; text.as_slice(), wanted.as_bytes(), "{line}");
-    Ok(())
-}
-
 #[test]
 fn questions(rt: HostRuntime) -> Result<(), Fail> {
-    let alloc = rt.alloc();
-    for case in QUESTIONS.split("%%\n") {
-        let (inputs, wanted) = case.split_once("\n= ").ok_or("a case without an answer")?;
-        let (_, call) = inputs.split_once("\n> ").ok_or("a case without words")?;
-        let line = call.lines().next().ok_or("a case without words")?;
-        let shelf = shelf_of(alloc, inputs)?;
-        expect(&rt, line, shelf, wanted)?;
-    }
-    Ok(())
+    check_cases(&rt, &SHARED, QUESTIONS)
 }
 
 fn check_constants<R: Abort + AllocGlobal>(
@@ -327,7 +283,7 @@ fn check_constants<R: Abort + AllocGlobal>(
     shelf.hold("p", CONSTANTS.as_bytes())?;
     shelf.hold("r", CONSTANT_RULES.as_bytes())?;
     shelf.hold("c", cert.as_bytes())?;
-    expect(rt, "check  p  c", shelf, wanted)
+    expect(rt, "check  p  c", &mut shelf, wanted, wanted)
 }
 
 // A certificate that lacks its last lines is refused behind its last one.

@@ -111,11 +111,13 @@ const R: &str =
 
 const HEAD: &str = "CC,AC,zip,street,city\n";
 
+const LISTED: &str = "pair f1.1 street cust 1 2\npair f1.1 street cust 2 1\nlisted 2\n";
+
 // The call of a device that fails, and how the program ends: four fetches are made, and one put.
 #[test]
 fn devices_that_fail(rt: HostRuntime) -> Result<(), Fail> {
     let alloc = rt.alloc();
-    let table = format!(in alloc; "{HEAD}44,131,EH4,High St,EDI\n")?;
+    let table = format!(in alloc; "{HEAD}44,131,EH4,High St,EDI\n44,131,EH4,Low St,EDI\n")?;
     let files = [
         ("p", P),
         ("r", R),
@@ -128,18 +130,22 @@ fn devices_that_fail(rt: HostRuntime) -> Result<(), Fail> {
         (3, 9, Status::ReadFault),
         (4, 9, Status::ReadFault),
         (5, 1, Status::WriteFault),
-        (5, 2, Status::Clean),
+        (5, 2, Status::Findings),
     ] {
         let words = words_of(alloc, "run p")?;
         let mut shelf = shelf_of(alloc, &files, vec![in alloc; fetch]?)?;
         let mut out = MemorySink::with_room(alloc, ROOM, vec![in alloc; put]?)?;
         let ended = run(alloc, &words, &mut shelf, &mut out);
-        let written: &[u8] = if status == Status::Clean {
-            b"listed 0\n"
+        let written = if status == Status::Findings {
+            LISTED
         } else {
-            b""
+            ""
         };
-        assert_eq!(rt; (ended, out.written()), (status, written), "{fetch} {put}");
+        assert_eq!(rt;
+            (ended, out.written()),
+            (status, written.as_bytes()),
+            "{fetch} {put}"
+        );
     }
     Ok(())
 }
@@ -149,21 +155,20 @@ fn devices_that_fail(rt: HostRuntime) -> Result<(), Fail> {
 fn replies_go_out_whole(rt: HostRuntime) -> Result<(), Fail> {
     let alloc = rt.alloc();
     let table = format!(in alloc; "{HEAD}44,131,EH4,High St,EDI\n44,131,EH4,Low St,EDI\n")?;
-    let files = [
-        ("p", P),
-        ("r", R),
-        ("cust.csv", table.as_str()),
-        ("s", "list\nlist\n"),
-    ];
-    let words = words_of(alloc, "run p")?;
-    let mut shelf = shelf_of(alloc, &files, Vec::new(alloc))?;
-    let mut out = MemorySink::with_room(alloc, ROOM, vec![in alloc; 2]?)?;
-    let ended = run(alloc, &words, &mut shelf, &mut out);
-    let first = "pair f1.1 street cust 1 2\npair f1.1 street cust 2 1\nlisted 2\n";
-    assert_eq!(rt;
-        (ended, out.written()),
-        (Status::WriteFault, first.as_bytes())
-    );
+    for (table, script, first) in [
+        (table.as_str(), "list\nlist\n", LISTED),
+        (HEAD, "count\ncount\n", "count 0\n"),
+    ] {
+        let files = [("p", P), ("r", R), ("cust.csv", table), ("s", script)];
+        let words = words_of(alloc, "run p")?;
+        let mut shelf = shelf_of(alloc, &files, Vec::new(alloc))?;
+        let mut out = MemorySink::with_room(alloc, ROOM, vec![in alloc; 2]?)?;
+        let ended = run(alloc, &words, &mut shelf, &mut out);
+        assert_eq!(rt;
+            (ended, out.written()),
+            (Status::WriteFault, first.as_bytes())
+        );
+    }
     Ok(())
 }
 
