@@ -1,4 +1,4 @@
-//! The list of a small bench, its text, and the lines of one row.
+//! The list of a small bench, and its text.
 
 ghost use Rattle.std.specs.Prelude.{◌≡◌, ◌<◌, ℕ, IfOk};
 ghost use Rattle.bench_core.specs.Loading.{AreTables};
@@ -155,62 +155,5 @@ fn tells_each_violation_in_a_line(rt: HostRuntime) -> Result<(), Fail> {
     assert_eq!(rt; whole.as_slice(), wanted.as_bytes());
     assert_eq!(rt; joined.as_slice(), wanted.as_bytes());
     assert!(rt; counted);
-    Ok(())
-}
-
-fn told(fault: &ExplainFault) -> &'static str {
-    match fault {
-        ExplainFault::UnknownTable => "UnknownTable\n",
-        ExplainFault::UnknownRow => "UnknownRow\n",
-        ExplainFault::Memory => "Memory\n",
-    }
-}
-
-// The texts of what is explained of four rows, and of a row of no table.
-fn explained<L: Ledger>(alloc: Global, blank: Blank) -> Result<Vec<u8>, Fail>
-    requires name { blank.name ≡ L.name }
-    requires parts { blank.parts ≡ L.parts }
-    requires some { 0 < blank.parts }
-{
-    let mut steps = Steps::<L>::open(blank);
-    let mut bench = bench(alloc, &mut steps)?;
-    fill(alloc, &mut bench, &mut steps)?;
-    let mut out = Vec::new(alloc);
-    for (table, row) in [
-        ("cust", 1),
-        ("cust", 2),
-        ("cust", 3),
-        ("cust", 4),
-        ("nope", 1),
-    ] {
-        match explain(alloc, &bench, table, row, &mut steps) {
-            Ok(lines) => {
-                for line in lines.as_slice() {
-                    push_line(bench.rules(), line, &mut out)?;
-                }
-            }
-            Err(fault) => out.extend_from_slice(told(&fault).as_bytes())?,
-        }
-        out.extend_from_slice(b"--\n")?;
-    }
-    Ok(out)
-}
-
-#[test]
-fn explains_a_row_by_its_own_lines(rt: HostRuntime) -> Result<(), Fail> {
-    let wanted = "pair f1.2 street cust 1 2\n\
-        orphan c1.1 cust 1\n\
-        --\n\
-        single f1.1 street cust 2\n\
-        pair f1.2 street cust 2 1\n\
-        orphan c1.1 cust 2\n\
-        --\n\
-        --\n\
-        UnknownRow\n\
-        --\n\
-        UnknownTable\n\
-        --\n";
-    let out = explained::<Brand>(rt.alloc(), Blank::new(1))?;
-    assert_eq!(rt; out.as_slice(), wanted.as_bytes());
     Ok(())
 }
