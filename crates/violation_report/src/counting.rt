@@ -3,6 +3,7 @@
 ghost use Rattle.std.specs.Prelude.{◌≡◌, ◌+◌, ◌^◌, ◌<◌, IfOk, length};
 ghost use Rattle.violation_report.specs.Listing.{cind_lines, dep_lines, listing};
 
+use crate::listing::{cind_count, dep_count};
 use bench_core::Bench;
 use probe_steps::Steps;
 use std::alloc::AllocError;
@@ -30,7 +31,7 @@ fn count_deps<L: Ledger>(bench: &Bench, steps: &mut Steps<L>) -> Result<usize, A
     ensures { IfOk result (λ lines. lines ≡ length (dep_lines bench.now.rules bench.now.history.present)) }
 {
     let mut count: usize = 0;
-    for number in 0..bench.rules().deps().as_slice().len() {
+    for number in 0..dep_count(bench) {
         let more = bench.violation_count(number, steps)?;
         count = sum_of(count, more)?;
     }
@@ -41,7 +42,7 @@ fn count_cinds<L: Ledger>(bench: &Bench, steps: &mut Steps<L>) -> Result<usize, 
     ensures { IfOk result (λ lines. lines ≡ length (cind_lines bench.now.rules bench.now.history.present)) }
 {
     let mut count: usize = 0;
-    for number in 0..bench.rules().cinds().as_slice().len() {
+    for number in 0..cind_count(bench) {
         let more = bench.orphan_count(number, steps)?;
         count = sum_of(count, more)?;
     }

@@ -10,11 +10,10 @@ ghost use Rattle.violation_report.specs.Text.{IsLineOf};
 ghost use Rattle.violation_report.specs.declared.explaining.ExplainFault.TheVariants as explain_fault;
 
 use crate::line::Line;
-use crate::listing::{push_orphans, push_violations};
+use crate::listing::{cind_count, dep_count, push_orphans, push_violations};
 use bench_core::Bench;
 use probe_steps::Steps;
 use row_store::RowId;
-use rule_model::RuleBook;
 use schema_core::List;
 use std::alloc::{AllocError, Global};
 use std::sync::ledger::Ledger;
@@ -99,7 +98,7 @@ fn explain_deps<L: Ledger>(
     requires there { has_row bench.now.history.present table row ≡ true }
     ensures { OnOk result (lines.new ≡ filter (is_about bench.now.rules table row) (dep_lines bench.now.rules bench.now.history.present)) }
 {
-    for number in 0..bench.rules().deps().as_slice().len() {
+    for number in 0..dep_count(bench) {
         explain_dep(bench, table, number, row, lines, steps)?;
     }
     Ok(())
@@ -118,7 +117,7 @@ fn explain_dep<L: Ledger>(
     requires there { has_row bench.now.history.present table row ≡ true }
     ensures { OnOk result (lines.new ≡ lines.old ++ filter (is_about bench.now.rules table row) (dep_lines_at number (violations_at bench.now.rules bench.now.history.present number))) }
 {
-    if !dep_is_of(bench.rules(), table, number) {
+    if !dep_is_of(bench, table, number) {
         return Ok(());
     }
     let found = bench.violations_of_row(number, row, steps)?;
@@ -135,7 +134,7 @@ fn explain_cinds<L: Ledger>(
     requires { has_row bench.now.history.present table row ≡ true }
     ensures { OnOk result (lines.new ≡ lines.old ++ filter (is_about bench.now.rules table row) (cind_lines bench.now.rules bench.now.history.present)) }
 {
-    for number in 0..bench.rules().cinds().as_slice().len() {
+    for number in 0..cind_count(bench) {
         explain_cind(bench, table, number, row, lines, steps)?;
     }
     Ok(())
@@ -154,26 +153,26 @@ fn explain_cind<L: Ledger>(
     requires there { has_row bench.now.history.present table row ≡ true }
     ensures { OnOk result (lines.new ≡ lines.old ++ filter (is_about bench.now.rules table row) (cind_lines_at number (orphans_at bench.now.rules bench.now.history.present number))) }
 {
-    if !cind_is_of(bench.rules(), table, number) {
+    if !cind_is_of(bench, table, number) {
         return Ok(());
     }
     let found = bench.orphans_of_row(number, row, steps)?;
     push_orphans(number, found.as_slice(), lines)
 }
 
-fn dep_is_of(rules: &RuleBook, table: usize, dep: usize) -> bool
-    ensures { result ≡ dep_is_of rules.now table dep }
+fn dep_is_of(bench: &Bench, table: usize, dep: usize) -> bool
+    ensures { result ≡ dep_is_of bench.now.rules table dep }
 {
-    match rules.deps().as_slice().get(dep) {
+    match bench.rules().deps().as_slice().get(dep) {
         Some(dep) => dep.table == table,
         None => false,
     }
 }
 
-fn cind_is_of(rules: &RuleBook, table: usize, cind: usize) -> bool
-    ensures { result ≡ cind_is_of rules.now table cind }
+fn cind_is_of(bench: &Bench, table: usize, cind: usize) -> bool
+    ensures { result ≡ cind_is_of bench.now.rules table cind }
 {
-    match rules.cinds().as_slice().get(cind) {
+    match bench.rules().cinds().as_slice().get(cind) {
         Some(cind) => cind.left == table,
         None => false,
     }

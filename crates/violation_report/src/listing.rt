@@ -32,6 +32,20 @@ pub fn list<L: Ledger>(
     Ok(lines)
 }
 
+/// How many dependencies the bench's rules have.
+pub(crate) fn dep_count(bench: &Bench) -> usize
+    ensures { result ≡ length (book_deps bench.now.rules) }
+{
+    bench.rules().deps().as_slice().len()
+}
+
+/// How many inclusion dependencies the bench's rules have.
+pub(crate) fn cind_count(bench: &Bench) -> usize
+    ensures { result ≡ length (book_cinds bench.now.rules) }
+{
+    bench.rules().cinds().as_slice().len()
+}
+
 fn list_deps<L: Ledger>(
     bench: &Bench,
     lines: &mut List<Line>,
@@ -40,7 +54,7 @@ fn list_deps<L: Ledger>(
     requires { lines.old ≡ [] }
     ensures { OnOk result (lines.new ≡ dep_lines bench.now.rules bench.now.history.present) }
 {
-    for number in 0..bench.rules().deps().as_slice().len() {
+    for number in 0..dep_count(bench) {
         list_dep(bench, number, lines, steps)?;
     }
     Ok(())
@@ -96,7 +110,7 @@ fn list_cinds<L: Ledger>(
 ) -> Result<(), AllocError>
     ensures { OnOk result (lines.new ≡ lines.old ++ cind_lines bench.now.rules bench.now.history.present) }
 {
-    for number in 0..bench.rules().cinds().as_slice().len() {
+    for number in 0..cind_count(bench) {
         list_cind(bench, number, lines, steps)?;
     }
     Ok(())

@@ -7,17 +7,10 @@ use Rattle.violation_report.specs.Listing.{cind_line}
 use Rattle.violation_report.proofs.Loops.{cind-lines-more}
 use Rattle.violation_report.proofs.counting.count_cinds.Goals as goal
 
-pub orphan_count-requires : goal.orphan_count-requires
-orphan_count-requires g c =
-    let bench = c.args.bench.now in
-    let rules : c.as_slice-number-end.result.now ≡ book_cinds bench.rules = c.as_slice-number-end.ensures ∙ c.cinds.ensures.cinds ∙ ap book_cinds c.rules.ensures.value in
-    rw rules at c.loop-number-test.true
-
 pub loop-number-preserved : goal.loop-number-preserved
 loop-number-preserved g c =
     let bench = c.args.bench.now in
-    let rules : c.as_slice-number-end.result.now ≡ book_cinds bench.rules = c.as_slice-number-end.ensures ∙ c.cinds.ensures.cinds ∙ ap book_cinds c.rules.ensures.value in
-    let within : c.loop-number.number < length (book_cinds bench.rules) = rw rules at c.loop-number-test.true in
+    let within : c.loop-number.number < length (book_cinds bench.rules) = rw c.cind_count-number-end.ensures at c.loop-number-test.true in
     let front = map cind_line (numbered (cind_orphans bench.history.present) (take c.loop-number.number (book_cinds bench.rules))) in
     let more = orphans_at bench.rules bench.history.present c.loop-number.number in
     c.in_ok-count.ensures
@@ -27,6 +20,5 @@ loop-number-preserved g c =
 pub returns : goal.returns
 returns g c =
     let bench = c.args.bench.now in
-    let rules : c.as_slice-number-end.result.now ≡ book_cinds bench.rules = c.as_slice-number-end.ensures ∙ c.cinds.ensures.cinds ∙ ap book_cinds c.rules.ensures.value in
-    let past : length (book_cinds bench.rules) ≤ c.loop-number.number = rw (← rules) c.loop-number-test.false in
+    let past : length (book_cinds bench.rules) ≤ c.loop-number.number = rw (← c.cind_count-number-end.ensures) c.loop-number-test.false in
     rw (take_all c.loop-number.number (book_cinds bench.rules) past) at c.loop-number.invariant

@@ -1,7 +1,6 @@
 use Rattle.std.proofs.Common.{◌≡◌, ◌++◌, ◌∙◌, true, false, sym, ap, subst}
 use Rattle.std.specs.Prelude.{OnOk}
 use Rattle.std.proofs.lemmas.List.{append-nil}
-use Rattle.rule_model.specs.Books.{Book}
 use Rattle.bench_core.specs.Answers.{orphans_at}
 use Rattle.violation_report.specs.Explained.{cind_is_of}
 use Rattle.violation_report.specs.Listing.{cind_lines_at}
@@ -11,20 +10,20 @@ use Rattle.violation_report.proofs.explaining.explain_cind.Goals as goal
 pub orphans_of_row-requires-clause-there : goal.orphans_of_row-requires-clause-there
 orphans_of_row-requires-clause-there g c =
     let rules = c.args.bench.now.rules in
-    let own : cind_is_of rules c.args.table c.args.number ≡ true = sym (c.cind_is_of.ensures ∙ ap (λ (b : Book). cind_is_of b c.args.table c.args.number) c.rules.ensures.value) ∙ c.if-not-cind_is_of.false in
+    let own : cind_is_of rules c.args.table c.args.number ≡ true = sym c.cind_is_of.ensures ∙ c.if-not-cind_is_of.false in
     row-of_cind rules c.args.bench.now.history.present c.args.table c.args.row c.args.number c.requires.there own
 
 pub returns-then-not-cind_is_of : goal.returns-then-not-cind_is_of
 returns-then-not-cind_is_of g c =
     let rules = c.args.bench.now.rules in
-    let other : cind_is_of rules c.args.table c.args.number ≡ false = sym (c.cind_is_of.ensures ∙ ap (λ (b : Book). cind_is_of b c.args.table c.args.number) c.rules.ensures.value) ∙ c.if-not-cind_is_of.true in
+    let other : cind_is_of rules c.args.table c.args.number ≡ false = sym c.cind_is_of.ensures ∙ c.if-not-cind_is_of.true in
     let none = other-cind-lines rules c.args.table c.args.row c.args.number other (orphans_at rules c.args.bench.now.history.present c.args.number) in
     sym (append-nil c.args.lines.now) ∙ ap (λ more. c.args.lines.now ++ more) (sym none)
 
 pub returns : goal.returns
 returns g c =
     let rules = c.args.bench.now.rules in
-    let own : cind_is_of rules c.args.table c.args.number ≡ true = sym (c.cind_is_of.ensures ∙ ap (λ (b : Book). cind_is_of b c.args.table c.args.number) c.rules.ensures.value) ∙ c.if-not-cind_is_of.false in
+    let own : cind_is_of rules c.args.table c.args.number ≡ true = sym c.cind_is_of.ensures ∙ c.if-not-cind_is_of.false in
     let lines = own-cind-lines rules c.args.table c.args.row c.args.number own (orphans_at rules c.args.bench.now.history.present c.args.number) in
     let is = ap (cind_lines_at c.args.number) (c.as_slice.ensures ∙ c.in_ok-found.ensures) ∙ sym lines in
     subst (λ more. OnOk c.push_orphans.result (c.push_orphans.new.lines ≡ c.args.lines.now ++ more)) is c.push_orphans.ensures

@@ -8,19 +8,12 @@ use Rattle.violation_report.specs.Listing.{cind_line, cind_lines_at}
 use Rattle.violation_report.proofs.RowLines.{cind-more}
 use Rattle.violation_report.proofs.explaining.explain_cinds.Goals as goal
 
-pub explain_cind-requires-clause-cind : goal.explain_cind-requires-clause-cind
-explain_cind-requires-clause-cind g c =
-    let bench = c.args.bench.now in
-    let rules : c.as_slice-number-end.result.now ≡ book_cinds bench.rules = c.as_slice-number-end.ensures ∙ c.cinds.ensures.cinds ∙ ap book_cinds c.rules.ensures.value in
-    rw rules at c.loop-number-test.true
-
 pub loop-number-preserved : goal.loop-number-preserved
 loop-number-preserved g c =
     let bench = c.args.bench.now in
     let n = c.loop-number.number in
     let about = is_about bench.rules c.args.table c.args.row in
-    let rules : c.as_slice-number-end.result.now ≡ book_cinds bench.rules = c.as_slice-number-end.ensures ∙ c.cinds.ensures.cinds ∙ ap book_cinds c.rules.ensures.value in
-    let within : n < length (book_cinds bench.rules) = rw rules at c.loop-number-test.true in
+    let within : n < length (book_cinds bench.rules) = rw c.cind_count-number-end.ensures at c.loop-number-test.true in
     let more = filter about (cind_lines_at n (orphans_at bench.rules bench.history.present n)) in
     c.in_ok-explain_cind.ensures
     ∙ ap (λ lines. lines ++ more) c.loop-number.invariant
@@ -30,6 +23,5 @@ loop-number-preserved g c =
 pub returns : goal.returns
 returns g c =
     let bench = c.args.bench.now in
-    let rules : c.as_slice-number-end.result.now ≡ book_cinds bench.rules = c.as_slice-number-end.ensures ∙ c.cinds.ensures.cinds ∙ ap book_cinds c.rules.ensures.value in
-    let past : length (book_cinds bench.rules) ≤ c.loop-number.number = rw (← rules) c.loop-number-test.false in
+    let past : length (book_cinds bench.rules) ≤ c.loop-number.number = rw (← c.cind_count-number-end.ensures) c.loop-number-test.false in
     rw (take_all c.loop-number.number (book_cinds bench.rules) past) at c.loop-number.invariant

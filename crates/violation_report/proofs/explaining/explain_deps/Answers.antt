@@ -7,19 +7,12 @@ use Rattle.violation_report.specs.Listing.{dep_lines_at}
 use Rattle.violation_report.proofs.RowLines.{dep-more}
 use Rattle.violation_report.proofs.explaining.explain_deps.Goals as goal
 
-pub explain_dep-requires-clause-dep : goal.explain_dep-requires-clause-dep
-explain_dep-requires-clause-dep g c =
-    let bench = c.args.bench.now in
-    let rules : c.as_slice-number-end.result.now ≡ book_deps bench.rules = c.as_slice-number-end.ensures ∙ c.deps.ensures.deps ∙ ap book_deps c.rules.ensures.value in
-    rw rules at c.loop-number-test.true
-
 pub loop-number-preserved : goal.loop-number-preserved
 loop-number-preserved g c =
     let bench = c.args.bench.now in
     let n = c.loop-number.number in
     let about = is_about bench.rules c.args.table c.args.row in
-    let rules : c.as_slice-number-end.result.now ≡ book_deps bench.rules = c.as_slice-number-end.ensures ∙ c.deps.ensures.deps ∙ ap book_deps c.rules.ensures.value in
-    let within : n < length (book_deps bench.rules) = rw rules at c.loop-number-test.true in
+    let within : n < length (book_deps bench.rules) = rw c.dep_count-number-end.ensures at c.loop-number-test.true in
     let more = filter about (dep_lines_at n (violations_at bench.rules bench.history.present n)) in
     c.in_ok-explain_dep.ensures
     ∙ ap (λ lines. lines ++ more) c.loop-number.invariant
@@ -28,6 +21,5 @@ loop-number-preserved g c =
 pub returns : goal.returns
 returns g c =
     let bench = c.args.bench.now in
-    let rules : c.as_slice-number-end.result.now ≡ book_deps bench.rules = c.as_slice-number-end.ensures ∙ c.deps.ensures.deps ∙ ap book_deps c.rules.ensures.value in
-    let past : length (book_deps bench.rules) ≤ c.loop-number.number = rw (← rules) c.loop-number-test.false in
+    let past : length (book_deps bench.rules) ≤ c.loop-number.number = rw (← c.dep_count-number-end.ensures) c.loop-number-test.false in
     rw (take_all c.loop-number.number (book_deps bench.rules) past) at c.loop-number.invariant

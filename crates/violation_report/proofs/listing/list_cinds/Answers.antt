@@ -7,18 +7,10 @@ use Rattle.violation_report.specs.Listing.{cind_line}
 use Rattle.violation_report.proofs.Loops.{cind-lines-more}
 use Rattle.violation_report.proofs.listing.list_cinds.Goals as goal
 
-pub list_cind-requires : goal.list_cind-requires
-list_cind-requires g c =
-    let bench = c.args.bench.now in
-    let rules : c.as_slice-number-end.result.now ≡ book_cinds bench.rules = c.as_slice-number-end.ensures ∙ c.cinds.ensures.cinds ∙ ap book_cinds c.rules.ensures.value in
-    let within : c.loop-number.number < length (book_cinds bench.rules) = rw rules at c.loop-number-test.true in
-    within
-
 pub loop-number-preserved : goal.loop-number-preserved
 loop-number-preserved g c =
     let bench = c.args.bench.now in
-    let rules : c.as_slice-number-end.result.now ≡ book_cinds bench.rules = c.as_slice-number-end.ensures ∙ c.cinds.ensures.cinds ∙ ap book_cinds c.rules.ensures.value in
-    let within : c.loop-number.number < length (book_cinds bench.rules) = rw rules at c.loop-number-test.true in
+    let within : c.loop-number.number < length (book_cinds bench.rules) = rw c.cind_count-number-end.ensures at c.loop-number-test.true in
     c.in_ok-list_cind.ensures
     ∙ ap (λ lines. lines ++ map (λ found. cind_line (c.loop-number.number, found)) (orphans_at bench.rules bench.history.present c.loop-number.number)) c.loop-number.invariant
     ∙ append_assoc c.args.lines.now (map cind_line (numbered (cind_orphans bench.history.present) (take c.loop-number.number (book_cinds bench.rules)))) (map (λ found. cind_line (c.loop-number.number, found)) (orphans_at bench.rules bench.history.present c.loop-number.number))
@@ -27,6 +19,5 @@ loop-number-preserved g c =
 pub returns : goal.returns
 returns g c =
     let bench = c.args.bench.now in
-    let rules : c.as_slice-number-end.result.now ≡ book_cinds bench.rules = c.as_slice-number-end.ensures ∙ c.cinds.ensures.cinds ∙ ap book_cinds c.rules.ensures.value in
-    let past : length (book_cinds bench.rules) ≤ c.loop-number.number = rw (← rules) c.loop-number-test.false in
+    let past : length (book_cinds bench.rules) ≤ c.loop-number.number = rw (← c.cind_count-number-end.ensures) c.loop-number-test.false in
     rw (take_all c.loop-number.number (book_cinds bench.rules) past) at c.loop-number.invariant

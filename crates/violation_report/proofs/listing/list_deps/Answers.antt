@@ -7,18 +7,10 @@ use Rattle.violation_report.specs.Listing.{dep_line}
 use Rattle.violation_report.proofs.Loops.{dep-lines-more}
 use Rattle.violation_report.proofs.listing.list_deps.Goals as goal
 
-pub list_dep-requires : goal.list_dep-requires
-list_dep-requires g c =
-    let bench = c.args.bench.now in
-    let rules : c.as_slice-number-end.result.now ≡ book_deps bench.rules = c.as_slice-number-end.ensures ∙ c.deps.ensures.deps ∙ ap book_deps c.rules.ensures.value in
-    let within : c.loop-number.number < length (book_deps bench.rules) = rw rules at c.loop-number-test.true in
-    within
-
 pub loop-number-preserved : goal.loop-number-preserved
 loop-number-preserved g c =
     let bench = c.args.bench.now in
-    let rules : c.as_slice-number-end.result.now ≡ book_deps bench.rules = c.as_slice-number-end.ensures ∙ c.deps.ensures.deps ∙ ap book_deps c.rules.ensures.value in
-    let within : c.loop-number.number < length (book_deps bench.rules) = rw rules at c.loop-number-test.true in
+    let within : c.loop-number.number < length (book_deps bench.rules) = rw c.dep_count-number-end.ensures at c.loop-number-test.true in
     c.in_ok-list_dep.ensures
     ∙ ap (λ lines. lines ++ map (λ found. dep_line (c.loop-number.number, found)) (violations_at bench.rules bench.history.present c.loop-number.number)) c.loop-number.invariant
     ∙ sym (dep-lines-more bench.rules bench.history.present c.loop-number.number within)
@@ -26,6 +18,5 @@ loop-number-preserved g c =
 pub returns : goal.returns
 returns g c =
     let bench = c.args.bench.now in
-    let rules : c.as_slice-number-end.result.now ≡ book_deps bench.rules = c.as_slice-number-end.ensures ∙ c.deps.ensures.deps ∙ ap book_deps c.rules.ensures.value in
-    let past : length (book_deps bench.rules) ≤ c.loop-number.number = rw (← rules) c.loop-number-test.false in
+    let past : length (book_deps bench.rules) ≤ c.loop-number.number = rw (← c.dep_count-number-end.ensures) c.loop-number-test.false in
     rw (take_all c.loop-number.number (book_deps bench.rules) past) at c.loop-number.invariant
