@@ -5,5 +5,6 @@ pub mod OverTexts
 pub mod FixedRows
 pub mod VerdictFacts
 pub mod Asking
+pub mod TestMasters
 pub mod Judging
 pub mod Judged

@@ -7,4 +7,3 @@ pub mod StartFacts
 pub mod Running
 pub mod Searching
 pub mod Renaming
-pub mod TestMasters

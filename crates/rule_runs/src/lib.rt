@@ -14,6 +14,3 @@ pub use marks::Marks;
 pub use moves::{Move, Start};
 pub use next::{applies, first_move};
 pub use runs::{Run, RunCheck, close_without, extend, run_ok};
-
-#[cfg(test)]
-mod tests;

@@ -2,7 +2,7 @@
 
 ghost use Rattle.std.specs.Prelude.{◌≡◌, ◌<◌};
 
-use crate::tests::setup::{Basis, ask, basis_of, text_of};
+use crate::tests::setup::{Basis, ask, basis_of, cut, text_of};
 use crate::{FixFault, Verdict};
 use probe_steps::Steps;
 use rule_runs::{Marks, Move};
@@ -66,7 +66,11 @@ lead;8880000,NYC;phn => certain 8880000,GLA 11 4:2\n\
 ";
 
 /// The tuple's texts between commas.
-fn push_tuple(out: &mut String, basis: &Basis, tuple: &[usize]) -> Result<(), AllocError> {
+pub(crate) fn push_tuple(
+    out: &mut String,
+    basis: &Basis,
+    tuple: &[usize],
+) -> Result<(), AllocError> {
     let mut mark = " ";
     for id in tuple {
         out.push_str(mark)?;
@@ -76,7 +80,7 @@ fn push_tuple(out: &mut String, basis: &Basis, tuple: &[usize]) -> Result<(), Al
     Ok(())
 }
 
-fn push_marks(out: &mut String, marks: Marks, width: usize) -> Result<(), AllocError> {
+pub(crate) fn push_marks(out: &mut String, marks: Marks, width: usize) -> Result<(), AllocError> {
     out.push_str(" ")?;
     for attr in 0..width.min(64) {
         out.push_str(if marks.has(attr) { "1" } else { "0" })?;
@@ -84,7 +88,7 @@ fn push_marks(out: &mut String, marks: Marks, width: usize) -> Result<(), AllocE
     Ok(())
 }
 
-fn push_moves(out: &mut String, moves: &[Move]) -> Result<(), AllocError> {
+pub(crate) fn push_moves(out: &mut String, moves: &[Move]) -> Result<(), AllocError> {
     let alloc = *out.allocator();
     for a_move in moves {
         let text = format!(in alloc; " {}:{}", a_move.rule.saturating_add(1), a_move.master)?;
@@ -145,9 +149,9 @@ fn compare_all<L: Ledger>(rt: &impl Abort, alloc: Global, blank: Blank) -> Resul
     let mut steps = Steps::<L>::open(blank);
     let basis = basis_of(rt, alloc, SCHEMA, RULES, ROWS, CASES, &mut steps)?;
     for case in CASES.lines() {
-        let (question, want) = case.split_once(" => ").unwrap_or(("", ""));
-        let (table, rest) = question.split_once(';').unwrap_or(("", ""));
-        let (tuple, vouched) = rest.split_once(';').unwrap_or(("", ""));
+        let (question, want) = cut(case, " => ");
+        let (table, rest) = cut(question, ";");
+        let (tuple, vouched) = cut(rest, ";");
         let verdict = ask(rt, alloc, &basis, table, tuple, vouched)?;
         assert_eq!(rt;
             answer(alloc, &basis, &verdict)?.as_str(),

@@ -5,7 +5,7 @@ ghost use Rattle.row_store.specs.Tuple.{ids_of};
 ghost use Rattle.rule_model.specs.declared.edit_rule.EditRule.{EditRule};
 ghost use Rattle.rule_model.specs.Books.{book_edits};
 ghost use Rattle.master_index.specs.declared.column_list.ColumnList.{ColumnList};
-ghost use Rattle.rule_runs.specs.Starts.{AreMasters};
+ghost use Rattle.rule_runs.specs.Starts.{AreMasters, IsStart};
 
 use crate::{FixFault, Verdict, fix};
 use master_index::{ColumnList, MasterIndex};
@@ -13,6 +13,7 @@ use probe_steps::Steps;
 use row_store::{RowId, Tuple};
 use rule_model::RuleBook;
 use rule_parser::parse_rules;
+use rule_runs::{Marks, Start};
 use schema_core::{Limits, List, Text, Texts, parse_schema};
 use std::alloc::{AllocError, Global};
 use std::process::Abort;
@@ -53,7 +54,7 @@ fn pool_of(alloc: Global, text: &str) -> Result<Pool, AllocError> {
 }
 
 /// The ids of the texts between commas that the pool has.
-fn tuple_of(alloc: Global, pool: &Pool, line: &str) -> Result<Tuple, AllocError>
+pub(crate) fn tuple_of(alloc: Global, pool: &Pool, line: &str) -> Result<Tuple, AllocError>
     ensures { IfOk result (λ tuple. All (λ id. id < length pool.now) (ids_of tuple)) }
 {
     let mut ids: Vec<ValueId> = Vec::new(alloc);
@@ -110,7 +111,7 @@ fn masters_of<L: Ledger>(
 {
     let mut masters = MasterIndex::new(alloc, column_lists(alloc, rules)?)?;
     for line in rows.lines() {
-        let (name, cells) = line.split_once(';').unwrap_or(("", ""));
+        let (name, cells) = cut(line, ";");
         let tuple = tuple_of(alloc, pool, cells)?;
         put(&mut masters, rules, pool, name, &tuple, steps)?;
     }
@@ -147,6 +148,11 @@ pub(crate) fn basis_of<L: Ledger>(
     })
 }
 
+/// A text before and after a mark.
+pub(crate) fn cut<'a>(text: &'a str, mark: &str) -> (&'a str, &'a str) {
+    text.split_once(mark).unwrap_or((text, ""))
+}
+
 fn texts(alloc: Global, names: &str) -> Result<Texts, AllocError> {
     let mut texts = List::new(alloc);
     for name in names.split(',') {
@@ -155,6 +161,38 @@ fn texts(alloc: Global, names: &str) -> Result<Texts, AllocError> {
         }
     }
     Ok(texts)
+}
+
+/// A tuple of the named table, with the attributes that are vouched for.
+pub(crate) fn start_of<'a>(
+    rt: &impl Abort,
+    basis: &'a Basis,
+    table: &str,
+    tuple: &'a Tuple,
+    vouched: Marks,
+) -> Start<'a>
+    requires masters { AreMasters basis.now.rules basis.now.pool basis.now.masters }
+    requires ids { All (λ id. id < length basis.now.pool) (ids_of tuple.now) }
+    ensures { IsStart result }
+{
+    let Some(number) = basis.rules.schema().table_named(table) else {
+        panic!(rt; "no table {table}");
+    };
+    let width = basis.rules.schema().tables.as_slice()[number]
+        .attrs
+        .as_slice()
+        .len();
+    if tuple.len() != width {
+        panic!(rt; "a tuple of another width");
+    }
+    Start {
+        rules: &basis.rules,
+        pool: &basis.pool,
+        masters: &basis.masters,
+        table: number,
+        tuple,
+        vouched,
+    }
 }
 
 /// The verdict on a tuple of the table, with the names of attributes that are vouched for.
@@ -168,23 +206,16 @@ pub(crate) fn ask(
 ) -> Result<Result<Verdict, FixFault>, AllocError>
     requires { AreMasters basis.now.rules basis.now.pool basis.now.masters }
 {
-    let Some(number) = basis.rules.schema().table_named(table) else {
-        panic!(rt; "no table {table}");
-    };
-    let width = basis.rules.schema().tables.as_slice()[number]
-        .attrs
-        .as_slice()
-        .len();
     let tuple = tuple_of(alloc, &basis.pool, tuple)?;
-    assert_eq!(rt; tuple.len(), width);
+    let start = start_of(rt, basis, table, &tuple, Marks::none());
     let names = texts(alloc, vouched)?;
     Ok(fix(
         alloc,
-        &basis.rules,
-        &basis.pool,
-        &basis.masters,
-        number,
-        &tuple,
+        start.rules,
+        start.pool,
+        start.masters,
+        start.table,
+        start.tuple,
         &names,
     ))
 }

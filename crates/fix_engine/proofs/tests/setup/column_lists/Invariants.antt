@@ -1,6 +1,6 @@
 use Rattle.std.proofs.Common.{◌≡◌, map, take}
 use Rattle.rule_model.specs.Books.{book_edits}
-use Rattle.rule_runs.proofs.TestMasters.{list_of}
+use Rattle.fix_engine.proofs.TestMasters.{list_of}
 use Rattle.fix_engine.proofs.tests.setup.column_lists.Given as goal
 
 abbrev pub invariant-loop-rule : goal.invariant-loop-rule

@@ -1,5 +1,5 @@
 use Rattle.std.proofs.Common.{◌∙◌}
-use Rattle.rule_runs.proofs.TestMasters.{no_masters}
+use Rattle.fix_engine.proofs.TestMasters.{no_masters}
 use Rattle.fix_engine.proofs.tests.setup.masters_of.Goals as goal
 
 pub loop-line-init : goal.loop-line-init

@@ -1,6 +1,6 @@
 use Rattle.std.proofs.Common.{◌≡◌}
 use Rattle.rule_runs.specs.Starts.{AreMasters}
-use Rattle.rule_runs.proofs.TestMasters.{lists_of}
+use Rattle.fix_engine.proofs.TestMasters.{lists_of}
 use Rattle.fix_engine.proofs.tests.setup.masters_of.Given as goal
 
 abbrev pub invariant-loop-line : goal.invariant-loop-line

@@ -6,7 +6,7 @@ use Rattle.schema_core.specs.declared.schema.Schema.{Schema}
 use Rattle.master_index.specs.declared.column_list.ColumnList.{ColumnList}
 use Rattle.master_index.specs.Masters.{IsWideFor}
 use Rattle.fix_engine.proofs.NamedAttrs.{attrs_read}
-use Rattle.rule_runs.proofs.TestMasters.{masters-add, wide_for}
+use Rattle.fix_engine.proofs.TestMasters.{masters-add, wide_for}
 use Rattle.fix_engine.proofs.tests.setup.put.Goals as goal
 
 pub add-requires-clause-wide : goal.add-requires-clause-wide

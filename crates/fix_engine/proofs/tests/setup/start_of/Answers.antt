@@ -3,8 +3,8 @@ use Rattle.row_store.specs.Tuple.{ids_of}
 use Rattle.schema_core.specs.declared.schema.Attr.{Attr}
 use Rattle.schema_core.specs.declared.schema.Table.{Table}
 use Rattle.schema_core.specs.declared.schema.Schema.{Schema}
-use Rattle.rule_runs.proofs.TestMasters.{tuple_in}
-use Rattle.rule_runs.proofs.tests.setup.start_of.Goals as goal
+use Rattle.fix_engine.proofs.TestMasters.{tuple_in}
+use Rattle.fix_engine.proofs.tests.setup.start_of.Goals as goal
 
 pub returns : goal.returns
 returns g c =

@@ -3,11 +3,13 @@
 ghost use Rattle.std.specs.Prelude.{◌≡◌, ◌<◌};
 ghost use Rattle.rule_runs.specs.Starts.{AreMasters, IsStart};
 
-mod setup;
-
-use super::*;
-use crate::tests::setup::{Basis, basis_of, start_of, tuple_of};
+use crate::tests::example::{push_marks, push_moves, push_tuple};
+use crate::tests::setup::{Basis, basis_of, cut, start_of, tuple_of};
 use probe_steps::Steps;
+use rule_runs::{
+    Marks, Move, Run, RunCheck, Start, applies, close_without, extend, first_move, rows_that_apply,
+    run_ok,
+};
 use std::alloc::{AllocError, Global};
 use std::marker::Brand;
 use std::process::Abort;
@@ -36,9 +38,9 @@ edit e3 u using m: A=a gives B=b\n\
 ";
 
 const ROWS: &str = "\
-1,2,3\n\
-1,4,5\n\
-7,4,6\n\
+m;1,2,3\n\
+m;1,4,5\n\
+m;7,4,6\n\
 ";
 
 /// A table, a tuple and which of its attributes are validated, then all moves that apply. A move is the number of a rule
@@ -85,11 +87,6 @@ t;9,4,0;110;; => 9,4,0 110\n\
 u;1,0;10;; => 3:1 1,2 11\n\
 ";
 
-/// A text before and after a mark.
-fn cut<'a>(text: &'a str, mark: &str) -> (&'a str, &'a str) {
-    text.split_once(mark).unwrap_or((text, ""))
-}
-
 /// The attributes whose letter is a one.
 fn marks_of(bits: &str) -> Marks {
     let mut marks = Marks::none();
@@ -130,28 +127,11 @@ fn attr_of(letter: &str) -> Option<usize> {
     }
 }
 
-fn push_moves(out: &mut String, moves: &[Move]) -> Result<(), AllocError> {
-    let alloc = *out.allocator();
-    for a_move in moves {
-        let text = format!(in alloc; " {}:{}", a_move.rule.saturating_add(1), a_move.master)?;
-        out.push_str(text.as_str())?;
-    }
-    Ok(())
-}
-
 /// The tuple's texts between commas, and a one for each attribute that is validated.
 fn push_place(out: &mut String, basis: &Basis, run: &Run) -> Result<(), AllocError> {
-    let mut mark = " ";
-    for id in run.tuple.as_slice() {
-        out.push_str(mark)?;
-        out.push_str(basis.text(*id))?;
-        mark = ",";
-    }
-    out.push_str(" ")?;
-    for attr in 0..run.tuple.as_slice().len().min(64) {
-        out.push_str(if run.covered.has(attr) { "1" } else { "0" })?;
-    }
-    Ok(())
+    let tuple = run.tuple.as_slice();
+    push_tuple(out, basis, tuple)?;
+    push_marks(out, run.covered, tuple.len())
 }
 
 /// Each move of the first rules and rows that applies at the start.

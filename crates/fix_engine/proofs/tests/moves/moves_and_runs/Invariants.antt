@@ -1,4 +1,4 @@
-use Rattle.rule_runs.proofs.tests.moves_and_runs.Given as goal
+use Rattle.fix_engine.proofs.tests.moves.moves_and_runs.Given as goal
 
 -- the counter's ledger is the blank that is handed in
 abbrev pub ghosts-compare_all : goal.ghosts-compare_all
