@@ -3,3 +3,4 @@ pub mod Fives
 pub mod Known
 pub mod Lists
 pub mod SameSchema
+pub mod Summaries

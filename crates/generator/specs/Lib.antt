@@ -1,3 +1,4 @@
 pub mod Draws
 pub mod Edits
 pub mod Project
+pub mod Summary
