@@ -1,11 +1,11 @@
 -- The words of a call, and which of them have a form.
-use Rattle.std.specs.Prelude.{ℕ, ◌≤◌, Bool, false, not, ◌&&◌, List, [], ◌∷◌, Option, None, Some, IsSome, option_and_then, codes, if◌then◌else◌, nat_le, ◌==◌}
+use Rattle.std.specs.Prelude.{ℕ, ◌≤◌, Bool, false, not, ◌&&◌, List, [], ◌∷◌, Option, None, Some, IsSome, option_and_then, option_map, codes, if◌then◌else◌, nat_le, ◌==◌}
 use Rattle.std.specs.Char.{is_ascii_digit}
 use Rattle.std.specs.List.{list_all}
 use Rattle.std.specs.Str.{bytes_eq}
 use Rattle.std.specs.Str.Parse.{digits_value}
 use Rattle.call_words.specs.declared.form.Form.{Form}
-use Rattle.call_words.specs.declared.form.Form.TheVariants.{Check, Consistent, Implies, Report, Run}
+use Rattle.call_words.specs.declared.form.Form.TheVariants.{Check, Consistent, Generate, Implies, Report, Run}
 
 -- a word that isn't empty and doesn't begin with `-`
 abbrev pub is_plain : List ℕ → Bool
@@ -30,6 +30,10 @@ number_within least most word =
 abbrev pub budget_in : List ℕ → Option ℕ
 budget_in word = number_within 1 1000000 word
 
+-- off which number a project is drawn
+abbrev pub seed_in : List ℕ → Option ℕ
+seed_in word = number_within 0 999999999 word
+
 -- ---- forms
 
 -- a question about the rules of a project, by its name
@@ -39,11 +43,16 @@ question_form name project asked budget =
     else if bytes_eq name (codes "implies") then Some (Implies project asked budget)
     else None
 
+-- a project that is drawn off a number
+abbrev pub generate_form : List ℕ → Option Form
+generate_form word = option_map Generate (seed_in word)
+
 -- the form of that name with these words behind it
 abbrev pub named_form : List ℕ → List (List ℕ) → Option Form
-named_form name (project ∷ []) =
-    if bytes_eq name (codes "run") then Some (Run project)
-    else if bytes_eq name (codes "report") then Some (Report project)
+named_form name (word ∷ []) =
+    if bytes_eq name (codes "run") then Some (Run word)
+    else if bytes_eq name (codes "report") then Some (Report word)
+    else if bytes_eq name (codes "generate") then generate_form word
     else None
 named_form name (project ∷ cert ∷ []) = if bytes_eq name (codes "check") then Some (Check project cert) else None
 named_form name (project ∷ asked ∷ budget ∷ []) = option_and_then (question_form name project asked) (budget_in budget)
@@ -69,3 +78,4 @@ IsFit (Report project) = Unit {0}
 IsFit (Consistent project table budget) = IsBudget budget
 IsFit (Implies project dep budget) = IsBudget budget
 IsFit (Check project cert) = Unit {0}
+IsFit (Generate seed) = Unit {0}

@@ -1,6 +1,6 @@
 //! What the words of a call ask for.
 ghost use Rattle.std.specs.Prelude.{◌≡◌, ◌∷◌, [], None, IfOk, IfSome, IsOk, IsTrue};
-ghost use Rattle.call_words.specs.Words.{HasForm, IsFit, form_of, is_plain, named_form};
+ghost use Rattle.call_words.specs.Words.{HasForm, IsFit, form_of, generate_form, is_plain, named_form};
 
 use crate::numbers::number_within;
 use crate::words::{read_one, read_three, read_two};
@@ -35,10 +35,17 @@ pub enum Form {
         project: Text,
         cert: Text,
     },
+    /// `generate N`, the number being that off which a project is drawn
+    Generate {
+        seed: u64,
+    },
 }
 
 /// The most leaves that a search may be given.
 const MOST_LEAVES: u64 = 1_000_000;
+
+/// The last number off which a project is drawn.
+const LAST_SEED: u64 = 999_999_999;
 
 /// The form of the words, where they have one. Words without a form take no memory.
 pub fn form_of(alloc: Global, words: &[Text]) -> Result<Option<Form>, AllocError>
@@ -47,7 +54,7 @@ pub fn form_of(alloc: Global, words: &[Text]) -> Result<Option<Form>, AllocError
     ensures fit { IfOk result (λ form. IfSome form IsFit) }
 {
     match words {
-        [name, project] if is_plain(project) => project_form(alloc, name, project),
+        [name, word] if is_plain(word) => one_word_form(alloc, name, word),
         [name, project, cert] if is_plain(project) && is_plain(cert) => {
             check_form(alloc, name, project, cert)
         }
@@ -59,21 +66,38 @@ pub fn form_of(alloc: Global, words: &[Text]) -> Result<Option<Form>, AllocError
     }
 }
 
-fn project_form(alloc: Global, name: &Text, project: &Text) -> Result<Option<Form>, AllocError>
-    requires { IsTrue (is_plain project.now) }
-    ensures form { IfOk result (λ form. form ≡ named_form name.now (project.now ∷ [])) }
-    ensures formless { named_form name.now (project.now ∷ []) ≡ None → IsOk result }
+/// The form of that name with one word behind it.
+fn one_word_form(alloc: Global, name: &Text, word: &Text) -> Result<Option<Form>, AllocError>
+    requires { IsTrue (is_plain word.now) }
+    ensures form { IfOk result (λ form. form ≡ named_form name.now (word.now ∷ [])) }
+    ensures formless { named_form name.now (word.now ∷ []) ≡ None → IsOk result }
     ensures fit { IfOk result (λ form. IfSome form IsFit) }
 {
     if name.is("run") {
-        let project = read_one(alloc, name, project)?;
+        let project = read_one(alloc, name, word)?;
         Ok(Some(Form::Run { project }))
     } else if name.is("report") {
-        let project = read_one(alloc, name, project)?;
+        let project = read_one(alloc, name, word)?;
         Ok(Some(Form::Report { project }))
+    } else if name.is("generate") {
+        generate_form(alloc, name, word)
     } else {
         Ok(None)
     }
+}
+
+fn generate_form(alloc: Global, name: &Text, word: &Text) -> Result<Option<Form>, AllocError>
+    requires { IsTrue (is_plain word.now) }
+    ensures form { IfOk result (λ form. form ≡ generate_form word.now) }
+    ensures formless { generate_form word.now ≡ None → IsOk result }
+    ensures fit { IfOk result (λ form. IfSome form IsFit) }
+{
+    let Some(seed) = number_within(0, LAST_SEED, word) else {
+        return Ok(None);
+    };
+    // The number is known; the words are read all the same, as those of every form are.
+    read_one(alloc, name, word)?;
+    Ok(Some(Form::Generate { seed }))
 }
 
 fn check_form(

@@ -30,6 +30,12 @@ implies p d - = nothing
 check p c = check p c
 check p -c = nothing
 check p = nothing
+generate = nothing
+generate 0 = generate 0
+generate 999999999 = generate 999999999
+generate 1000000000 = nothing
+generate -1 = nothing
+generate x = nothing
 ";
 
 fn words_of(alloc: Global, line: &str) -> Result<Texts, AllocError> {
@@ -67,6 +73,7 @@ fn shown(alloc: Global, form: &Form) -> Result<String, AllocError> {
         Form::Check { project, cert } => {
             format!(in alloc; "check {} {}", project.as_str(), cert.as_str())
         }
+        Form::Generate { seed } => format!(in alloc; "generate {seed}"),
     }
 }
 
