@@ -1,4 +1,5 @@
 pub mod Forms
+pub mod GenerateForm
 pub mod Project
 pub mod ReportForm
 pub mod RunForm

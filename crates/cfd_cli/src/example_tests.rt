@@ -525,8 +525,22 @@ and against the mended ones
 fails 7
 ";
 
+// What the page on formats shows of a generated project, whose counts another program came to.
+const GENERATED: &str = "
+a project that is drawn off 7
+> generate  7
+= 1
+at 1000 rows 20100 lines 28506
+at 2000 rows 20200 lines 28674
+at 3000 rows 20300 lines 28825
+at 4000 rows 20400 lines 28982
+at 5000 rows 20500 lines 29162
+done
+";
+
 #[test]
 fn examples(rt: HostRuntime) -> Result<(), Fail> {
     check_cases(&rt, &[], EXAMPLES)?;
-    check_cases(&rt, &RULES, QUESTIONS)
+    check_cases(&rt, &RULES, QUESTIONS)?;
+    check_cases(&rt, &[], GENERATED)
 }

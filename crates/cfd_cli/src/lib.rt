@@ -3,6 +3,7 @@
 #![tactic(auto)]
 
 mod dropped;
+mod generate_form;
 mod program;
 mod project;
 mod report_form;
