@@ -1,17 +1,19 @@
-use Rattle.std.proofs.Common.{ℕ, zero, suc, List, sym, subst, ◌∙◌}
+use Rattle.std.proofs.Common.{ℕ, Bool, true, false, List, sym, subst, ◌∙◌}
+use Rattle.std.specs.Prelude.{◌==◌, if◌then◌else◌}
 use Rattle.generator.specs.Summary.{IsMade}
+use Rattle.cli_output.specs.declared.status.Status.TheVariants.{Clean, Findings}
 use Rattle.cli_output.specs.Output.{IsWhole, Only}
 use Rattle.cli_output.proofs.Outputs.{Ends-wider}
-use Rattle.cfd_cli.specs.GenerateForm.{generate_outputs, status_of}
+use Rattle.cfd_cli.specs.GenerateForm.{generate_outputs}
 use Rattle.cfd_cli.proofs.generate_form.generate_project.Goals as goal
 
 -- the status of a count isn't one of a call that was cut short
-status_is_whole : (lines : ℕ) → IsWhole (status_of lines)
-status_is_whole zero = tt
-status_is_whole (suc lines) = tt
+status_is_whole : (none : Bool) → IsWhole (if none then Clean else Findings)
+status_is_whole true = tt
+status_is_whole false = tt
 
 pub end_with-requires : goal.end_with-requires
-end_with-requires g c = subst IsWhole (sym c.status_of.ensures) (status_is_whole c.in-Ok.summary.lines)
+end_with-requires g c = subst IsWhole (sym c.status_of.ensures) (status_is_whole (c.in-Ok.summary.lines == 0))
 
 pub returns-in-Ok : goal.returns-in-Ok
 returns-in-Ok g c =
