@@ -1,3 +1,4 @@
+pub mod Counted
 pub mod Fitting
 pub mod Fives
 pub mod Known

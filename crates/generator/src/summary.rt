@@ -111,11 +111,8 @@ fn make<L: Ledger>(
 fn row_count(bench: &Bench) -> usize
     ensures { result ≡ length (rows_at bench.now.history.present 0) }
 {
-    if bench.rules().schema().tables.as_slice().is_empty() {
-        0
-    } else {
-        bench.store(0).len()
-    }
+    let tables = bench.rules().schema().tables.as_slice().len();
+    if 0 < tables { bench.store(0).len() } else { 0 }
 }
 
 fn push_at(out: &mut Vec<u8>, made: u64, rows: usize, lines: usize) -> Result<(), AllocError>
