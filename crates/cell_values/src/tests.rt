@@ -106,7 +106,10 @@ fn what_clauses_say_of_cells(rt: HostRuntime) -> Result<(), Fail> {
     assert_eq!(rt; misses.as_slice(), [literal(6, false)].as_slice());
     let (meets, misses) = said_of(&rt, alloc, &Pattern::In(texts_of(alloc, "1 3")?))?;
     assert_eq!(rt; meets.as_slice(), [literal(5, true)].as_slice());
-    assert_eq!(rt; misses.as_slice(), [literal(6, true), literal(7, true)].as_slice());
+    assert_eq!(rt;
+        misses.as_slice(),
+        [literal(6, true), literal(7, true)].as_slice()
+    );
     Ok(())
 }
 
@@ -144,14 +147,20 @@ fn what_rules_tell_apart(rt: HostRuntime) -> Result<(), Fail> {
     };
     let deps = [dep(alloc)?];
     let rules = TableRules::new(alloc, 0, &deps, &[])?;
-    assert_eq!(rt; (rules.len(), rules.occurs(1), rules.occurs(2)), (1, false, true));
+    assert_eq!(rt;
+        (rules.len(), rules.occurs(1), rules.occurs(2)),
+        (1, false, true)
+    );
     let cells = occurring(alloc, table.attrs.as_slice(), &rules)?;
     let cells = cells.as_slice();
     assert_eq!(rt; (values_before(cells, 2), attrs_before(cells, 2)), (2, 1));
     let Some(cell) = cell_of(cells, 2) else {
         panic!(rt; "no values");
     };
-    assert_eq!(rt; (cell.values.len(), cell.constants, cell.demanded), (3, 2, true));
+    assert_eq!(rt;
+        (cell.values.len(), cell.constants, cell.demanded),
+        (3, 2, true)
+    );
     assert!(rt; cell.values.find("~~").is_some());
     Ok(())
 }
