@@ -68,6 +68,10 @@ alone_from_remove s n p taken there none q = by (is_pair q p) refl (has_pair s.k
         let nothing : has_pair n.keys q ≡ false = ap (λ ks. has_pair ks q) none in
         absurd (cc)
 
+-- one is left
+pub one_left : (s n : BTreeSet Pair) (p only : Pair) → IsTaken s.keys n.keys p → n.keys ≡ only ∷ [] → IsTaken s.keys (only ∷ []) p
+one_left s n p only taken is = subst (λ (ks : List Pair). IsTaken s.keys ks p) is taken
+
 pub no_pairs : (pairs : List Pair) → length pairs ≡ 0 → pairs ≡ []
 no_pairs [] none = refl
 no_pairs (p ∷ ps) none = absurd (omega arith)

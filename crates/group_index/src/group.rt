@@ -1,6 +1,6 @@
-//! One group: the A ids of its rows. At first it is one row, which takes no memory beyond the group's key; with a second
-//! one it becomes an ordered set, in which a row is put, found and taken in logarithmic time.
-ghost use Rattle.std.specs.Prelude.{◌≡◌, ◌≤◌, ◌==◌, ◌&&◌, false, ◌||◌, IfOk, OnOk, OnErr, IsTrue};
+//! One group: the A ids of its rows. A lone row takes no memory beyond the group's key; two and more are an ordered set, in
+//! which a row is put, found and taken in logarithmic time.
+ghost use Rattle.std.specs.Prelude.{◌≡◌, ◌≤◌, ◌==◌, ◌&&◌, [], ◌∷◌, false, ◌||◌, IfOk, IfSome, OnOk, OnErr, IsTrue};
 ghost use Rattle.std.specs.Bool.{OnFalse};
 ghost use Rattle.group_index.specs.Pairs.{Pair, pairs_of, has_pair, is_pair, IsPut, IsTaken, IsAlone, HaveTheSame, IsNextHead};
 
@@ -48,7 +48,14 @@ impl Group {
     {
         match self {
             Group::One(own, only) => (*own, *only) == (a, row),
-            Group::Many(pairs) => pairs.remove(&(a, row)) && pairs.is_empty(),
+            Group::Many(pairs) => {
+                let taken = pairs.remove(&(a, row));
+                let Some((own, only)) = lone(pairs) else {
+                    return taken && pairs.is_empty();
+                };
+                *self = Group::One(own, only);
+                false
+            }
         }
     }
 
@@ -84,6 +91,16 @@ fn within_ids(a: ValueId, row: RowId) -> (ValueId, RowId)
     ensures within { row ≤ u64.MAX }
 {
     (a, row)
+}
+
+// The pair that stands there by itself.
+fn lone(pairs: &BTreeSet<(ValueId, RowId)>) -> Option<(ValueId, RowId)>
+    ensures { IfSome result (λ pair. pairs.now.keys ≡ pair ∷ []) }
+{
+    if pairs.len() != 1 {
+        return None;
+    }
+    pairs.first().copied()
 }
 
 fn two(

@@ -1,6 +1,7 @@
 pub mod RisingIds
 pub mod KeyedRowFacts
 pub mod KeyFacts
+pub mod EntryFacts
 pub mod MasterRowFacts
 pub mod MasterSteps
 pub mod MatchFacts

@@ -1,6 +1,6 @@
 -- Rows under keys: a key is the list of the value ids that a tuple has in some columns, and under it stand the ids of
 -- the rows with such a tuple.
-use Rattle.std.specs.Prelude.{◌≡◌, ℕ, ◌<◌, ◌==◌, ◌&&◌, ◌||◌, not, Bool, List, [], map, length, slice_index, slice_get, All, IsSomeAnd}
+use Rattle.std.specs.Prelude.{◌≡◌, ℕ, ◌<◌, ◌==◌, ◌&&◌, ◌||◌, not, Bool, List, [], ◌∷◌, map, length, slice_index, slice_get, All, IsSomeAnd}
 use Rattle.std.specs.List.Sorted.{IsStrictlyIncreasing}
 use Rattle.std.specs.List.{list_any}
 use Rattle.std.specs.Map.{lookup}
@@ -8,10 +8,17 @@ use Rattle.std.specs.Option.{option_map_or}
 use Rattle.std.specs.Str.{bytes_eq}
 use Rattle.std.specs.declared.vec.Vec.{Vec}
 use Rattle.std.specs.declared.alloc.Global.{Global}
+use Rattle.master_index.specs.declared.rising.RowIds.{RowIds}
+use Rattle.master_index.specs.declared.rising.RowIds.TheVariants.{One, Several}
+
+-- the row ids
+abbrev pub listed : RowIds → List ℕ
+listed (One only) = only ∷ []
+listed (Several rows) = rows.value.items
 
 -- what the code keeps: keys with their row ids
 abbrev pub KeyedRows : Type 0
-KeyedRows = List (Vec ℕ Global × Vec ℕ Global)
+KeyedRows = List (Vec ℕ Global × RowIds)
 
 -- the ids of a tuple in the columns, which it has
 abbrev pub ids_in : List ℕ → List ℕ → List ℕ
@@ -19,7 +26,7 @@ ids_in tuple columns = map (slice_index tuple) columns
 
 -- the rows under a key, which are none where the key isn't there
 abbrev pub rows_under : List ℕ → KeyedRows → List ℕ
-rows_under ids entries = option_map_or (λ rows. rows.items) (lookup (λ key. bytes_eq ids key.items) entries) []
+rows_under ids entries = option_map_or listed (lookup (λ key. bytes_eq ids key.items) entries) []
 
 -- whether the row is among them
 abbrev pub is_among : ℕ → List ℕ → Bool
@@ -27,11 +34,11 @@ is_among row rows = list_any (λ held. row == held) rows
 
 -- the row ids under each key rise
 abbrev pub AreRising : KeyedRows → Type 0
-AreRising entries = All (λ entry. IsStrictlyIncreasing entry.1.items) entries
+AreRising entries = All (λ entry. IsStrictlyIncreasing (listed entry.1)) entries
 
 -- no key stands without rows
 abbrev pub HaveRows : KeyedRows → Type 0
-HaveRows entries = All (λ entry. 0 < length entry.1.items) entries
+HaveRows entries = All (λ entry. 0 < length (listed entry.1)) entries
 
 -- whether the row stands under the key
 abbrev pub is_under : List ℕ → ℕ → KeyedRows → Bool

@@ -5,7 +5,7 @@ ghost use Rattle.indexmap.specs.IndexMap.{get, insert_index, ContainsKey, IsUniq
 ghost use Rattle.master_index.specs.ColumnRows.{rows_under, AreOrderly, HasKeyAt, HoldAlike, IsPutUnder, IsTakenFrom};
 
 use crate::entry::find_or_push;
-use crate::rising::{put_id, take_id};
+use crate::rising::RowIds;
 use indexmap::IndexMap;
 use probe_steps::Steps;
 use row_store::RowId;
@@ -13,7 +13,7 @@ use std::alloc::AllocError;
 use std::sync::ledger::Ledger;
 use value_pool::ValueId;
 
-pub(crate) type ColumnRows = IndexMap<Vec<ValueId>, Vec<RowId>>;
+pub(crate) type ColumnRows = IndexMap<Vec<ValueId>, RowIds>;
 
 /// The rows under a key.
 pub(crate) fn rows_with<'a>(map: &'a ColumnRows, ids: &[ValueId]) -> &'a [RowId]
@@ -38,9 +38,9 @@ pub(crate) fn put_row<L: Ledger>(
     ensures err { OnErr result (HoldAlike map.old.entries map.new.entries) }
     ensures probes { steps.new ≤ steps.old + 1 }
 {
-    let alone = Vec::from_array(*map.allocator(), [row])?;
-    let place = find_or_push(map, key, alone, steps)?;
-    put_id(&mut map[place], row)
+    let alloc = *map.allocator();
+    let place = find_or_push(map, key, RowIds::One(row), steps)?;
+    map[place].put(alloc, row)
 }
 
 /// Takes the row away from a key, in one probe and without memory.
@@ -72,6 +72,6 @@ fn take_at(map: &mut ColumnRows, place: usize, row: RowId)
     if map[place].as_slice() == [row].as_slice() {
         map.swap_remove_index(place);
     } else {
-        take_id(&mut map[place], row);
+        map[place].take(row);
     }
 }

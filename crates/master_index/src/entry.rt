@@ -4,9 +4,9 @@ ghost use Rattle.std.specs.Prelude.{◌≡◌, ◌+◌, ◌++◌, [], ◌∷◌,
 ghost use Rattle.indexmap.specs.IndexMap.{get, insert_index, ContainsKey, IsUnique};
 
 use crate::column_rows::ColumnRows;
+use crate::rising::RowIds;
 use indexmap::map::Entry;
 use probe_steps::Steps;
-use row_store::RowId;
 use std::alloc::AllocError;
 use std::sync::ledger::Ledger;
 use value_pool::ValueId;
@@ -14,7 +14,7 @@ use value_pool::ValueId;
 pub(crate) fn find_or_push<L: Ledger>(
     map: &mut ColumnRows,
     key: Vec<ValueId>,
-    fresh: Vec<RowId>,
+    fresh: RowIds,
     steps: &mut Steps<L>,
 ) -> Result<usize, AllocError>
     ensures index { IfOk result (λ place. place ≡ insert_index ⟦<Vec<ValueId> as PartialEq>⟧.eq map.old key) }

@@ -1,33 +1,34 @@
-use Rattle.std.proofs.Common.{arith}
+use Rattle.std.proofs.Common.{refl, arith}
+use Rattle.master_index.specs.declared.rising.RowIds.TheVariants.{One}
 use Rattle.master_index.proofs.KeyedRowFacts.{entered, lent_rises, lent_has_rows, kept_written, put_answer, err_answer}
 use Rattle.master_index.proofs.column_rows.put_row.Goals as goal
 
 pub index_mut-requires : goal.index_mut-requires
 index_mut-requires g c =
     let e = c.in_ok-place.ensures in
-    (entered c.args.map.now.entries c.find_or_push.new.map.entries c.args.key c.in_ok-alone.alone c.args.row c.in_ok-place.place c.requires c.in_ok-alone.ensures.items e.index e.found e.pushed).within
+    (entered c.args.map.now.entries c.find_or_push.new.map.entries c.args.key (One c.args.row) c.args.row c.in_ok-place.place c.requires refl e.index e.found e.pushed).within
 
-pub put_id-requires : goal.put_id-requires
-put_id-requires g c =
+pub put-requires : goal.put-requires
+put-requires g c =
     let e = c.in_ok-place.ensures in
-    let it = entered c.args.map.now.entries c.find_or_push.new.map.entries c.args.key c.in_ok-alone.alone c.args.row c.in_ok-place.place c.requires c.in_ok-alone.ensures.items e.index e.found e.pushed in
+    let it = entered c.args.map.now.entries c.find_or_push.new.map.entries c.args.key (One c.args.row) c.args.row c.in_ok-place.place c.requires refl e.index e.found e.pushed in
     lent_rises c.find_or_push.new.map.entries c.in_ok-place.place c.index_mut.result.now it.kept c.index_mut.ensures.value
 
 pub returns-clause-kept : goal.returns-clause-kept
 returns-clause-kept g c =
     let e = c.in_ok-place.ensures in
-    let it = entered c.args.map.now.entries c.find_or_push.new.map.entries c.args.key c.in_ok-alone.alone c.args.row c.in_ok-place.place c.requires c.in_ok-alone.ensures.items e.index e.found e.pushed in
+    let it = entered c.args.map.now.entries c.find_or_push.new.map.entries c.args.key (One c.args.row) c.args.row c.in_ok-place.place c.requires refl e.index e.found e.pushed in
     let some = lent_has_rows c.find_or_push.new.map.entries c.in_ok-place.place c.index_mut.result.now it.kept c.index_mut.ensures.value in
-    kept_written c.find_or_push.new.map.entries c.in_ok-place.place c.put_id.new.rows it.kept c.put_id.ensures.rising (omega (arith, some, c.put_id.ensures.no_fewer))
+    kept_written c.find_or_push.new.map.entries c.in_ok-place.place c.put.new.self it.kept c.put.ensures.rising (omega (arith, some, c.put.ensures.no_fewer))
 
 pub returns-clause-ok : goal.returns-clause-ok
 returns-clause-ok g c =
     let e = c.in_ok-place.ensures in
-    let it = entered c.args.map.now.entries c.find_or_push.new.map.entries c.args.key c.in_ok-alone.alone c.args.row c.in_ok-place.place c.requires c.in_ok-alone.ensures.items e.index e.found e.pushed in
-    put_answer c.args.map.now.entries c.find_or_push.new.map e.unique c.args.key.items c.args.row c.in_ok-place.place c.index_mut.result.now c.put_id.new.rows it c.index_mut.ensures.value c.put_id.result c.put_id.ensures.ok
+    let it = entered c.args.map.now.entries c.find_or_push.new.map.entries c.args.key (One c.args.row) c.args.row c.in_ok-place.place c.requires refl e.index e.found e.pushed in
+    put_answer c.args.map.now.entries c.find_or_push.new.map e.unique c.args.key.items c.args.row c.in_ok-place.place c.index_mut.result.now c.put.new.self it c.index_mut.ensures.value c.put.result c.put.ensures.ok
 
 pub returns-clause-err : goal.returns-clause-err
 returns-clause-err g c =
     let e = c.in_ok-place.ensures in
-    let it = entered c.args.map.now.entries c.find_or_push.new.map.entries c.args.key c.in_ok-alone.alone c.args.row c.in_ok-place.place c.requires c.in_ok-alone.ensures.items e.index e.found e.pushed in
-    err_answer c.args.map.now.entries c.find_or_push.new.map e.unique c.args.key.items c.args.row c.in_ok-place.place c.index_mut.result.now c.put_id.new.rows it c.index_mut.ensures.value c.put_id.result c.put_id.ensures.err c.put_id.ensures.new
+    let it = entered c.args.map.now.entries c.find_or_push.new.map.entries c.args.key (One c.args.row) c.args.row c.in_ok-place.place c.requires refl e.index e.found e.pushed in
+    err_answer c.args.map.now.entries c.find_or_push.new.map e.unique c.args.key.items c.args.row c.in_ok-place.place c.index_mut.result.now c.put.new.self it c.index_mut.ensures.value c.put.result c.put.ensures.err c.put.ensures.new
