@@ -1,6 +1,6 @@
 use Rattle.std.proofs.Common.{None, refl}
 use Rattle.cind_index.proofs.MapFacts.{rows_updated, last_less}
-use Rattle.cind_index.proofs.side_rows.take_from_map.Goals as goal
+use Rattle.cind_index.proofs.pattern_rows.take_from_map.Goals as goal
 
 pub returns-then-take_in_map : goal.returns-then-take_in_map
 returns-then-take_in_map c =

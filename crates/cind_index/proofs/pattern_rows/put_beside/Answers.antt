@@ -8,7 +8,7 @@ use Rattle.std.specs.Str.{bytes_eq}
 use Rattle.std.specs.declared.vec.Vec.{Vec}
 use Rattle.std.specs.declared.alloc.Global.{Global}
 use Rattle.cind_index.proofs.MapFacts.{rows_updated, beside_held, among}
-use Rattle.cind_index.proofs.side_rows.put_beside.Goals as goal
+use Rattle.cind_index.proofs.pattern_rows.put_beside.Goals as goal
 
 when_ok : {A E P : Type 0} (r : Result A E) → is_err r ≡ false → OnOk r P → P
 when_ok (Ok v) ok p = p

@@ -1,10 +1,9 @@
 use Rattle.std.proofs.Common.{rules, None, Some, sym, ap, subst, refl, ◌∙◌, ◌≡◌}
 use Rattle.std.specs.Prelude.{ℕ, Bool, true, false, ◌==◌, ◌||◌}
-use Rattle.cind_index.specs.declared.side_rows.SideRows.TheVariants.{Several}
-use Rattle.cind_index.specs.RowsHeld.{HasRowMore, rows_for}
+use Rattle.cind_index.specs.RowsHeld.{IsMore, in_map, rows_for}
 use Rattle.cind_index.specs.declared.row_set.RowSet.TheVariants.{One}
 use Rattle.cind_index.proofs.MapFacts.{on_ok, on_err, rows_updated, one_more, as_many}
-use Rattle.cind_index.proofs.side_rows.put_in_map.Goals as goal
+use Rattle.cind_index.proofs.pattern_rows.put_in_map.Goals as goal
 
 or_false_of : (other row : ℕ) → (other == row) ≡ (other == row || false)
 or_false_of other row = of (other == row)
@@ -37,7 +36,7 @@ returns-clause-ok c =
     let key = c.in_ok-from_slice.field-0.items in
     let is : key ≡ c.args.pattern.now = c.in_ok-from_slice.ensures.items in
     let absent : rows_for old key ≡ None = ap (rows_for old) is ∙ ap (λ m. rows_for m c.args.pattern.now) same ∙ sym c.in_default.ensures.value in
-    subst (λ m. HasRowMore c.args.pattern.now c.args.row (Several m) (Several new)) same
-    (subst (λ xs. HasRowMore xs c.args.row (Several old) (Several new)) is
+    subst (λ m. IsMore c.args.pattern.now c.args.row (in_map m) (in_map new)) same
+    (subst (λ xs. IsMore xs c.args.row (in_map old) (in_map new)) is
     (one_more old new key c.args.row None (Some (One c.args.row)) absent (rows_updated old new key (Some (One c.args.row)) c.in_ok-insert.ensures.updates.1 c.in_ok-insert.ensures.updates.3)
     (λ other. or_false_of other c.args.row)))

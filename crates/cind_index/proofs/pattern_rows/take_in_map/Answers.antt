@@ -1,7 +1,7 @@
 use Rattle.std.proofs.Common.{rules, Some, sym, ap, ◌∙◌, not, ◌&&◌}
 use Rattle.std.specs.Prelude.{◌==◌}
 use Rattle.cind_index.proofs.MapFacts.{rows_updated, one_less, beside_same, among}
-use Rattle.cind_index.proofs.side_rows.take_in_map.Goals as goal
+use Rattle.cind_index.proofs.pattern_rows.take_in_map.Goals as goal
 
 pub returns-in-Some-clause-left : goal.returns-in-Some-clause-left
 returns-in-Some-clause-left c left =
