@@ -1,6 +1,5 @@
 pub mod Around
 pub mod Choices
 pub mod Grown
-pub mod Index
 pub mod Models
 pub mod Weights
