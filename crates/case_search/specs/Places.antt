@@ -16,14 +16,15 @@ list_at lists v = slice_index_or lists v []
 abbrev pub opposite_of : Literal → Literal
 opposite_of literal = record { var = literal.var; positive = not literal.positive }
 
--- So many variables, and a list of places for each literal.
+-- Lists for the positive and for the negative literals, by their variables.
 pub record ByLiteral : Type 0 where
-  pub vars : ℕ
-  pub list_of : Literal → List ℕ
+  pub positive : List (List ℕ)
+  pub negative : List (List ℕ)
 
--- A positive literal has a list of the first lists, a negative one of the second.
-abbrev pub by_sign : List (List ℕ) → List (List ℕ) → ByLiteral
-by_sign positive negative = record {
-  vars = length positive;
-  list_of = λ literal. list_at (cond literal.positive positive negative) literal.var;
-}
+-- The number of variables.
+abbrev pub vars_of : ByLiteral → ℕ
+vars_of places = length places.positive
+
+-- The list of a literal.
+abbrev pub list_of : ByLiteral → Literal → List ℕ
+list_of places literal = list_at (cond literal.positive places.positive places.negative) literal.var

@@ -10,6 +10,7 @@ ghost use Rattle.case_tree.specs.declared.clauses.Literal.{Literal};
 ghost use Rattle.case_tree.specs.declared.tree.Reason.{Reason};
 ghost use Rattle.case_tree.specs.CaseTree.{Holds, IsFalseOn, var_count};
 ghost use Rattle.case_search.specs.Guards.{IsGuarded, IsGuardedBut};
+ghost use Rattle.case_search.specs.Places.{list_of, vars_of};
 ghost use Rattle.case_search.specs.Step.{NoReason};
 
 use crate::places::Places;
@@ -18,8 +19,8 @@ use std::alloc::{AllocError, Global};
 
 /// At the root the first literal of each clause guards it.
 pub fn guard_all(alloc: Global, clauses: &Clauses) -> Result<Places, AllocError>
-    ensures vars { IfOk result (λ guards. guards.vars ≡ var_count clauses.now.cells) }
-    ensures guarded { IfOk result (λ guards. IsGuarded clauses.now guards.list_of []) }
+    ensures vars { IfOk result (λ guards. vars_of guards ≡ var_count clauses.now.cells) }
+    ensures guarded { IfOk result (λ guards. IsGuarded clauses.now (list_of guards) []) }
 {
     let mut guards = Places::new(alloc, clauses.vars())?;
     for at in 0..clauses.clause_count() {
@@ -29,12 +30,12 @@ pub fn guard_all(alloc: Global, clauses: &Clauses) -> Result<Places, AllocError>
 }
 
 fn guard_by_first(guards: &mut Places, clause: &[Literal], at: usize) -> Result<(), AllocError>
-    requires { All (λ literal. literal.var < guards.old.vars) clause.now }
-    ensures vars { guards.new.vars ≡ guards.old.vars }
+    requires { All (λ literal. literal.var < vars_of guards.old) clause.now }
+    ensures vars { vars_of guards.new ≡ vars_of guards.old }
     ensures kept { OnOk result ((literal : Literal) (k : ℕ)
-        → Contains (guards.old.list_of literal) k → Contains (guards.new.list_of literal) k) }
+        → Contains (list_of guards.old literal) k → Contains (list_of guards.new literal) k) }
     ensures guarded { OnOk result (0 < length clause.now
-        → (literal : Literal) × Contains clause.now literal × Contains (guards.new.list_of literal) at) }
+        → (literal : Literal) × Contains clause.now literal × Contains (list_of guards.new literal) at) }
 {
     if clause.is_empty() {
         return Ok(());
@@ -49,12 +50,12 @@ pub fn pass_on(
     trail: &Trail,
     gone: Literal,
 ) -> Result<(), AllocError>
-    requires vars { guards.old.vars ≡ var_count clauses.now.cells }
+    requires vars { vars_of guards.old ≡ var_count clauses.now.cells }
     requires quiet { NoReason clauses.now trail.now.path }
     requires is_false { IsFalseOn trail.now.path gone }
-    requires guarded { IsGuardedBut clauses.now guards.old.list_of trail.now.path gone }
-    ensures vars { guards.new.vars ≡ guards.old.vars }
-    ensures guarded { OnOk result (IsGuarded clauses.now guards.new.list_of trail.now.path) }
+    requires guarded { IsGuardedBut clauses.now (list_of guards.old) trail.now.path gone }
+    ensures vars { vars_of guards.new ≡ vars_of guards.old }
+    ensures guarded { OnOk result (IsGuarded clauses.now (list_of guards.new) trail.now.path) }
 {
     while pass_one(guards, clauses, trail, gone)? {}
     Ok(())
@@ -67,15 +68,15 @@ fn pass_one(
     trail: &Trail,
     gone: Literal,
 ) -> Result<bool, AllocError>
-    requires vars { guards.old.vars ≡ var_count clauses.now.cells }
+    requires vars { vars_of guards.old ≡ var_count clauses.now.cells }
     requires quiet { NoReason clauses.now trail.now.path }
     requires is_false { IsFalseOn trail.now.path gone }
-    requires guarded { IsGuardedBut clauses.now guards.old.list_of trail.now.path gone }
-    ensures vars { guards.new.vars ≡ guards.old.vars }
-    ensures guarded { OnOk result (IsGuardedBut clauses.now guards.new.list_of trail.now.path gone) }
+    requires guarded { IsGuardedBut clauses.now (list_of guards.old) trail.now.path gone }
+    ensures vars { vars_of guards.new ≡ vars_of guards.old }
+    ensures guarded { OnOk result (IsGuardedBut clauses.now (list_of guards.new) trail.now.path gone) }
     ensures fewer { IfOk result (λ more. more ≡ true
-        → length (guards.new.list_of gone) < length (guards.old.list_of gone)) }
-    ensures none { IfOk result (λ more. more ≡ false → guards.new.list_of gone ≡ []) }
+        → length (list_of guards.new gone) < length (list_of guards.old gone)) }
+    ensures none { IfOk result (λ more. more ≡ false → list_of guards.new gone ≡ []) }
 {
     let Some(at) = guards.take(gone) else {
         return Ok(false);

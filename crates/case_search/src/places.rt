@@ -1,7 +1,7 @@
 //! A list of clauses for each literal.
 ghost use Rattle.std.specs.Prelude.{◌≡◌, ◌≢◌, ◌<◌, ◌++◌, [], ◌∷◌, IfOk, OnOk, MatchOption};
 ghost use Rattle.case_tree.specs.declared.clauses.Literal.{Literal};
-ghost use Rattle.case_search.specs.Places.{opposite_of};
+ghost use Rattle.case_search.specs.Places.{list_of, opposite_of, vars_of};
 
 use crate::lists::Lists;
 use case_tree::Literal;
@@ -15,21 +15,21 @@ pub struct Places {
     negative: Lists,
 }
 
-// Clauses see the number of variables and the list of each literal.
+// Clauses see the list of each literal, by its variable and sign.
 impl Model for Places {
     ghost use Rattle.std.specs.Prelude.{◌≡◌, length};
-    ghost use Rattle.case_search.specs.Places.{ByLiteral, by_sign};
+    ghost use Rattle.case_search.specs.Places.{ByLiteral};
 
     ghost Value = { ByLiteral };
 
-    ghost view = { λ p. by_sign p.positive p.negative };
+    ghost view = { λ p. record { positive = p.positive; negative = p.negative } };
 
     ghost invariant = { λ p. length p.positive ≡ length p.negative };
 }
 
 impl Places {
     pub fn new(alloc: Global, vars: usize) -> Result<Places, AllocError>
-        ensures { IfOk result (λ places. places.vars ≡ vars) }
+        ensures { IfOk result (λ places. vars_of places ≡ vars) }
     {
         Ok(Places {
             positive: Lists::new(alloc, vars)?,
@@ -38,13 +38,13 @@ impl Places {
     }
 
     pub fn vars(&self) -> usize
-        ensures { result ≡ self.now.vars }
+        ensures { result ≡ vars_of self.now }
     {
         self.positive.vars()
     }
 
     pub fn of(&self, literal: Literal) -> &[usize]
-        ensures { result.now ≡ self.now.list_of literal }
+        ensures { result.now ≡ list_of self.now literal }
     {
         if literal.positive {
             self.positive.of(literal.var)
@@ -54,11 +54,11 @@ impl Places {
     }
 
     pub fn add(&mut self, literal: Literal, at: usize) -> Result<(), AllocError>
-        requires { literal.var < self.old.vars }
-        ensures vars { self.new.vars ≡ self.old.vars }
-        ensures added { OnOk result (self.new.list_of literal ≡ self.old.list_of literal ++ at ∷ []) }
+        requires { literal.var < vars_of self.old }
+        ensures vars { vars_of self.new ≡ vars_of self.old }
+        ensures added { OnOk result (list_of self.new literal ≡ list_of self.old literal ++ at ∷ []) }
         ensures others { OnOk result
-            ((other : Literal) → other ≢ literal → self.new.list_of other ≡ self.old.list_of other) }
+            ((other : Literal) → other ≢ literal → list_of self.new other ≡ list_of self.old other) }
     {
         if literal.positive {
             self.positive.add(literal.var, at)
@@ -69,12 +69,12 @@ impl Places {
 
     /// Takes the last clause out of a list.
     pub fn take(&mut self, literal: Literal) -> Option<usize>
-        ensures vars { self.new.vars ≡ self.old.vars }
+        ensures vars { vars_of self.new ≡ vars_of self.old }
         ensures taken { MatchOption result
-            ((self.old.list_of literal ≡ []) × (self.new.list_of literal ≡ []))
-            (λ at. self.old.list_of literal ≡ self.new.list_of literal ++ at ∷ []) }
+            ((list_of self.old literal ≡ []) × (list_of self.new literal ≡ []))
+            (λ at. list_of self.old literal ≡ list_of self.new literal ++ at ∷ []) }
         ensures others
-            { (other : Literal) → other ≢ literal → self.new.list_of other ≡ self.old.list_of other }
+            { (other : Literal) → other ≢ literal → list_of self.new other ≡ list_of self.old other }
     {
         if literal.positive {
             self.positive.take(literal.var)
@@ -85,7 +85,7 @@ impl Places {
 
     /// Takes a clause out of a list, and puts the last of the list in its place.
     pub fn remove(&mut self, literal: Literal, index: usize)
-        ensures { self.new.vars ≡ self.old.vars }
+        ensures { vars_of self.new ≡ vars_of self.old }
     {
         if literal.positive {
             self.positive.remove(literal.var, index);

@@ -7,7 +7,7 @@ ghost use Rattle.case_tree.specs.declared.clauses.Literal.{Literal};
 ghost use Rattle.case_tree.specs.declared.tree.Reason.{Reason};
 ghost use Rattle.case_tree.specs.CaseTree.{Holds, IsIn, value_on, var_count};
 ghost use Rattle.case_search.specs.Guards.{IsGuarded, IsGuardedBut, IsReady, parent};
-ghost use Rattle.case_search.specs.Places.{opposite_of};
+ghost use Rattle.case_search.specs.Places.{list_of, opposite_of, vars_of};
 ghost use Rattle.case_search.specs.Step.{HasTrue, IsAllChosen, IsForced, IsOpen, IsStep, IsWanted, NoReason, NothingForced, QuietAbove, QuietBut};
 
 use crate::guards::pass_on;
@@ -31,12 +31,12 @@ pub fn next_step(
     trail: &mut Trail,
 ) -> Result<Step, AllocError>
     requires vars { trail.old.vars ≡ var_count clauses.now.cells }
-    requires counted { guards.old.vars ≡ var_count clauses.now.cells }
-    requires guarded { IsGuarded clauses.now guards.old.list_of (parent trail.old.path) }
+    requires counted { vars_of guards.old ≡ var_count clauses.now.cells }
+    requires guarded { IsGuarded clauses.now (list_of guards.old) (parent trail.old.path) }
     requires quiet { QuietAbove clauses.now trail.old.path }
     ensures step { IfOk result (IsStep clauses.now trail.old.path) }
-    ensures guarded { IfOk result (IsReady clauses.now guards.new.list_of trail.old.path) }
-    ensures counted { guards.new.vars ≡ guards.old.vars }
+    ensures guarded { IfOk result (IsReady clauses.now (list_of guards.new) trail.old.path) }
+    ensures counted { vars_of guards.new ≡ vars_of guards.old }
     ensures trail { trail.new ≡ trail.old }
 {
     if let Some(reason) = reason_here(clauses, guards, trail) {
@@ -57,18 +57,19 @@ fn enter(
     trail: &mut Trail,
 ) -> Result<(), AllocError>
     requires vars { trail.old.vars ≡ var_count clauses.now.cells }
-    requires counted { guards.old.vars ≡ var_count clauses.now.cells }
-    requires guarded { IsGuarded clauses.now guards.old.list_of (parent trail.old.path) }
+    requires counted { vars_of guards.old ≡ var_count clauses.now.cells }
+    requires guarded { IsGuarded clauses.now (list_of guards.old) (parent trail.old.path) }
     requires quiet { NoReason clauses.now trail.old.path }
-    ensures guarded { OnOk result (IsGuarded clauses.now guards.new.list_of trail.old.path) }
-    ensures counted { guards.new.vars ≡ guards.old.vars }
+    ensures guarded { OnOk result (IsGuarded clauses.now (list_of guards.new) trail.old.path) }
+    ensures counted { vars_of guards.new ≡ vars_of guards.old }
     ensures trail { trail.new ≡ trail.old }
 {
     let Some(last) = last_of(trail) else {
         return Ok(());
     };
     pass_on(guards, clauses, trail, opposite(last))?;
-    hints.enter(clauses, trail, last)
+    hints.enter(clauses, trail, last)?;
+    Ok(())
 }
 
 // The literal of the last split.
@@ -91,7 +92,7 @@ fn next_split(
     trail: &mut Trail,
 ) -> Option<usize>
     requires vars { trail.old.vars ≡ var_count clauses.now.cells }
-    requires guarded { IsGuarded clauses.now guards.now.list_of trail.old.path }
+    requires guarded { IsGuarded clauses.now (list_of guards.now) trail.old.path }
     requires quiet { NoReason clauses.now trail.old.path }
     ensures open { IfSome result (IsOpen clauses.now trail.old.path) }
     ensures why { IfSome result
@@ -159,7 +160,7 @@ fn wanted_at(clauses: &Clauses, trail: &Trail, at: usize) -> Option<usize>
 // The split that needs no hints, and looks through all variables and cells.
 fn unhinted_split(clauses: &Clauses, guards: &Places, trail: &mut Trail) -> Option<usize>
     requires vars { trail.old.vars ≡ var_count clauses.now.cells }
-    requires guarded { IsGuarded clauses.now guards.now.list_of trail.old.path }
+    requires guarded { IsGuarded clauses.now (list_of guards.now) trail.old.path }
     requires quiet { NoReason clauses.now trail.old.path }
     ensures open { IfSome result (IsOpen clauses.now trail.old.path) }
     ensures why { IfSome result
@@ -177,7 +178,7 @@ fn unhinted_split(clauses: &Clauses, guards: &Places, trail: &mut Trail) -> Opti
 // The first reason that holds, where none holds at the parent.
 fn reason_here(clauses: &Clauses, guards: &Places, trail: &mut Trail) -> Option<Reason>
     requires vars { trail.old.vars ≡ var_count clauses.now.cells }
-    requires guarded { IsGuarded clauses.now guards.now.list_of (parent trail.old.path) }
+    requires guarded { IsGuarded clauses.now (list_of guards.now) (parent trail.old.path) }
     requires quiet { QuietAbove clauses.now trail.old.path }
     ensures found { IfSome result (Holds clauses.now trail.old.path) }
     ensures none { IfNone result (NoReason clauses.now trail.old.path) }
@@ -210,7 +211,7 @@ fn reason_by(
     last: Literal,
 ) -> Option<Reason>
     requires known { last.var < var_count clauses.now.cells }
-    requires guarded { IsGuardedBut clauses.now guards.now.list_of trail.now.path (opposite_of last) }
+    requires guarded { IsGuardedBut clauses.now (list_of guards.now) trail.now.path (opposite_of last) }
     requires quiet { QuietBut clauses.now trail.now.path last.var }
     ensures found { IfSome result (Holds clauses.now trail.now.path) }
     ensures none { IfNone result (NoReason clauses.now trail.now.path) }
@@ -236,19 +237,34 @@ fn false_clause(clauses: &Clauses, trail: &Trail, places: &[usize]) -> Option<us
 {
     let mut least = None;
     for at in places {
-        if is_less(*at, least) && holds(clauses, trail, Reason::Clause(*at)) {
-            least = Some(*at);
-        }
+        least = lesser(clauses, trail, least, *at);
     }
     least
 }
 
-fn is_less(at: usize, least: Option<usize>) -> bool
-    ensures { IfNone least (IsTrue result) }
+// The clause where it is false and less than the least so far.
+fn lesser(clauses: &Clauses, trail: &Trail, least: Option<usize>, at: usize) -> Option<usize>
+    requires { IfSome least (λ at. Holds clauses.now trail.now.path (Reason.Clause at)) }
+    ensures found { IfSome result (λ at. Holds clauses.now trail.now.path (Reason.Clause at)) }
+    ensures none { IfNone result
+        ((least ≡ None) × (Holds clauses.now trail.now.path (Reason.Clause at) → ⊥)) }
+{
+    if is_at_most(least, at) {
+        return least;
+    }
+    if holds(clauses, trail, Reason::Clause(at)) {
+        Some(at)
+    } else {
+        least
+    }
+}
+
+fn is_at_most(least: Option<usize>, at: usize) -> bool
+    ensures { IsTrue result → least ≢ None }
 {
     match least {
-        Some(least) => at < least,
-        None => true,
+        Some(least) => least <= at,
+        None => false,
     }
 }
 
@@ -291,7 +307,7 @@ fn other_true(cell: &VarCell, trail: &Trail, var: usize) -> Option<usize>
 // The first variable without a value that makes a reason hold at once when it is set, to true or to false.
 fn first_forced(clauses: &Clauses, guards: &Places, trail: &mut Trail) -> Option<usize>
     requires vars { trail.old.vars ≡ var_count clauses.now.cells }
-    requires guarded { IsGuarded clauses.now guards.now.list_of trail.old.path }
+    requires guarded { IsGuarded clauses.now (list_of guards.now) trail.old.path }
     requires quiet { NoReason clauses.now trail.old.path }
     ensures open { IfSome result (IsOpen clauses.now trail.old.path) }
     ensures forced { IfSome result (IsForced clauses.now trail.old.path) }
@@ -308,7 +324,7 @@ fn first_forced(clauses: &Clauses, guards: &Places, trail: &mut Trail) -> Option
 
 fn is_forced(clauses: &Clauses, guards: &Places, trail: &mut Trail, var: usize) -> bool
     requires vars { trail.old.vars ≡ var_count clauses.now.cells }
-    requires guarded { IsGuarded clauses.now guards.now.list_of trail.old.path }
+    requires guarded { IsGuarded clauses.now (list_of guards.now) trail.old.path }
     requires quiet { NoReason clauses.now trail.old.path }
     requires open { IsOpen clauses.now trail.old.path var }
     ensures forced { MatchBool result (IsForced clauses.now trail.old.path var)
@@ -336,7 +352,7 @@ fn makes_reason(
     literal: Literal,
 ) -> bool
     requires vars { trail.old.vars ≡ var_count clauses.now.cells }
-    requires guarded { IsGuarded clauses.now guards.now.list_of trail.old.path }
+    requires guarded { IsGuarded clauses.now (list_of guards.now) trail.old.path }
     requires quiet { NoReason clauses.now trail.old.path }
     requires open { IsOpen clauses.now trail.old.path literal.var }
     ensures made { MatchBool result ((reason : Reason) × Holds clauses.now (literal ∷ trail.old.path) reason)
