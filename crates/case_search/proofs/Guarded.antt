@@ -35,6 +35,14 @@ guarded_but set lists last above all = record {
       (literal, inside, still last above literal not_false, listed);
 }
 
+-- the opposite of the last split is false
+pub just_false : (last : Literal) (above : List Literal) → IsFalseOn (last ∷ above) (opposite_of last)
+just_false last above = value_on-same last above last.var refl ∙ ap Some (twice last.positive)
+  where
+    twice : (b : Bool) → b ≡ not (not b)
+    twice true = refl
+    twice false = refl
+
 -- one split fewer
 guarded_up : (set : ClauseSet) (lists : Literal → List ℕ) (last : Literal) (above : List Literal) → value_on above last.var ≡ None → IsGuarded set lists (last ∷ above) → IsGuarded set lists above
 guarded_up set lists last above fresh all = record {

@@ -4,13 +4,14 @@ use Rattle.std.proofs.lemmas.Bool.{cases_lt}
 use Rattle.std.proofs.lemmas.Option.{slice_get_within}
 use Rattle.std.specs.Prelude.{slice_get}
 use Rattle.case_tree.specs.declared.clauses.Literal.{Literal}
+use Rattle.case_tree.specs.CaseTree.{var_count}
 use Rattle.case_tree.proofs.Lists.{All-at}
 use Rattle.case_search.specs.Places.{list_of, vars_of}
 use Rattle.case_search.proofs.guards.guard_all.Goals as goal
 
 pub guard_by_first-requires : goal.guard_by_first-requires
 guard_by_first-requires c =
-    rw c.loop-at.invariant.vars (All-at _ c.args.clauses.now.clauses c.loop-at.at c.clause.result.now c.vars.ensures.well_formed.literals_in_cells c.clause.ensures)
+    rw c.loop-at.invariant.vars (All-at (All (λ (literal : Literal). literal.var < var_count c.args.clauses.now.cells)) c.args.clauses.now.clauses c.loop-at.at c.clause.result.now c.vars.ensures.well_formed.literals_in_cells c.clause.ensures)
 
 pub loop-at-preserved : goal.loop-at-preserved
 loop-at-preserved c = record {
