@@ -51,10 +51,10 @@ guarded_up set lists last above fresh all = record {
         literal,
         inside,
         (λ is_false.
-        ⊎_elim
-        (λ same. let unset : value_on above literal.var ≡ None = ap (value_on above) (sym same) ∙ fresh in cc)
-        (λ other. not_false (value_on-other last above literal.var other ∙ is_false))
-        (cases_eq last.var literal.var)),
+            ⊎_elim
+            (λ same. let unset : value_on above literal.var ≡ None = ap (value_on above) (sym same) ∙ fresh in cc)
+            (λ other. not_false (value_on-other last above literal.var other ∙ is_false))
+            (cases_eq last.var literal.var)),
         listed,
       );
 }
@@ -146,9 +146,9 @@ all_passed set lists path gone none all = record {
         literal,
         inside,
         ⊎_elim
-        (λ not_false. not_false)
-        (λ same. let (k, in_range, is) = subst (λ (xs : List ℕ). Contains xs at) (ap lists same ∙ none) listed in absurd (omega arith))
-        why,
+            (λ not_false. not_false)
+            (λ same. let (k, in_range, is) = subst (λ (xs : List ℕ). Contains xs at) (ap lists same ∙ none) listed in absurd (omega arith))
+            why,
         listed,
       );
 }

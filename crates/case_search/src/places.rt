@@ -73,8 +73,7 @@ impl Places {
         ensures taken { MatchOption result
             ((list_of self.old literal ≡ []) × (list_of self.new literal ≡ []))
             (λ at. list_of self.old literal ≡ list_of self.new literal ++ at ∷ []) }
-        ensures others
-            { (other : Literal) → other ≢ literal → list_of self.new other ≡ list_of self.old other }
+        ensures others { (other : Literal) → other ≢ literal → list_of self.new other ≡ list_of self.old other }
     {
         if literal.positive {
             self.positive.take(literal.var)

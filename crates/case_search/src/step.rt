@@ -85,12 +85,7 @@ fn last_of(trail: &mut Trail) -> Option<Literal>
 }
 
 // The variable to split on, where there is one.
-fn next_split(
-    clauses: &Clauses,
-    guards: &Places,
-    hints: &Hints,
-    trail: &mut Trail,
-) -> Option<usize>
+fn next_split(clauses: &Clauses, guards: &Places, hints: &Hints, trail: &mut Trail) -> Option<usize>
     requires vars { trail.old.vars ≡ var_count clauses.now.cells }
     requires guarded { IsGuarded clauses.now (list_of guards.now) trail.old.path }
     requires quiet { NoReason clauses.now trail.old.path }
@@ -204,12 +199,7 @@ fn empty_clause(clauses: &Clauses) -> Option<Reason>
 }
 
 // The first reason that holds, where all that hold speak of the variable of the last split.
-fn reason_by(
-    clauses: &Clauses,
-    guards: &Places,
-    trail: &Trail,
-    last: Literal,
-) -> Option<Reason>
+fn reason_by(clauses: &Clauses, guards: &Places, trail: &Trail, last: Literal) -> Option<Reason>
     requires known { last.var < var_count clauses.now.cells }
     requires guarded { IsGuardedBut clauses.now (list_of guards.now) trail.now.path (opposite_of last) }
     requires quiet { QuietBut clauses.now trail.now.path last.var }
@@ -345,12 +335,7 @@ fn is_forced(clauses: &Clauses, guards: &Places, trail: &mut Trail, var: usize) 
     makes_reason(clauses, guards, trail, literal)
 }
 
-fn makes_reason(
-    clauses: &Clauses,
-    guards: &Places,
-    trail: &mut Trail,
-    literal: Literal,
-) -> bool
+fn makes_reason(clauses: &Clauses, guards: &Places, trail: &mut Trail, literal: Literal) -> bool
     requires vars { trail.old.vars ≡ var_count clauses.now.cells }
     requires guarded { IsGuarded clauses.now (list_of guards.now) trail.old.path }
     requires quiet { NoReason clauses.now trail.old.path }
