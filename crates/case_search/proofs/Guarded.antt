@@ -1,14 +1,14 @@
 -- How guards stay right as the path grows and shrinks, and as clauses are passed on.
-use Rattle.std.proofs.Common.{◌≡◌, ◌≢◌, ℕ, ◌+◌, ◌<◌, ◌≤◌, ◌⊎◌, Bool, true, false, not, List, [], ◌∷◌, ◌++◌, length, Some, None, refl, sym, ap, ◌∙◌, subst, inl, inr, ⊎_elim, arith}
+use Rattle.std.proofs.Common.{◌≡◌, ◌≢◌, ℕ, ◌⊎◌, Bool, true, false, not, List, [], ◌∷◌, ◌++◌, Some, None, refl, sym, ap, ◌∙◌, subst, inl, inr, ⊎_elim, arith}
 use Rattle.std.specs.Prelude.{slice_get, IsSomeAnd}
-use Rattle.std.specs.List.{All, Contains}
+use Rattle.std.specs.List.{Contains}
 use Rattle.std.proofs.lemmas.Bool.{cases_Bool, cases_eq}
-use Rattle.std.proofs.lemmas.List.Elements.{All-contains, Contains-append_left, Contains-push, Contains-push_cases}
+use Rattle.std.proofs.lemmas.List.Elements.{Contains-append_left, Contains-push, Contains-push_cases}
 use Rattle.case_tree.specs.declared.clauses.Literal.{Literal}
 use Rattle.case_tree.specs.declared.tree.Reason.TheVariants.{Clause}
 use Rattle.case_tree.specs.CaseTree.{ClauseSet, Holds, IsFalseOn, value_on}
 use Rattle.case_tree.specs.Walk.{IsApart, next_path}
-use Rattle.case_tree.proofs.Lists.{IsSomeAnd-from, value_of}
+use Rattle.case_tree.proofs.Lists.{value_of}
 use Rattle.case_tree.proofs.Paths.{value_on-same, value_on-other}
 use Rattle.case_search.specs.Guards.{IsGuarded, IsGuardedBut, parent}
 use Rattle.case_search.specs.Places.{opposite_of}

@@ -2,7 +2,7 @@
 use Rattle.std.proofs.Common.{◌≡◌, ◌≢◌, ℕ, ◌⊎◌, Bool, true, false, not, List, refl, sym, ap, ◌∙◌, inl, inr, ⊎_elim}
 use Rattle.std.proofs.lemmas.Bool.{cases_Bool, cases_eq}
 use Rattle.case_tree.specs.declared.clauses.Literal.{Literal}
-use Rattle.case_search.specs.Places.{ByLiteral, list_at, list_of}
+use Rattle.case_search.specs.Places.{list_at, list_of}
 
 -- a literal is its variable and its sign
 pub same_literal : (one other : Literal) → one.var ≡ other.var → one.positive ≡ other.positive → one ≡ other

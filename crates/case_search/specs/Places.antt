@@ -1,5 +1,5 @@
 -- Lists of clauses, one for each literal.
-use Rattle.std.specs.Prelude.{ℕ, Bool, not, List, [], map, length, cond, slice_index_or}
+use Rattle.std.specs.Prelude.{ℕ, not, List, [], map, length, cond, slice_index_or}
 use Rattle.std.specs.declared.vec.Vec.{Vec}
 use Rattle.std.specs.declared.alloc.Global.{Global}
 use Rattle.case_tree.specs.declared.clauses.Literal.{Literal}

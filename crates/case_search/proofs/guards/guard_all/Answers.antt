@@ -6,7 +6,7 @@ use Rattle.std.specs.Prelude.{slice_get}
 use Rattle.case_tree.specs.declared.clauses.Literal.{Literal}
 use Rattle.case_tree.specs.CaseTree.{var_count}
 use Rattle.case_tree.proofs.Lists.{All-at}
-use Rattle.case_search.specs.Places.{list_of, vars_of}
+use Rattle.case_search.specs.Places.{list_of}
 use Rattle.case_search.proofs.guards.guard_all.Goals as goal
 
 pub guard_by_first-requires : goal.guard_by_first-requires

@@ -1,5 +1,4 @@
 use Rattle.std.proofs.Common.{◌≡◌, length}
-use Rattle.case_tree.specs.CaseTree.{var_count}
 use Rattle.case_search.specs.Guards.{IsGuardedBut}
 use Rattle.case_search.specs.Places.{list_of, vars_of}
 use Rattle.case_search.proofs.guards.pass_on.Given as goal

@@ -1,7 +1,6 @@
-use Rattle.std.proofs.Common.{◌≡◌, ◌∷◌, List, ap, ◌∙◌, subst}
-use Rattle.case_tree.specs.declared.clauses.Literal.{Literal}
+use Rattle.std.proofs.Common.{◌≡◌, ◌∷◌, ap, ◌∙◌}
 use Rattle.case_tree.specs.Walk.{Way}
-use Rattle.case_search.specs.Guards.{IsGuarded, parent}
+use Rattle.case_search.specs.Guards.{parent}
 use Rattle.case_search.specs.Places.{list_of, opposite_of}
 use Rattle.case_search.proofs.Guarded.{guarded_but, just_false}
 use Rattle.case_search.proofs.step.enter.Goals as goal

@@ -1,4 +1,4 @@
-use Rattle.std.proofs.Common.{◌≡◌, ◌<◌, length, arith, ap, List, ℕ}
+use Rattle.std.proofs.Common.{◌<◌, length, arith, ap, List, ℕ}
 use Rattle.case_search.proofs.Listed.{list_after, list_before, list_other, lists_count}
 use Rattle.case_search.proofs.lists.Lists.add.Goals as goal
 
