@@ -13,7 +13,7 @@ use Rattle.case_tree.specs.CaseTree.{ClauseSet, Holds, IsFalseOn, IsIn, IsWellFo
 use Rattle.case_tree.proofs.Cells.{ends_within, has_vars, same_cell}
 use Rattle.case_tree.proofs.Lists.{IsSomeAnd-from, IsSomeAnd-get_or, value_of}
 use Rattle.case_tree.proofs.Paths.{value_on-other}
-use Rattle.case_search.specs.Places.{Has, IsIndexOf}
+use Rattle.case_search.specs.Guards.{IsGuardedBut}
 use Rattle.case_search.specs.Step.{NoReason, QuietBut}
 
 -- some element, under one more
@@ -96,15 +96,19 @@ cell_is set at other v well one two =
     let d : VarCell = record { first = 0; count = 0; demanded = false } in
     same_cell set.cells at other v d well.cells_follow (cell_in_range set set.cells at v refl one) (cell_in_range set set.cells other v refl two) (cell_has set set.cells at v d refl one) (cell_has set set.cells other v d refl two)
 
-module _ (set : ClauseSet) (path : List Literal) (v cell : ℕ) (lists : List (List ℕ)) (places : List ℕ) (well : IsWellFormed set) (index : IsIndexOf set lists) (quiet : QuietBut set path v) (listed : slice_get lists v ≡ Some places) (none_false : All (λ (at : ℕ). Holds set path (Clause at) → ⊥) places) (v_in : IsSomeAnd (slice_get set.cells cell) (λ cell. IsIn cell v)) where
-  -- a false clause has the variable, so it is listed
+module _ (set : ClauseSet) (path : List Literal) (v cell : ℕ) (lists : Literal → List ℕ) (gone : Literal) (places : List ℕ) (well : IsWellFormed set) (guarded : IsGuardedBut set lists path gone) (quiet : QuietBut set path v) (listed : places ≡ lists gone) (none_false : All (λ (at : ℕ). Holds set path (Clause at) → ⊥) places) (v_in : IsSomeAnd (slice_get set.cells cell) (λ cell. IsIn cell v)) where
+  -- a false clause isn't empty, so it has a guard, which is false, so the clause is in its list
   no_clause : (at : ℕ) → Holds set path (Clause at) → ⊥
   no_clause at held =
-      let (clause, there, (k, literal, in_range, is, of_v)) = value_of (slice_get set.clauses at) (Any (λ (literal : Literal). literal.var ≡ v)) (quiet (Clause at) held) in
-      let has = index.covers at literal (IsSomeAnd-from (slice_get set.clauses at) (λ (clause : List Literal). Contains clause literal) clause there (k, in_range, is)) in
-      let (found, found_there, contained) = value_of (slice_get lists v) (λ (places : List ℕ). Contains places at) (subst (λ (w : ℕ). Has lists w at) of_v has) in
-      let same : found ≡ places = cc in
-      All-contains (λ (at : ℕ). Holds set path (Clause at) → ⊥) places at none_false (subst (λ (places : List ℕ). Contains places at) same contained) held
+      let (clause, there, all_false) = value_of (slice_get set.clauses at) (All (IsFalseOn path)) held in
+      let (named, named_there, (k, literal, in_range, is, of_v)) = value_of (slice_get set.clauses at) (Any (λ (literal : Literal). literal.var ≡ v)) (quiet (Clause at) held) in
+      let same : named ≡ clause = cc in
+      let some : 0 < length clause = omega (arith, ap length same) in
+      let (guard, inside, why, has) = guarded.guard at clause there some in
+      ⊎_elim
+      (λ not_false. not_false (All-contains (IsFalseOn path) clause guard all_false inside))
+      (λ is_gone. All-contains (λ (at : ℕ). Holds set path (Clause at) → ⊥) places at none_false (subst (λ (places : List ℕ). Contains places at) (ap lists is_gone ∙ sym listed) has) held)
+      why
 
   -- a variable that shares a cell with it lies in its cell
   shared_in : (k w : ℕ) (x : VarCell) → k < length set.cells → get_or set.cells k x ≡ x → IsIn x v → IsIn x w → IsSomeAnd (slice_get set.cells cell) (λ cell. IsIn cell w)

@@ -3,8 +3,10 @@
 #![tactic(auto)]
 
 mod bound;
+mod guards;
 mod hints;
-mod occurrences;
+mod lists;
+mod places;
 mod search;
 mod step;
 

@@ -6,8 +6,8 @@ ghost use Rattle.case_tree.specs.Walk.{next_path};
 ghost use Rattle.case_search.specs.Answer.{HasOneFree, IsAnswer};
 ghost use Rattle.case_search.specs.Model.{values_of};
 
+use crate::guards::guard_all;
 use crate::hints::Hints;
-use crate::occurrences::Occurrences;
 use crate::step::{Step, next_step};
 use case_tree::{Clauses, Literal, Node, Trail, Tree};
 use std::alloc::{AllocError, Global};
@@ -29,15 +29,15 @@ pub fn decide(alloc: Global, clauses: &Clauses, budget: u64) -> Result<Found, Al
     requires within { budget ≤ 1000000 }
     ensures { IfOk result (IsAnswer clauses.now budget) }
 {
-    let occurrences = Occurrences::new(alloc, clauses)?;
+    let mut guards = guard_all(alloc, clauses)?;
     let mut trail = Trail::new(alloc, clauses.vars())?;
-    let mut hints = Hints::new(alloc, clauses, &trail)?;
+    let mut hints = Hints::new(alloc, clauses)?;
     let mut nodes = Vec::new(alloc);
     // The subtrees that aren't written yet, the present one among them.
     let mut pending = 1usize;
     let mut leaves = 0u64;
     'walk: loop {
-        match next_step(clauses, &occurrences, &hints, &mut trail) {
+        match next_step(clauses, &mut guards, &mut hints, &mut trail)? {
             Step::Model => return Ok(Found::Model(values(alloc, &trail, clauses.vars())?)),
             Step::Split(var) => {
                 nodes.push(Node::Split(var))?;
@@ -46,7 +46,6 @@ pub fn decide(alloc: Global, clauses: &Clauses, budget: u64) -> Result<Found, Al
                     var,
                     positive: true,
                 });
-                hints.update(clauses, &occurrences, &trail, var)?;
             }
             Step::Leaf(reason) => {
                 nodes.push(Node::Leaf(reason))?;
@@ -58,21 +57,15 @@ pub fn decide(alloc: Global, clauses: &Clauses, budget: u64) -> Result<Found, Al
                 if leaves == budget {
                     return Ok(Found::Spent(tree_of(with_open(nodes, pending)?)));
                 }
-                advance(clauses, &occurrences, &mut hints, &mut trail)?;
+                advance(clauses, &mut hints, &mut trail)?;
             }
         }
     }
 }
 
-// Goes on to the subtree after the one that the path leads to, as `Trail::advance` does, and keeps the hints up to date.
-fn advance(
-    clauses: &Clauses,
-    occurrences: &Occurrences,
-    hints: &mut Hints,
-    trail: &mut Trail,
-) -> Result<(), AllocError>
-    requires vars { trail.old.vars ≡ var_count clauses.now.cells }
-    requires counted { length occurrences.now ≡ var_count clauses.now.cells }
+// Goes on to the subtree after the one that the path leads to, as `Trail::advance` does, and takes the hints back up to
+// the parent. They were not brought to the leaf.
+fn advance(clauses: &Clauses, hints: &mut Hints, trail: &mut Trail) -> Result<(), AllocError>
     ensures path { OnOk result (trail.new.path ≡ next_path trail.old.path) }
     ensures vars { trail.new.vars ≡ trail.old.vars }
 {
@@ -82,9 +75,9 @@ fn advance(
                 var: last.var,
                 positive: false,
             });
-            return hints.update(clauses, occurrences, trail, last.var);
+            return Ok(());
         }
-        hints.update(clauses, occurrences, trail, last.var)?;
+        hints.leave(clauses)?;
     }
     Ok(())
 }

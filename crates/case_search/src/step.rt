@@ -1,16 +1,20 @@
-//! What the search does at a node.
-ghost use Rattle.std.specs.Prelude.{◌≡◌, ◌+◌, ◌^◌, ◌<◌, ◌≢◌, ◌⊎◌, ℕ, Some, None, true, false, length, IfSome, IfNone, IsTrue, IsSomeAnd, slice_get, [], ◌∷◌};
+//! What the search does at a node: a leaf costs a look at the clauses that the last split's literal guarded, and any other
+//! node that and a look at what it forces. Only where no hint is left all variables are looked at.
+ghost use Rattle.std.specs.Prelude.{◌≡◌, ◌+◌, ◌^◌, ◌<◌, ◌≢◌, ◌⊎◌, ℕ, Some, None, true, false, length, IfSome, IfNone, IfOk, OnOk, MatchOption, IsTrue, IsSomeAnd, slice_get, [], ◌∷◌};
 ghost use Rattle.std.specs.Bool.{MatchBool};
 ghost use Rattle.std.specs.List.{All};
 ghost use Rattle.case_tree.specs.declared.clauses.Literal.{Literal};
 ghost use Rattle.case_tree.specs.declared.tree.Reason.{Reason};
 ghost use Rattle.case_tree.specs.CaseTree.{Holds, IsIn, value_on, var_count};
-ghost use Rattle.case_search.specs.Places.{IsIndexOf};
+ghost use Rattle.case_search.specs.Guards.{IsGuarded, IsGuardedBut, IsReady, parent};
+ghost use Rattle.case_search.specs.Places.{list_of, opposite_of, vars_of};
 ghost use Rattle.case_search.specs.Step.{HasTrue, IsAllChosen, IsForced, IsOpen, IsStep, IsWanted, NoReason, NothingForced, QuietAbove, QuietBut};
 
-use crate::hints::Hints;
-use crate::occurrences::Occurrences;
+use crate::guards::pass_on;
+use crate::hints::{Hint, Hints};
+use crate::places::{Places, opposite};
 use case_tree::{Clauses, Literal, Reason, Trail, VarCell, holds};
+use std::alloc::AllocError;
 
 /// A leaf, since a reason holds; a split; or the end, since all clauses can be made true.
 #[derive(Clone, Copy, Debug, PartialEq, Eq)]
@@ -22,44 +26,94 @@ pub enum Step {
 
 pub fn next_step(
     clauses: &Clauses,
-    occurrences: &Occurrences,
-    hints: &Hints,
+    guards: &mut Places,
+    hints: &mut Hints,
     trail: &mut Trail,
-) -> Step
+) -> Result<Step, AllocError>
     requires vars { trail.old.vars ≡ var_count clauses.now.cells }
-    requires index { IsIndexOf clauses.now occurrences.now }
+    requires counted { vars_of guards.old ≡ var_count clauses.now.cells }
+    requires guarded { IsGuarded clauses.now (list_of guards.old) (parent trail.old.path) }
     requires quiet { QuietAbove clauses.now trail.old.path }
-    ensures step { IsStep clauses.now trail.old.path result }
+    ensures step { IfOk result (IsStep clauses.now trail.old.path) }
+    ensures guarded { IfOk result (IsReady clauses.now (list_of guards.new) trail.old.path) }
+    ensures counted { vars_of guards.new ≡ vars_of guards.old }
     ensures trail { trail.new ≡ trail.old }
 {
-    if let Some(reason) = reason_here(clauses, occurrences, trail) {
-        return Step::Leaf(reason);
+    if let Some(reason) = reason_here(clauses, guards, trail) {
+        return Ok(Step::Leaf(reason));
     }
-    if let Some(var) = hinted_split(clauses, occurrences, hints, trail) {
-        return Step::Split(var);
+    enter(clauses, guards, hints, trail)?;
+    match next_split(clauses, guards, hints, trail) {
+        Some(var) => Ok(Step::Split(var)),
+        None => Ok(Step::Model),
     }
-    unhinted_step(clauses, occurrences, trail)
+}
+
+// Brings guards and hints to a node that is no leaf.
+fn enter(
+    clauses: &Clauses,
+    guards: &mut Places,
+    hints: &mut Hints,
+    trail: &mut Trail,
+) -> Result<(), AllocError>
+    requires vars { trail.old.vars ≡ var_count clauses.now.cells }
+    requires counted { vars_of guards.old ≡ var_count clauses.now.cells }
+    requires guarded { IsGuarded clauses.now (list_of guards.old) (parent trail.old.path) }
+    requires quiet { NoReason clauses.now trail.old.path }
+    ensures guarded { OnOk result (IsGuarded clauses.now (list_of guards.new) trail.old.path) }
+    ensures counted { vars_of guards.new ≡ vars_of guards.old }
+    ensures trail { trail.new ≡ trail.old }
+{
+    let Some(last) = last_of(trail) else {
+        return Ok(());
+    };
+    pass_on(guards, clauses, trail, opposite(last))?;
+    hints.enter(clauses, trail, last)?;
+    Ok(())
+}
+
+// The literal of the last split.
+fn last_of(trail: &mut Trail) -> Option<Literal>
+    ensures last { MatchOption result (trail.old.path ≡ [])
+        (λ last. trail.old.path ≡ last ∷ parent trail.old.path) }
+    ensures known { IfSome result (λ last. last.var < trail.old.vars) }
+    ensures trail { trail.new ≡ trail.old }
+{
+    let last = trail.pop()?;
+    trail.push(last);
+    Some(last)
+}
+
+// The variable to split on, where there is one.
+fn next_split(clauses: &Clauses, guards: &Places, hints: &Hints, trail: &mut Trail) -> Option<usize>
+    requires vars { trail.old.vars ≡ var_count clauses.now.cells }
+    requires guarded { IsGuarded clauses.now (list_of guards.now) trail.old.path }
+    requires quiet { NoReason clauses.now trail.old.path }
+    ensures open { IfSome result (IsOpen clauses.now trail.old.path) }
+    ensures why { IfSome result
+        (λ v. IsForced clauses.now trail.old.path v ⊎ IsWanted clauses.now trail.old.path v) }
+    ensures none { IfNone result
+        (NothingForced clauses.now trail.old.path × IsAllChosen clauses.now trail.old.path) }
+    ensures trail { trail.new ≡ trail.old }
+{
+    if let Some(var) = hinted_split(clauses, hints, trail) {
+        return Some(var);
+    }
+    unhinted_split(clauses, guards, trail)
 }
 
 // The split that a hint leads to: on a forced variable, or else on a wanted one.
-fn hinted_split(
-    clauses: &Clauses,
-    occurrences: &Occurrences,
-    hints: &Hints,
-    trail: &mut Trail,
-) -> Option<usize>
+fn hinted_split(clauses: &Clauses, hints: &Hints, trail: &mut Trail) -> Option<usize>
     requires vars { trail.old.vars ≡ var_count clauses.now.cells }
-    requires index { IsIndexOf clauses.now occurrences.now }
-    requires quiet { NoReason clauses.now trail.old.path }
     ensures open { IfSome result (IsOpen clauses.now trail.old.path) }
     ensures why { IfSome result
         (λ v. IsForced clauses.now trail.old.path v ⊎ IsWanted clauses.now trail.old.path v) }
     ensures trail { trail.new ≡ trail.old }
 {
     match hints.first_forced() {
-        Some(var) => {
-            if can_force(clauses, occurrences, trail, var) {
-                Some(var)
+        Some(hint) => {
+            if is_right(clauses, trail, hint) {
+                Some(hint.literal.var)
             } else {
                 None
             }
@@ -68,18 +122,21 @@ fn hinted_split(
     }
 }
 
-// Whether the variable has no value and is forced.
-fn can_force(clauses: &Clauses, occurrences: &Occurrences, trail: &mut Trail, var: usize) -> bool
+// Whether the variable has no value, and the literal makes the reason hold.
+fn is_right(clauses: &Clauses, trail: &mut Trail, hint: Hint) -> bool
     requires vars { trail.old.vars ≡ var_count clauses.now.cells }
-    requires index { IsIndexOf clauses.now occurrences.now }
-    requires quiet { NoReason clauses.now trail.old.path }
-    ensures open { IsTrue result → IsOpen clauses.now trail.old.path var }
-    ensures forced { IsTrue result → IsForced clauses.now trail.old.path var }
+    ensures open { IsTrue result → IsOpen clauses.now trail.old.path hint.literal.var }
+    ensures forced { IsTrue result → IsForced clauses.now trail.old.path hint.literal.var }
     ensures trail { trail.new ≡ trail.old }
 {
-    var < clauses.vars()
-        && trail.value(var).is_none()
-        && is_forced(clauses, occurrences, trail, var)
+    let literal = hint.literal;
+    if literal.var >= clauses.vars() || trail.value(literal.var).is_some() {
+        return false;
+    }
+    trail.push(literal);
+    let holds_then = holds(clauses, trail, hint.reason);
+    let _ = trail.pop();
+    holds_then
 }
 
 // A variable without a value of the cell, where it is demanded and has no true variable.
@@ -95,37 +152,35 @@ fn wanted_at(clauses: &Clauses, trail: &Trail, at: usize) -> Option<usize>
     }
 }
 
-// The step that needs no hints, and looks through all variables and cells.
-fn unhinted_step(clauses: &Clauses, occurrences: &Occurrences, trail: &mut Trail) -> Step
+// The split that needs no hints, and looks through all variables and cells.
+fn unhinted_split(clauses: &Clauses, guards: &Places, trail: &mut Trail) -> Option<usize>
     requires vars { trail.old.vars ≡ var_count clauses.now.cells }
-    requires index { IsIndexOf clauses.now occurrences.now }
+    requires guarded { IsGuarded clauses.now (list_of guards.now) trail.old.path }
     requires quiet { NoReason clauses.now trail.old.path }
-    ensures step { IsStep clauses.now trail.old.path result }
+    ensures open { IfSome result (IsOpen clauses.now trail.old.path) }
+    ensures why { IfSome result
+        (λ v. IsForced clauses.now trail.old.path v ⊎ IsWanted clauses.now trail.old.path v) }
+    ensures none { IfNone result
+        (NothingForced clauses.now trail.old.path × IsAllChosen clauses.now trail.old.path) }
     ensures trail { trail.new ≡ trail.old }
 {
-    if let Some(var) = first_forced(clauses, occurrences, trail) {
-        return Step::Split(var);
+    if let Some(var) = first_forced(clauses, guards, trail) {
+        return Some(var);
     }
-    match first_wanted(clauses, trail) {
-        Some(var) => Step::Split(var),
-        None => Step::Model,
-    }
+    first_wanted(clauses, trail)
 }
 
 // The first reason that holds, where none holds at the parent.
-fn reason_here(clauses: &Clauses, occurrences: &Occurrences, trail: &mut Trail) -> Option<Reason>
+fn reason_here(clauses: &Clauses, guards: &Places, trail: &mut Trail) -> Option<Reason>
     requires vars { trail.old.vars ≡ var_count clauses.now.cells }
-    requires index { IsIndexOf clauses.now occurrences.now }
+    requires guarded { IsGuarded clauses.now (list_of guards.now) (parent trail.old.path) }
     requires quiet { QuietAbove clauses.now trail.old.path }
     ensures found { IfSome result (Holds clauses.now trail.old.path) }
     ensures none { IfNone result (NoReason clauses.now trail.old.path) }
     ensures trail { trail.new ≡ trail.old }
 {
-    match trail.pop() {
-        Some(last) => {
-            trail.push(last);
-            reason_by(clauses, occurrences, trail, last.var)
-        }
+    match last_of(trail) {
+        Some(last) => reason_by(clauses, guards, trail, last),
         None => empty_clause(clauses),
     }
 }
@@ -143,25 +198,20 @@ fn empty_clause(clauses: &Clauses) -> Option<Reason>
     None
 }
 
-// The first reason that holds, where all that hold speak of the variable.
-fn reason_by(
-    clauses: &Clauses,
-    occurrences: &Occurrences,
-    trail: &Trail,
-    var: usize,
-) -> Option<Reason>
-    requires known { var < var_count clauses.now.cells }
-    requires index { IsIndexOf clauses.now occurrences.now }
-    requires quiet { QuietBut clauses.now trail.now.path var }
+// The first reason that holds, where all that hold speak of the variable of the last split.
+fn reason_by(clauses: &Clauses, guards: &Places, trail: &Trail, last: Literal) -> Option<Reason>
+    requires known { last.var < var_count clauses.now.cells }
+    requires guarded { IsGuardedBut clauses.now (list_of guards.now) trail.now.path (opposite_of last) }
+    requires quiet { QuietBut clauses.now trail.now.path last.var }
     ensures found { IfSome result (Holds clauses.now trail.now.path) }
     ensures none { IfNone result (NoReason clauses.now trail.now.path) }
 {
-    if let Some(at) = false_clause(clauses, trail, occurrences.of(var)) {
+    if let Some(at) = false_clause(clauses, trail, guards.of(opposite(last))) {
         return Some(Reason::Clause(at));
     }
-    let cell = clauses.cell_of(var);
-    if trail.gives(var, true) {
-        return pair_with(clauses, trail, cell, var);
+    let cell = clauses.cell_of(last.var);
+    if trail.gives(last.var, true) {
+        return pair_with(clauses, trail, cell, last.var);
     }
     if holds(clauses, trail, Reason::NoneOf(cell)) {
         return Some(Reason::NoneOf(cell));
@@ -169,17 +219,43 @@ fn reason_by(
     None
 }
 
+// The least of the clauses that are false. They stand in no order.
 fn false_clause(clauses: &Clauses, trail: &Trail, places: &[usize]) -> Option<usize>
     ensures found { IfSome result (λ at. Holds clauses.now trail.now.path (Reason.Clause at)) }
     ensures none { IfNone result
         (All (λ at. Holds clauses.now trail.now.path (Reason.Clause at) → ⊥) places.now) }
 {
+    let mut least = None;
     for at in places {
-        if holds(clauses, trail, Reason::Clause(*at)) {
-            return Some(*at);
-        }
+        least = lesser(clauses, trail, least, *at);
     }
-    None
+    least
+}
+
+// The clause where it is false and less than the least so far.
+fn lesser(clauses: &Clauses, trail: &Trail, least: Option<usize>, at: usize) -> Option<usize>
+    requires { IfSome least (λ at. Holds clauses.now trail.now.path (Reason.Clause at)) }
+    ensures found { IfSome result (λ at. Holds clauses.now trail.now.path (Reason.Clause at)) }
+    ensures none { IfNone result
+        ((least ≡ None) × (Holds clauses.now trail.now.path (Reason.Clause at) → ⊥)) }
+{
+    if is_at_most(least, at) {
+        return least;
+    }
+    if holds(clauses, trail, Reason::Clause(at)) {
+        Some(at)
+    } else {
+        least
+    }
+}
+
+fn is_at_most(least: Option<usize>, at: usize) -> bool
+    ensures { IsTrue result → least ≢ None }
+{
+    match least {
+        Some(least) => least <= at,
+        None => false,
+    }
 }
 
 // Two true variables of the cell, one of them the given one, which is true.
@@ -219,9 +295,9 @@ fn other_true(cell: &VarCell, trail: &Trail, var: usize) -> Option<usize>
 }
 
 // The first variable without a value that makes a reason hold at once when it is set, to true or to false.
-fn first_forced(clauses: &Clauses, occurrences: &Occurrences, trail: &mut Trail) -> Option<usize>
+fn first_forced(clauses: &Clauses, guards: &Places, trail: &mut Trail) -> Option<usize>
     requires vars { trail.old.vars ≡ var_count clauses.now.cells }
-    requires index { IsIndexOf clauses.now occurrences.now }
+    requires guarded { IsGuarded clauses.now (list_of guards.now) trail.old.path }
     requires quiet { NoReason clauses.now trail.old.path }
     ensures open { IfSome result (IsOpen clauses.now trail.old.path) }
     ensures forced { IfSome result (IsForced clauses.now trail.old.path) }
@@ -229,16 +305,16 @@ fn first_forced(clauses: &Clauses, occurrences: &Occurrences, trail: &mut Trail)
     ensures trail { trail.new ≡ trail.old }
 {
     for var in 0..clauses.vars() {
-        if trail.value(var).is_none() && is_forced(clauses, occurrences, trail, var) {
+        if trail.value(var).is_none() && is_forced(clauses, guards, trail, var) {
             return Some(var);
         }
     }
     None
 }
 
-fn is_forced(clauses: &Clauses, occurrences: &Occurrences, trail: &mut Trail, var: usize) -> bool
+fn is_forced(clauses: &Clauses, guards: &Places, trail: &mut Trail, var: usize) -> bool
     requires vars { trail.old.vars ≡ var_count clauses.now.cells }
-    requires index { IsIndexOf clauses.now occurrences.now }
+    requires guarded { IsGuarded clauses.now (list_of guards.now) trail.old.path }
     requires quiet { NoReason clauses.now trail.old.path }
     requires open { IsOpen clauses.now trail.old.path var }
     ensures forced { MatchBool result (IsForced clauses.now trail.old.path var)
@@ -249,24 +325,19 @@ fn is_forced(clauses: &Clauses, occurrences: &Occurrences, trail: &mut Trail, va
         var,
         positive: true,
     };
-    if makes_reason(clauses, occurrences, trail, literal) {
+    if makes_reason(clauses, guards, trail, literal) {
         return true;
     }
     let literal = Literal {
         var,
         positive: false,
     };
-    makes_reason(clauses, occurrences, trail, literal)
+    makes_reason(clauses, guards, trail, literal)
 }
 
-fn makes_reason(
-    clauses: &Clauses,
-    occurrences: &Occurrences,
-    trail: &mut Trail,
-    literal: Literal,
-) -> bool
+fn makes_reason(clauses: &Clauses, guards: &Places, trail: &mut Trail, literal: Literal) -> bool
     requires vars { trail.old.vars ≡ var_count clauses.now.cells }
-    requires index { IsIndexOf clauses.now occurrences.now }
+    requires guarded { IsGuarded clauses.now (list_of guards.now) trail.old.path }
     requires quiet { NoReason clauses.now trail.old.path }
     requires open { IsOpen clauses.now trail.old.path literal.var }
     ensures made { MatchBool result ((reason : Reason) × Holds clauses.now (literal ∷ trail.old.path) reason)
@@ -274,7 +345,7 @@ fn makes_reason(
     ensures trail { trail.new ≡ trail.old }
 {
     trail.push(literal);
-    let reason = reason_by(clauses, occurrences, trail, literal.var);
+    let reason = reason_by(clauses, guards, trail, literal);
     let _ = trail.pop();
     reason.is_some()
 }
@@ -312,8 +383,8 @@ fn wanted_in(cell: &VarCell, trail: &Trail) -> Option<usize>
     first_open(cell, trail)
 }
 
-/// Whether the path makes a variable of the cell true.
-pub fn has_true(cell: &VarCell, trail: &Trail) -> bool
+// Whether the path makes a variable of the cell true.
+fn has_true(cell: &VarCell, trail: &Trail) -> bool
     requires { cell.now.first + cell.now.count < 2 ^ 64 }
     ensures { MatchBool result (HasTrue trail.now.path cell.now) (HasTrue trail.now.path cell.now → ⊥) }
 {

@@ -207,11 +207,12 @@ fn small_clause_sets(rt: HostRuntime) -> Result<(), AllocError> {
     let both = clause_set(&rt, alloc, &[(1, false)], &[&[(0, true), (0, false)]])?;
     assert_eq!(rt; model(&rt, alloc, &both)?.as_slice(), [false].as_slice());
 
+    // Of two false clauses the first is told.
     let cells_of_one = clause_set(
         &rt,
         alloc,
         &[(1, true), (1, true)],
-        &[&[(0, false), (1, false)]],
+        &[&[(0, false), (1, false)], &[(0, false), (1, false)]],
     )?;
     let nodes = [
         Node::Split(0),

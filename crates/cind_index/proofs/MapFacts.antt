@@ -11,8 +11,7 @@ use Rattle.std.specs.Str.{bytes_eq}
 use Rattle.std.proofs.lemmas.Map.Text.{is_eq-slice_cmp}
 use Rattle.std.proofs.lemmas.Slice.Eq.{bytes_eq-Decides}
 use Rattle.cind_index.specs.declared.row_set.RowSet.{RowSet}
-use Rattle.cind_index.specs.declared.side_rows.SideRows.TheVariants.{Several}
-use Rattle.cind_index.specs.RowsHeld.{Patterns, rows_for, in_map, is_in, HasRowMore, HasRowLess, HaveTheSame}
+use Rattle.cind_index.specs.RowsHeld.{Patterns, rows_for, in_map, is_in, IsMore, IsLess, IsSame}
 
 -- ---- results
 
@@ -73,13 +72,13 @@ module _ (old new : Patterns) (pattern : List ℕ) (row : ℕ) (was now : Option
           ∙ ap (λ rows. test true other (among rows other)) (sym (ap (rows_for old) (equal_lists ids pattern e) ∙ at))
       by false e = ap (λ rows. among rows other) (updated ids ∙ ap (λ b. cond b now (rows_for old ids)) e) ∙ beside other (in_map old ids other)
 
-  pub one_more : ((other : ℕ) → among now other ≡ (other == row || among was other)) → HasRowMore pattern row (Several old) (Several new)
+  pub one_more : ((other : ℕ) → among now other ≡ (other == row || among was other)) → IsMore pattern row (in_map old) (in_map new)
   one_more here = changed (λ b other held. (b && other == row) || held) (λ ids other e. here other) (λ other held. refl)
 
-  pub one_less : ((other : ℕ) → among now other ≡ (not (other == row) && among was other)) → HasRowLess pattern row (Several old) (Several new)
+  pub one_less : ((other : ℕ) → among now other ≡ (not (other == row) && among was other)) → IsLess pattern row (in_map old) (in_map new)
   one_less here = changed (λ b other held. not (b && other == row) && held) (λ ids other e. here other) (λ other held. refl)
 
-  pub as_many : ((other : ℕ) → among now other ≡ among was other) → HaveTheSame (Several old) (Several new)
+  pub as_many : ((other : ℕ) → among now other ≡ among was other) → IsSame (in_map old) (in_map new)
   as_many here = changed (λ b other held. held) (λ ids other e. here other) (λ other held. refl)
 
   pub beside_same : (ids : List ℕ) → bytes_eq ids pattern ≡ false → rows_for new ids ≡ rows_for old ids
@@ -103,7 +102,7 @@ beside_held old new held pattern rows row apart had updated ids other = by (byte
 
 -- rows of which none is left go away with their pattern values
 pub last_less : (old mid new : Patterns) (pattern : List ℕ) (row : ℕ) → ((other : ℕ) → (not (other == row) && in_map old pattern other) ≡ false) → ((ids : List ℕ) → bytes_eq ids pattern ≡ false → rows_for mid ids ≡ rows_for old ids)
-    → ((ids : List ℕ) → rows_for new ids ≡ cond (bytes_eq ids pattern) None (rows_for mid ids)) → HasRowLess pattern row (Several old) (Several new)
+    → ((ids : List ℕ) → rows_for new ids ≡ cond (bytes_eq ids pattern) None (rows_for mid ids)) → IsLess pattern row (in_map old) (in_map new)
 last_less old mid new pattern row none others updated ids other = by (bytes_eq ids pattern) refl
   where
     by : (b : Bool) → bytes_eq ids pattern ≡ b → in_map new ids other ≡ (not (b && other == row) && in_map old ids other)

@@ -15,9 +15,11 @@ use Rattle.cind_index.specs.declared.side.Side.TheVariants.{Left, Right}
 use Rattle.cind_index.specs.declared.row_set.RowSet.{RowSet}
 use Rattle.cind_index.specs.declared.row_set.RowSet.TheVariants.{One, More}
 use Rattle.cind_index.specs.declared.side_rows.SideRows.{SideRows}
-use Rattle.cind_index.specs.declared.side_rows.SideRows.TheVariants.{Empty, Single, Several}
+use Rattle.cind_index.specs.declared.side_rows.SideRows.TheVariants.{Empty, Lone, Rows}
+use Rattle.cind_index.specs.declared.pattern_rows.PatternRows.{PatternRows}
+use Rattle.cind_index.specs.declared.pattern_rows.PatternRows.TheVariants.{Nothing, Single, Several}
 use Rattle.cind_index.specs.declared.key_rows.KeyRows.{KeyRows}
-use Rattle.cind_index.specs.RowsHeld.{is_in, is_filled, rows_for, has, has_some, lacks_answer, is_dirty, HaveTheSame, ChangesOn}
+use Rattle.cind_index.specs.RowsHeld.{is_in, is_filled, rows_for, has_by, has_some_by, has, has_some, lacks_answer, is_dirty, HaveTheSame, ChangesOn}
 use Rattle.cind_index.proofs.PairFacts.{same_truth}
 
 -- ---- lists of row ids
@@ -74,9 +76,9 @@ among_some : (found : Option RowSet) → (option_map_or is_filled found false �
 among_some None = ((λ some. absurd (cc)), (λ one. absurd (let no = one.1 in cc)))
 among_some (Some rows) = some_in rows
 
-pub some_row : (rows : SideRows) (pattern : List ℕ) → (has_some rows pattern ≡ true) ↔ ((row : ℕ) × (has rows pattern row ≡ true))
-some_row Empty pattern = ((λ some. absurd (cc)), (λ one. absurd (let no = one.1 in cc)))
-some_row (Single held rows) pattern = (
+some_by : (rows : PatternRows) (pattern : List ℕ) → (has_some_by rows pattern ≡ true) ↔ ((row : ℕ) × (has_by rows pattern row ≡ true))
+some_by Nothing pattern = ((λ some. absurd (cc)), (λ one. absurd (let no = one.1 in cc)))
+some_by (Single held rows) pattern = (
   (λ some.
       let both = both_true (bytes_eq pattern held.items) (is_filled rows) some in
       let one = (some_in rows).0 both.1 in
@@ -85,7 +87,15 @@ some_row (Single held rows) pattern = (
       let both = both_true (bytes_eq pattern held.items) (is_in rows one.0) one.1 in
       ap (λ b. b && is_filled rows) both.0 ∙ (some_in rows).1 (one.0, both.1)),
 )
-some_row (Several patterns) pattern = among_some (rows_for patterns pattern)
+some_by (Several patterns) pattern = among_some (rows_for patterns pattern)
+
+pub some_row : (rows : SideRows) (pattern : List ℕ) → (has_some rows pattern ≡ true) ↔ ((row : ℕ) × (has rows pattern row ≡ true))
+some_row Empty pattern = ((λ some. absurd (cc)), (λ one. absurd (let no = one.1 in cc)))
+some_row (Lone own) pattern = (
+  (λ some. (own, ap (λ b. b && own == own) some ∙ number_itself own)),
+  (λ one. (both_true (bytes_eq pattern []) (one.0 == own) one.1).0),
+)
+some_row (Rows rows) pattern = some_by rows.value pattern
 
 pub same_some : (old new : SideRows) → HaveTheSame old new → (pattern : List ℕ) → has_some new pattern ≡ has_some old pattern
 same_some old new same pattern =

@@ -1,5 +1,5 @@
 -- The rows of one side with one key, by their pattern values; and the rows of both sides with one key.
-use Rattle.std.specs.Prelude.{◌≡◌, ℕ, ◌==◌, ◌&&◌, ◌||◌, not, nat_lt, Bool, true, false, List, Option, length}
+use Rattle.std.specs.Prelude.{◌≡◌, ℕ, ◌==◌, ◌&&◌, ◌||◌, not, nat_lt, Bool, true, false, List, [], Option, length}
 use Rattle.std.specs.List.{list_any}
 use Rattle.std.specs.Option.{option_map_or}
 use Rattle.std.specs.Ordering.{nat_cmp}
@@ -15,7 +15,9 @@ use Rattle.cind_index.specs.declared.side.Side.TheVariants.{Left, Right}
 use Rattle.cind_index.specs.declared.row_set.RowSet.{RowSet}
 use Rattle.cind_index.specs.declared.row_set.RowSet.TheVariants.{One, More}
 use Rattle.cind_index.specs.declared.side_rows.SideRows.{SideRows}
-use Rattle.cind_index.specs.declared.side_rows.SideRows.TheVariants.{Empty, Single, Several}
+use Rattle.cind_index.specs.declared.side_rows.SideRows.TheVariants.{Empty, Lone, Rows}
+use Rattle.cind_index.specs.declared.pattern_rows.PatternRows.{PatternRows}
+use Rattle.cind_index.specs.declared.pattern_rows.PatternRows.TheVariants.{Nothing, Single, Several}
 use Rattle.cind_index.specs.declared.key_rows.KeyRows.{KeyRows}
 
 -- rows by their pattern values, as the code keeps them
@@ -39,28 +41,53 @@ abbrev pub in_map : Patterns → List ℕ → ℕ → Bool
 in_map patterns pattern row = option_map_or (λ rows. is_in rows row) (rows_for patterns pattern) false
 
 -- whether the row is held with these pattern values, and whether any row is
+abbrev pub has_by : PatternRows → List ℕ → ℕ → Bool
+has_by Nothing pattern row = false
+has_by (Single held rows) pattern row = bytes_eq pattern held.items && is_in rows row
+has_by (Several patterns) pattern row = in_map patterns pattern row
+
+abbrev pub has_some_by : PatternRows → List ℕ → Bool
+has_some_by Nothing pattern = false
+has_some_by (Single held rows) pattern = bytes_eq pattern held.items && is_filled rows
+has_some_by (Several patterns) pattern = option_map_or is_filled (rows_for patterns pattern) false
+
+-- the same of a side, where a lone row has no pattern values
 abbrev pub has : SideRows → List ℕ → ℕ → Bool
 has Empty pattern row = false
-has (Single held rows) pattern row = bytes_eq pattern held.items && is_in rows row
-has (Several patterns) pattern row = in_map patterns pattern row
+has (Lone own) pattern row = bytes_eq pattern [] && row == own
+has (Rows rows) pattern row = has_by rows.value pattern row
 
 abbrev pub has_some : SideRows → List ℕ → Bool
 has_some Empty pattern = false
-has_some (Single held rows) pattern = bytes_eq pattern held.items && is_filled rows
-has_some (Several patterns) pattern = option_map_or is_filled (rows_for patterns pattern) false
+has_some (Lone own) pattern = bytes_eq pattern []
+has_some (Rows rows) pattern = has_some_by rows.value pattern
 
 -- ---- changes
 
 -- the row came in with these pattern values, or went away with them, and nothing else changed
-abbrev pub HasRowMore : List ℕ → ℕ → SideRows → SideRows → Type 0
-HasRowMore pattern row old new = (ids : List ℕ) (other : ℕ) → has new ids other ≡ ((bytes_eq ids pattern && other == row) || has old ids other)
+abbrev pub IsMore : List ℕ → ℕ → (List ℕ → ℕ → Bool) → (List ℕ → ℕ → Bool) → Type 0
+IsMore pattern row old new = (ids : List ℕ) (other : ℕ) → new ids other ≡ ((bytes_eq ids pattern && other == row) || old ids other)
 
-abbrev pub HasRowLess : List ℕ → ℕ → SideRows → SideRows → Type 0
-HasRowLess pattern row old new = (ids : List ℕ) (other : ℕ) → has new ids other ≡ (not (bytes_eq ids pattern && other == row) && has old ids other)
+abbrev pub IsLess : List ℕ → ℕ → (List ℕ → ℕ → Bool) → (List ℕ → ℕ → Bool) → Type 0
+IsLess pattern row old new = (ids : List ℕ) (other : ℕ) → new ids other ≡ (not (bytes_eq ids pattern && other == row) && old ids other)
 
 -- the same rows are held with the same pattern values
+abbrev pub IsSame : (List ℕ → ℕ → Bool) → (List ℕ → ℕ → Bool) → Type 0
+IsSame old new = (ids : List ℕ) (other : ℕ) → new ids other ≡ old ids other
+
+-- the row is held with these pattern values, and no other
+abbrev pub IsOnly : List ℕ → ℕ → (List ℕ → ℕ → Bool) → Type 0
+IsOnly pattern row held = (ids : List ℕ) (other : ℕ) → held ids other ≡ (bytes_eq ids pattern && other == row)
+
+-- the same of a side
+abbrev pub HasRowMore : List ℕ → ℕ → SideRows → SideRows → Type 0
+HasRowMore pattern row old new = IsMore pattern row (has old) (has new)
+
+abbrev pub HasRowLess : List ℕ → ℕ → SideRows → SideRows → Type 0
+HasRowLess pattern row old new = IsLess pattern row (has old) (has new)
+
 abbrev pub HaveTheSame : SideRows → SideRows → Type 0
-HaveTheSame old new = (ids : List ℕ) (other : ℕ) → has new ids other ≡ has old ids other
+HaveTheSame old new = IsSame (has old) (has new)
 
 abbrev pub HasNothing : SideRows → Type 0
 HasNothing rows = (ids : List ℕ) (row : ℕ) → has rows ids row ≡ false

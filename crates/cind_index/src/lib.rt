@@ -10,6 +10,7 @@ mod ids;
 mod index;
 mod key_rows;
 mod keys;
+mod pattern_rows;
 mod row_set;
 mod side;
 mod side_rows;

@@ -1,5 +1,5 @@
 //! The ids of the rows that have the same key and the same pattern values. A lone row stands in place, without memory.
-ghost use Rattle.std.specs.Prelude.{◌≡◌, ◌⊎◌, ◌==◌, ◌&&◌, ◌||◌, ◌++◌, ℕ, not, false, ◌↔◌, IsTrue, IfOk, OnOk, OnErr, Contains};
+ghost use Rattle.std.specs.Prelude.{◌≡◌, ◌⊎◌, ◌==◌, ◌&&◌, ◌||◌, ◌++◌, [], ◌∷◌, ℕ, not, false, ◌↔◌, IsTrue, IfOk, IfSome, OnOk, OnErr, Contains};
 ghost use Rattle.cind_index.specs.RowsHeld.{is_in, is_filled};
 
 use row_store::RowId;
@@ -51,7 +51,11 @@ impl RowSet {
             RowSet::One(held) => *held == row,
             RowSet::More(rows) => {
                 rows.remove(&row);
-                rows.is_empty()
+                let Some(only) = lone(rows) else {
+                    return rows.is_empty();
+                };
+                *self = RowSet::One(only);
+                false
             }
         }
     }
@@ -68,6 +72,16 @@ impl RowSet {
             RowSet::More(rows) => push_all(rows, found),
         }
     }
+}
+
+// The row that stands there by itself.
+fn lone(rows: &BTreeSet<RowId>) -> Option<RowId>
+    ensures { IfSome result (λ only. rows.now.keys ≡ only ∷ []) }
+{
+    if rows.len() != 1 {
+        return None;
+    }
+    rows.first().copied()
 }
 
 fn set_of_two(alloc: Global, one: RowId, other: RowId) -> Result<BTreeSet<RowId>, AllocError>

@@ -1,23 +1,20 @@
-//! The rows of one side with one key, by their pattern values. Where all have the same ones, the rows stand in place, without
-//! a map.
-ghost use Rattle.std.specs.Prelude.{◌≡◌, ◌⊎◌, true, false, option_copied, ◌==◌, ◌&&◌, ◌||◌, ℕ, List, not, ◌↔◌, IsTrue, IfOk, OnOk, OnErr, Contains};
-ghost use Rattle.std.specs.Option.{option_map_or};
+//! The rows of one side with one key. A lone row without pattern values stands in place, without memory; others stand by
+//! their pattern values, in a box of their own.
+ghost use Rattle.std.specs.Prelude.{◌≡◌, ◌⊎◌, ◌==◌, ◌&&◌, [], ℕ, List, not, ◌↔◌, IsTrue, IfOk, OnOk, OnErr, Contains};
 ghost use Rattle.std.specs.Str.{bytes_eq};
-ghost use Rattle.cind_index.specs.RowsHeld.{is_in, is_filled, rows_for, in_map, has, has_some, HasRowMore, HasRowLess, HaveTheSame, HasNothing};
+ghost use Rattle.cind_index.specs.RowsHeld.{has, has_some, HasRowMore, HasRowLess, HaveTheSame, HasNothing, IsOnly, IsMore};
 
+use crate::pattern_rows::PatternRows;
 use crate::row_set::RowSet;
 use row_store::RowId;
 use std::alloc::{AllocError, Global};
-use std::collections::BTreeMap;
 use value_pool::ValueId;
-
-pub(crate) type Patterns = BTreeMap<Vec<ValueId>, RowSet>;
 
 #[derive(Drop)]
 pub(crate) enum SideRows {
     Empty,
-    Single(Vec<ValueId>, RowSet),
-    Several(Patterns),
+    Lone(RowId),
+    Rows(Box<PatternRows>),
 }
 
 impl SideRows {
@@ -27,8 +24,8 @@ impl SideRows {
     {
         match self {
             SideRows::Empty => true,
-            SideRows::Single(_, _) => false,
-            SideRows::Several(patterns) => patterns.is_empty(),
+            SideRows::Lone(_) => false,
+            SideRows::Rows(rows) => rows.is_empty(),
         }
     }
 
@@ -36,9 +33,10 @@ impl SideRows {
     pub(crate) fn has_some(&self, pattern: &[ValueId]) -> bool
         ensures { result ≡ has_some self.now pattern.now }
     {
-        match self.rows_with(pattern) {
-            Some(rows) => rows.is_filled(),
-            None => false,
+        match self {
+            SideRows::Empty => false,
+            SideRows::Lone(_) => pattern.is_empty(),
+            SideRows::Rows(rows) => rows.has_some(pattern),
         }
     }
 
@@ -50,9 +48,10 @@ impl SideRows {
     ) -> Result<(), AllocError>
         ensures { OnOk result ((row : ℕ) → Contains found.new.items row ↔ (Contains found.old.items row ⊎ IsTrue (has self.now pattern.now row))) }
     {
-        match self.rows_with(pattern) {
-            Some(rows) => rows.push_rows(found),
-            None => Ok(()),
+        match self {
+            SideRows::Empty => Ok(()),
+            SideRows::Lone(own) => push_lone(*own, pattern, found),
+            SideRows::Rows(rows) => rows.push_rows(pattern, found),
         }
     }
 
@@ -67,26 +66,20 @@ impl SideRows {
         ensures new { IfOk result (λ added. added ≡ not (has self.old pattern.now row)) }
         ensures err { OnErr result (HaveTheSame self.old self.new) }
     {
-        match std::mem::replace(self, SideRows::Empty) {
+        match self {
             SideRows::Empty => {
-                *self = SideRows::Single(Vec::from_slice(alloc, pattern)?, RowSet::One(row));
+                *self = first_row(alloc, pattern, row)?;
                 Ok(true)
             }
-            SideRows::Single(held, mut rows) => {
-                if held.as_slice() == pattern {
-                    let added = rows.put(alloc, row);
-                    *self = SideRows::Single(held, rows);
-                    return added;
+            SideRows::Lone(own) => {
+                let own = *own;
+                if pattern.is_empty() && own == row {
+                    return Ok(false);
                 }
-                let (rows, added) = put_beside(alloc, held, rows, pattern, row);
-                *self = rows;
-                added
+                *self = two_rows(alloc, own, pattern, row)?;
+                Ok(true)
             }
-            SideRows::Several(mut patterns) => {
-                let added = put_in_map(&mut patterns, alloc, pattern, row);
-                *self = SideRows::Several(patterns);
-                added
-            }
+            SideRows::Rows(rows) => rows.put(alloc, pattern, row),
         }
     }
 
@@ -96,93 +89,52 @@ impl SideRows {
     {
         match self {
             SideRows::Empty => {}
-            SideRows::Single(held, rows) => {
-                if held.as_slice() == pattern && rows.take(row) {
+            SideRows::Lone(own) => {
+                if pattern.is_empty() && *own == row {
                     *self = SideRows::Empty;
                 }
             }
-            SideRows::Several(patterns) => take_from_map(patterns, pattern, row),
-        }
-    }
-
-    // The rows with these pattern values, if there are any.
-    fn rows_with(&self, pattern: &[ValueId]) -> Option<&RowSet>
-        ensures some { has_some self.now pattern.now ≡ option_map_or is_filled (option_copied result) false }
-        ensures has { (row : ℕ) → has self.now pattern.now row ≡ option_map_or (λ rows. is_in rows row) (option_copied result) false }
-    {
-        match self {
-            SideRows::Empty => None,
-            SideRows::Single(held, rows) => {
-                if held.as_slice() == pattern {
-                    Some(rows)
-                } else {
-                    None
+            SideRows::Rows(rows) => {
+                rows.take(pattern, row);
+                if let Some(own) = rows.lone() {
+                    *self = SideRows::Lone(own);
+                } else if rows.is_empty() {
+                    *self = SideRows::Empty;
                 }
             }
-            SideRows::Several(patterns) => patterns.get(pattern),
         }
     }
 }
 
-// Rows that stand in place, and one with other pattern values: both in a map, or after a refusal what there was.
-fn put_beside(
+fn push_lone(own: RowId, pattern: &[ValueId], found: &mut Vec<RowId>) -> Result<(), AllocError>
+    ensures { OnOk result ((row : ℕ) → Contains found.new.items row ↔ (Contains found.old.items row ⊎ IsTrue (bytes_eq pattern.now [] && row == own))) }
+{
+    if pattern.is_empty() {
+        found.push(own)?;
+    }
+    Ok(())
+}
+
+fn first_row(alloc: Global, pattern: &[ValueId], row: RowId) -> Result<SideRows, AllocError>
+    ensures { IfOk result (λ rows. IsOnly pattern.now row (has rows)) }
+{
+    if pattern.is_empty() {
+        return Ok(SideRows::Lone(row));
+    }
+    let rows = PatternRows::Single(Vec::from_slice(alloc, pattern)?, RowSet::One(row));
+    Ok(SideRows::Rows(Box::new(alloc, rows)?))
+}
+
+// A row without pattern values, and one more.
+fn two_rows(
     alloc: Global,
-    held: Vec<ValueId>,
-    rows: RowSet,
+    own: RowId,
     pattern: &[ValueId],
     row: RowId,
-) -> (SideRows, Result<bool, AllocError>)
-    requires { bytes_eq pattern.now held.items ≡ false }
-    ensures ok { OnOk result.1 (HasRowMore pattern.now row (SideRows.Single held rows) result.0) }
-    ensures new { IfOk result.1 (λ added. added ≡ true) }
-    ensures err { OnErr result.1 (result.0 ≡ SideRows.Single held rows) }
+) -> Result<SideRows, AllocError>
+    ensures { IfOk result (λ rows. IsMore pattern.now row (has (SideRows.Lone own)) (has rows)) }
 {
-    let mut patterns = BTreeMap::new(alloc);
-    if put_in_map(&mut patterns, alloc, pattern, row).is_err() {
-        return (SideRows::Single(held, rows), Err(AllocError));
-    }
-    match patterns.insert(held, rows) {
-        Ok(_) => (SideRows::Several(patterns), Ok(true)),
-        Err(refused) => {
-            let (held, rows) = refused.value;
-            (SideRows::Single(held, rows), Err(AllocError))
-        }
-    }
-}
-
-fn put_in_map(
-    patterns: &mut Patterns,
-    alloc: Global,
-    pattern: &[ValueId],
-    row: RowId,
-) -> Result<bool, AllocError>
-    ensures ok { OnOk result (HasRowMore pattern.now row (SideRows.Several patterns.old) (SideRows.Several patterns.new)) }
-    ensures new { IfOk result (λ added. added ≡ not (in_map patterns.old pattern.now row)) }
-    ensures err { OnErr result (HaveTheSame (SideRows.Several patterns.old) (SideRows.Several patterns.new)) }
-{
-    if let Some(rows) = patterns.get_mut(pattern) {
-        return rows.put(alloc, row);
-    }
-    patterns.insert(Vec::from_slice(alloc, pattern)?, RowSet::One(row))?;
-    Ok(true)
-}
-
-fn take_from_map(patterns: &mut Patterns, pattern: &[ValueId], row: RowId)
-    ensures { HasRowLess pattern.now row (SideRows.Several patterns.old) (SideRows.Several patterns.new) }
-{
-    if take_in_map(patterns, pattern, row) {
-        patterns.remove(pattern);
-    }
-}
-
-// Takes the row away from those with its pattern values, and tells whether no other is left there.
-fn take_in_map(patterns: &mut Patterns, pattern: &[ValueId], row: RowId) -> bool
-    ensures left { result ≡ false → HasRowLess pattern.now row (SideRows.Several patterns.old) (SideRows.Several patterns.new) }
-    ensures none { result ≡ true → (other : ℕ) → (not (other == row) && in_map patterns.old pattern.now other) ≡ false }
-    ensures others { (ids : List ℕ) → bytes_eq ids pattern.now ≡ false → rows_for patterns.new ids ≡ rows_for patterns.old ids }
-{
-    match patterns.get_mut(pattern) {
-        Some(rows) => rows.take(row),
-        None => false,
-    }
+    let mut rows = PatternRows::Single(Vec::new(alloc), RowSet::One(own));
+    rows.put(alloc, pattern, row)?;
+    Ok(SideRows::Rows(Box::new(alloc, rows)?))
 }

@@ -1,0 +1,198 @@
+//! The rows of one side with one key, by their pattern values. Where all have the same ones, the rows stand in place, without
+//! a map.
+ghost use Rattle.std.specs.Prelude.{◌≡◌, ◌⊎◌, true, false, option_copied, ◌==◌, ◌&&◌, ◌||◌, [], ℕ, List, not, ◌↔◌, IsTrue, IfSome, IfOk, OnOk, OnErr, Contains};
+ghost use Rattle.std.specs.Option.{option_map_or};
+ghost use Rattle.std.specs.Str.{bytes_eq};
+ghost use Rattle.cind_index.specs.RowsHeld.{is_in, is_filled, rows_for, in_map, has_by, has_some_by, IsMore, IsLess, IsSame};
+
+use crate::row_set::RowSet;
+use row_store::RowId;
+use std::alloc::{AllocError, Global};
+use std::collections::BTreeMap;
+use value_pool::ValueId;
+
+pub(crate) type Patterns = BTreeMap<Vec<ValueId>, RowSet>;
+
+#[derive(Drop)]
+pub(crate) enum PatternRows {
+    Nothing,
+    Single(Vec<ValueId>, RowSet),
+    Several(Patterns),
+}
+
+impl PatternRows {
+    /// Whether there is no row.
+    pub(crate) fn is_empty(&self) -> bool
+        ensures { IsTrue result → (ids : List ℕ) (row : ℕ) → has_by self.now ids row ≡ false }
+    {
+        match self {
+            PatternRows::Nothing => true,
+            PatternRows::Single(_, _) => false,
+            PatternRows::Several(patterns) => patterns.is_empty(),
+        }
+    }
+
+    /// Whether some row has these pattern values.
+    pub(crate) fn has_some(&self, pattern: &[ValueId]) -> bool
+        ensures { result ≡ has_some_by self.now pattern.now }
+    {
+        match self.rows_with(pattern) {
+            Some(rows) => rows.is_filled(),
+            None => false,
+        }
+    }
+
+    /// Appends the rows with these pattern values.
+    pub(crate) fn push_rows(
+        &self,
+        pattern: &[ValueId],
+        found: &mut Vec<RowId>,
+    ) -> Result<(), AllocError>
+        ensures { OnOk result ((row : ℕ) → Contains found.new.items row ↔ (Contains found.old.items row ⊎ IsTrue (has_by self.now pattern.now row))) }
+    {
+        match self.rows_with(pattern) {
+            Some(rows) => rows.push_rows(found),
+            None => Ok(()),
+        }
+    }
+
+    /// Puts the row in, and tells whether it is new.
+    pub(crate) fn put(
+        &mut self,
+        alloc: Global,
+        pattern: &[ValueId],
+        row: RowId,
+    ) -> Result<bool, AllocError>
+        ensures ok { OnOk result (IsMore pattern.now row (has_by self.old) (has_by self.new)) }
+        ensures new { IfOk result (λ added. added ≡ not (has_by self.old pattern.now row)) }
+        ensures err { OnErr result (IsSame (has_by self.old) (has_by self.new)) }
+    {
+        match std::mem::replace(self, PatternRows::Nothing) {
+            PatternRows::Nothing => {
+                *self = PatternRows::Single(Vec::from_slice(alloc, pattern)?, RowSet::One(row));
+                Ok(true)
+            }
+            PatternRows::Single(held, mut rows) => {
+                if held.as_slice() == pattern {
+                    let added = rows.put(alloc, row);
+                    *self = PatternRows::Single(held, rows);
+                    return added;
+                }
+                let (rows, added) = put_beside(alloc, held, rows, pattern, row);
+                *self = rows;
+                added
+            }
+            PatternRows::Several(mut patterns) => {
+                let added = put_in_map(&mut patterns, alloc, pattern, row);
+                *self = PatternRows::Several(patterns);
+                added
+            }
+        }
+    }
+
+    /// Takes the row away.
+    pub(crate) fn take(&mut self, pattern: &[ValueId], row: RowId)
+        ensures { IsLess pattern.now row (has_by self.old) (has_by self.new) }
+    {
+        match self {
+            PatternRows::Nothing => {}
+            PatternRows::Single(held, rows) => {
+                if held.as_slice() == pattern && rows.take(row) {
+                    *self = PatternRows::Nothing;
+                }
+            }
+            PatternRows::Several(patterns) => take_from_map(patterns, pattern, row),
+        }
+    }
+
+    // The rows with these pattern values, if there are any.
+    fn rows_with(&self, pattern: &[ValueId]) -> Option<&RowSet>
+        ensures some { has_some_by self.now pattern.now ≡ option_map_or is_filled (option_copied result) false }
+        ensures has { (row : ℕ) → has_by self.now pattern.now row ≡ option_map_or (λ rows. is_in rows row) (option_copied result) false }
+    {
+        match self {
+            PatternRows::Nothing => None,
+            PatternRows::Single(held, rows) => {
+                if held.as_slice() == pattern {
+                    Some(rows)
+                } else {
+                    None
+                }
+            }
+            PatternRows::Several(patterns) => patterns.get(pattern),
+        }
+    }
+
+    /// The row that is there by itself, where it has no pattern values.
+    pub(crate) fn lone(&self) -> Option<RowId>
+        ensures { IfSome result (λ own. (ids : List ℕ) (other : ℕ) → has_by self.now ids other ≡ (bytes_eq ids [] && other == own)) }
+    {
+        match self {
+            PatternRows::Single(held, RowSet::One(own)) if held.is_empty() => Some(*own),
+            _ => None,
+        }
+    }
+}
+
+// Rows that stand in place, and one with other pattern values: both in a map, or after a refusal what there was.
+fn put_beside(
+    alloc: Global,
+    held: Vec<ValueId>,
+    rows: RowSet,
+    pattern: &[ValueId],
+    row: RowId,
+) -> (PatternRows, Result<bool, AllocError>)
+    requires { bytes_eq pattern.now held.items ≡ false }
+    ensures ok { OnOk result.1 (IsMore pattern.now row (has_by (PatternRows.Single held rows)) (has_by result.0)) }
+    ensures new { IfOk result.1 (λ added. added ≡ true) }
+    ensures err { OnErr result.1 (result.0 ≡ PatternRows.Single held rows) }
+{
+    let mut patterns = BTreeMap::new(alloc);
+    if put_in_map(&mut patterns, alloc, pattern, row).is_err() {
+        return (PatternRows::Single(held, rows), Err(AllocError));
+    }
+    match patterns.insert(held, rows) {
+        Ok(_) => (PatternRows::Several(patterns), Ok(true)),
+        Err(refused) => {
+            let (held, rows) = refused.value;
+            (PatternRows::Single(held, rows), Err(AllocError))
+        }
+    }
+}
+
+fn put_in_map(
+    patterns: &mut Patterns,
+    alloc: Global,
+    pattern: &[ValueId],
+    row: RowId,
+) -> Result<bool, AllocError>
+    ensures ok { OnOk result (IsMore pattern.now row (in_map patterns.old) (in_map patterns.new)) }
+    ensures new { IfOk result (λ added. added ≡ not (in_map patterns.old pattern.now row)) }
+    ensures err { OnErr result (IsSame (in_map patterns.old) (in_map patterns.new)) }
+{
+    if let Some(rows) = patterns.get_mut(pattern) {
+        return rows.put(alloc, row);
+    }
+    patterns.insert(Vec::from_slice(alloc, pattern)?, RowSet::One(row))?;
+    Ok(true)
+}
+
+fn take_from_map(patterns: &mut Patterns, pattern: &[ValueId], row: RowId)
+    ensures { IsLess pattern.now row (in_map patterns.old) (in_map patterns.new) }
+{
+    if take_in_map(patterns, pattern, row) {
+        patterns.remove(pattern);
+    }
+}
+
+// Takes the row away from those with its pattern values, and tells whether no other is left there.
+fn take_in_map(patterns: &mut Patterns, pattern: &[ValueId], row: RowId) -> bool
+    ensures left { result ≡ false → IsLess pattern.now row (in_map patterns.old) (in_map patterns.new) }
+    ensures none { result ≡ true → (other : ℕ) → (not (other == row) && in_map patterns.old pattern.now other) ≡ false }
+    ensures others { (ids : List ℕ) → bytes_eq ids pattern.now ≡ false → rows_for patterns.new ids ≡ rows_for patterns.old ids }
+{
+    match patterns.get_mut(pattern) {
+        Some(rows) => rows.take(row),
+        None => false,
+    }
+}
