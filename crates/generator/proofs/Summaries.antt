@@ -1,5 +1,5 @@
 -- What is told of the edits, put together from its parts.
-use Rattle.std.proofs.Common.{◌≡◌, ℕ, List, [], ◌∷◌, ◌++◌, length, unwrap_or, Some, Result, Ok, Err, IfOk, OnOk, codes, sym, ap, subst, ◌∙◌}
+use Rattle.std.proofs.Common.{◌≡◌, ℕ, List, [], ◌∷◌, ◌++◌, length, unwrap_or, Some, Result, Ok, Err, IfOk, OnOk, codes, ap, subst, ◌∙◌}
 use Rattle.schema_core.specs.Limits.{standard}
 use Rattle.schema_core.specs.declared.limits.Limits.{Limits}
 use Rattle.shelf_io.specs.Transcript.{Answers}

@@ -1,6 +1,6 @@
 use Rattle.std.proofs.Common.{[], ◌∷◌, Some, refl, ◌∙◌}
 use Rattle.shelf_io.specs.Transcript.{Answers}
-use Rattle.shelf_io.proofs.Transcripts.{answers-all, answers-more, answers-none}
+use Rattle.shelf_io.proofs.Transcripts.{answers-more, answers-none}
 use Rattle.session.proofs.SameRules.{under_same}
 use Rattle.generator.specs.Summary.{IsThousand}
 use Rattle.generator.proofs.summary.make_all.Goals as goal
