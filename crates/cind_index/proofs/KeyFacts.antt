@@ -1,8 +1,6 @@
 -- What a change of one key's rows makes of the two sets of entries and of the marks.
 use Rattle.std.proofs.Common.{◌≡◌, ◌≢◌, ℕ, zero, suc, ◌+◌, ◌-◌, ◌<◌, ◌≤◌, ◌⊎◌, Bool, true, false, not, ◌&&◌, ◌||◌, List, [], ◌∷◌, ◌++◌, length, swap, slice_get, Option, Some, None, Result, Ok, Err, OnErr, refl, sym, ap, ◌∙◌, subst, inl, inr, arith}
 use Rattle.std.specs.Prelude.{◌==◌, IsSomeAnd}
-use Rattle.std.specs.declared.vec.Vec.{Vec}
-use Rattle.std.specs.declared.alloc.Global.{Global}
 use Rattle.std.specs.List.{list_any}
 use Rattle.std.specs.Map.{keys_of, values_of}
 use Rattle.std.specs.Str.{bytes_eq}
@@ -19,15 +17,15 @@ use Rattle.cind_index.specs.declared.side.Side.TheVariants.{Left, Right}
 use Rattle.cind_index.specs.declared.key_rows.KeyRows.{KeyRows}
 use Rattle.cind_index.specs.RowsHeld.{has, rows_on, across, is_dirty, ChangesOn, HasRowMore, HasRowLess, HaveTheSame, HasNothing}
 use Rattle.cind_index.specs.Entries.{is_entry}
-use Rattle.cind_index.specs.KeysHeld.{KeyedRows, is_under, held, AreMarkedRight, AreMarkedRightBut, HasKeyAt, KeepsKeys, HoldTheSame, HoldsMore, HoldsLess}
+use Rattle.cind_index.specs.KeysHeld.{Ids, KeyedRows, is_under, held, AreMarkedRight, AreMarkedRightBut, HasKeyAt, KeepsKeys, HoldTheSame, HoldsMore, HoldsLess}
 use Rattle.cind_index.proofs.MapFacts.{equal_lists, same_list, flip_lists}
 use Rattle.cind_index.proofs.PairFacts.{never, clash, any_at, none_pass, swapped_pass, swapped_apart, set_value_at, set_here, set_beside, set_more, set_same, set_less, push_more, MarksRight, MarksRightBut, settled, removed_pass}
 
 abbrev pub Pair : Type 0
-Pair = Vec ℕ Global × KeyRows
+Pair = Ids × KeyRows
 
 -- the keys' own `==`
-abbrev pub same_key : Vec ℕ Global → Vec ℕ Global → Bool
+abbrev pub same_key : Ids → Ids → Bool
 same_key x y = bytes_eq x.items y.items
 
 abbrev pub dirty_pair : List (InclusionRow ℕ) → Pair → Bool
@@ -45,7 +43,7 @@ value_there [] i x at = absurd (none-some x at)
 value_there (e ∷ es) zero x at = ap (λ (p : Pair). Some p.1) (same_Some e x at)
 value_there (e ∷ es) (suc i) x at = value_there es i x at
 
-pub pair_there : (es : List Pair) (i : ℕ) (k : Vec ℕ Global) (v : KeyRows) → slice_get (keys_of es) i ≡ Some k → slice_get (values_of es) i ≡ Some v → slice_get es i ≡ Some (k, v)
+pub pair_there : (es : List Pair) (i : ℕ) (k : Ids) (v : KeyRows) → slice_get (keys_of es) i ≡ Some k → slice_get (values_of es) i ≡ Some v → slice_get es i ≡ Some (k, v)
 pair_there [] i k v at_key at_value = absurd (none-some k at_key)
 pair_there (e ∷ es) zero k v at_key at_value =
     let key : e.0 ≡ k = same_Some e.0 k at_key in
@@ -54,7 +52,7 @@ pair_there (e ∷ es) zero k v at_key at_value =
 pair_there (e ∷ es) (suc i) k v at_key at_value = pair_there es i k v at_key at_value
 
 -- a value is that of some pair
-pub with_key : (es : List Pair) (i : ℕ) (v : KeyRows) → slice_get (values_of es) i ≡ Some v → (k : Vec ℕ Global) × (slice_get es i ≡ Some (k, v))
+pub with_key : (es : List Pair) (i : ℕ) (v : KeyRows) → slice_get (values_of es) i ≡ Some v → (k : Ids) × (slice_get es i ≡ Some (k, v))
 with_key [] i v at = absurd (none-some v at)
 with_key (e ∷ es) zero v at = (e.0, let value : e.1 ≡ v = same_Some e.1 v at in λ i. Some (e.0, value i))
 with_key (e ∷ es) (suc i) v at = with_key es i v at
@@ -63,10 +61,10 @@ with_key (e ∷ es) (suc i) v at = with_key es i v at
 pub once : (m : KeyedRows) → HaveDistinctKeys same_key m → (i j : ℕ) (x : Pair) → slice_get m.pairs i ≡ Some x → slice_get m.pairs j ≡ Some x → i ≡ j
 once m distinct i j x at also = distinct i j x.0 x.0 (key_there m.pairs i x at) (key_there m.pairs j x also) (same_list x.0.items)
 
-pub has_key_at : (m : KeyedRows) (place : ℕ) (k : Vec ℕ Global) (v : KeyRows) (key : List ℕ) → slice_get m.pairs place ≡ Some (k, v) → k.items ≡ key → HasKeyAt m place key
+pub has_key_at : (m : KeyedRows) (place : ℕ) (k : Ids) (v : KeyRows) (key : List ℕ) → slice_get m.pairs place ≡ Some (k, v) → k.items ≡ key → HasKeyAt m place key
 has_key_at m place k v key at is = subst (λ (o : Option Pair). IsSomeAnd o (λ pair. pair.0.items ≡ key)) (sym at) is
 
-pub key_at : (m : KeyedRows) (place : ℕ) (k : Vec ℕ Global) (v : KeyRows) (key : List ℕ) → slice_get m.pairs place ≡ Some (k, v) → HasKeyAt m place key → k.items ≡ key
+pub key_at : (m : KeyedRows) (place : ℕ) (k : Ids) (v : KeyRows) (key : List ℕ) → slice_get m.pairs place ≡ Some (k, v) → HasKeyAt m place key → k.items ≡ key
 key_at m place k v key at has = subst (λ (o : Option Pair). IsSomeAnd o (λ pair. pair.0.items ≡ key)) at has
 
 -- ---- marks, in both words
@@ -117,7 +115,7 @@ unmark_moves old new place at within already unmarks there = elim (cases_lt plac
   | inr high ↦ let is = already high in stays is.1 is.0
 ]
 
-pub takes_mark : (tableau : List (InclusionRow ℕ)) (old new : KeyedRows) (place at : ℕ) (k : Vec ℕ Global) (v : KeyRows) → HaveDistinctKeys same_key old → place < length old.pairs → slice_get old.pairs place ≡ Some (k, v)
+pub takes_mark : (tableau : List (InclusionRow ℕ)) (old new : KeyedRows) (place at : ℕ) (k : Ids) (v : KeyRows) → HaveDistinctKeys same_key old → place < length old.pairs → slice_get old.pairs place ≡ Some (k, v)
     → Moved old new place at → slice_get new.pairs at ≡ slice_get old.pairs place → KeepsOthers old place new → ((at < new.marked) × (is_dirty tableau v ≡ true)) ⊎ ((new.marked ≤ at) × (is_dirty tableau v ≡ false))
     → AreMarkedRightBut place tableau old → AreMarkedRight tableau new
 takes_mark tableau old new place at k v distinct within was moved same keeps right others =
@@ -163,7 +161,7 @@ less_over false q h = refl
 
 -- ---- a row comes in under a key that is there
 
-module _ (m : KeyedRows) (place : ℕ) (k : Vec ℕ Global) (v w : KeyRows) (at : slice_get m.pairs place ≡ Some (k, v)) (side : Side) where
+module _ (m : KeyedRows) (place : ℕ) (k : Ids) (v w : KeyRows) (at : slice_get m.pairs place ≡ Some (k, v)) (side : Side) where
   abbrev pub written : KeyedRows
   written = record { pairs = set_value_at m.pairs place w; marked = m.marked }
 
@@ -226,7 +224,7 @@ module _ (m : KeyedRows) (place : ℕ) (k : Vec ℕ Global) (v w : KeyRows) (at 
   ]
 
   pub written_distinct : HaveDistinctKeys same_key m → HaveDistinctKeys same_key written
-  written_distinct distinct = subst (λ ks. (i j : ℕ) (x y : Vec ℕ Global) → slice_get ks i ≡ Some x → slice_get ks j ≡ Some y → same_key x y ≡ true → i ≡ j) (sym (keys_kept m.pairs place)) distinct
+  written_distinct distinct = subst (λ ks. (i j : ℕ) (x y : Ids) → slice_get ks i ≡ Some x → slice_get ks j ≡ Some y → same_key x y ≡ true → i ≡ j) (sym (keys_kept m.pairs place)) distinct
     where
       keys_kept : (es : List Pair) (n : ℕ) → keys_of (set_value_at es n w) ≡ keys_of es
       keys_kept [] n = refl
@@ -235,7 +233,7 @@ module _ (m : KeyedRows) (place : ℕ) (k : Vec ℕ Global) (v w : KeyRows) (at 
 
 -- ---- a key comes in
 
-module _ (m : KeyedRows) (k : Vec ℕ Global) (fresh : KeyRows) (side : Side) where
+module _ (m : KeyedRows) (k : Ids) (fresh : KeyRows) (side : Side) where
   abbrev pub pushed : KeyedRows
   pushed = record { pairs = m.pairs ++ (k, fresh) ∷ []; marked = m.marked }
 
@@ -262,7 +260,7 @@ module _ (m : KeyedRows) (k : Vec ℕ Global) (fresh : KeyRows) (side : Side) wh
 
 -- ---- a key goes away that has nothing left
 
-pub nothing_held : (m new : KeyedRows) (place : ℕ) (k : Vec ℕ Global) (v : KeyRows) → slice_get m.pairs place ≡ Some (k, v) → ((side : Side) → HasNothing (rows_on v side)) → KeepsOthers m place new → HoldTheSame m new
+pub nothing_held : (m new : KeyedRows) (place : ℕ) (k : Ids) (v : KeyRows) → slice_get m.pairs place ≡ Some (k, v) → ((side : Side) → HasNothing (rows_on v side)) → KeepsOthers m place new → HoldTheSame m new
 nothing_held m new place k v at nothing keeps side e =
     removed_pass (is_under side e) m new place (k, v) at (ap (λ b. bytes_eq e.key k.items && b) (nothing side e.pattern e.row) ∙ and_false (bytes_eq e.key k.items)) keeps
   where
@@ -270,7 +268,7 @@ nothing_held m new place k v at nothing keeps side e =
     and_false true = refl
     and_false false = refl
 
-pub gone_apart : (m new : KeyedRows) (place : ℕ) (k : Vec ℕ Global) (v : KeyRows) → slice_get m.pairs place ≡ Some (k, v) → IsAbsent same_key new k
+pub gone_apart : (m new : KeyedRows) (place : ℕ) (k : Ids) (v : KeyRows) → slice_get m.pairs place ≡ Some (k, v) → IsAbsent same_key new k
     → (i : ℕ) (x : Pair) → slice_get new.pairs i ≡ Some x → slice_get m.pairs place ≢ Some x
 gone_apart m new place k v at gone i x there was =
     let is : (k, v) ≡ x = same_Some (k, v) x (sym at ∙ was) in
@@ -307,12 +305,12 @@ same_then_same old mid new first second side e = second side e ∙ first side e
 
 -- ---- where a key was looked up
 
-pub value_of_key : (es : List Pair) (i : ℕ) (k : Vec ℕ Global) → slice_get (keys_of es) i ≡ Some k → (v : KeyRows) × (slice_get es i ≡ Some (k, v))
+pub value_of_key : (es : List Pair) (i : ℕ) (k : Ids) → slice_get (keys_of es) i ≡ Some k → (v : KeyRows) × (slice_get es i ≡ Some (k, v))
 value_of_key [] i k at = absurd (none-some k at)
 value_of_key (e ∷ es) zero k at = (e.1, let key : e.0 ≡ k = same_Some e.0 k at in λ i. Some (key i, e.1))
 value_of_key (e ∷ es) (suc i) k at = value_of_key es i k at
 
-pub key_found : (m : KeyedRows) (key : Vec ℕ Global) (place : ℕ) → HasKey same_key m key place → HasKeyAt m place key.items
+pub key_found : (m : KeyedRows) (key : Ids) (place : ℕ) → HasKey same_key m key place → HasKeyAt m place key.items
 key_found m key place (stored, at, same) =
     let it = value_of_key m.pairs place stored at in
     has_key_at m place stored it.0 key.items it.1 (sym (equal_lists key.items stored.items same))
@@ -328,7 +326,7 @@ pub same_place : (m new : KeyedRows) (place at : ℕ) (key : List ℕ) → slice
 same_place m new place at key same has_key = subst (λ (o : Option Pair). IsSomeAnd o (λ pair. pair.0.items ≡ key)) (sym same) has_key
 
 -- where a key isn't, nothing goes away
-pub nothing_less : (m : KeyedRows) (k : Vec ℕ Global) (side : Side) (pattern : List ℕ) (row : ℕ) → IsAbsent same_key m k → HoldsLess side (is_entry k.items pattern row) m m
+pub nothing_less : (m : KeyedRows) (k : Ids) (side : Side) (pattern : List ℕ) (row : ℕ) → IsAbsent same_key m k → HoldsLess side (is_entry k.items pattern row) m m
 nothing_less m k side pattern row absent = record {
   here = λ e. still (held m side e) (is_entry k.items pattern row e) (λ is.
       ap (held m side) (sym (entry_is k.items pattern row e is))
@@ -347,7 +345,7 @@ nothing_less m k side pattern row absent = record {
 
 -- ---- a key was entered
 
-pub entered_new : (old new : KeyedRows) (key : Vec ℕ Global) (fresh : KeyRows) (place : ℕ) → Enters same_key old key fresh place new → place ≡ length old.pairs
+pub entered_new : (old new : KeyedRows) (key : Ids) (fresh : KeyRows) (place : ℕ) → Enters same_key old key fresh place new → place ≡ length old.pairs
     → IsAbsent same_key old key × (new ≡ record { pairs = old.pairs ++ (key, fresh) ∷ []; marked = old.marked })
 entered_new old new key fresh place (inl there) last = absurd (let at = slice_get_within (keys_of old.pairs) place there.0.0 there.0.1 in omega (arith, at, keys_length old.pairs, last))
   where
@@ -356,13 +354,13 @@ entered_new old new key fresh place (inl there) last = absurd (let at = slice_ge
     keys_length (e ∷ es) = ap (λ n. suc n) (keys_length es)
 entered_new old new key fresh place (inr (absent, is, same)) last = (absent, same)
 
-pub record Found (old new : KeyedRows) (key : Vec ℕ Global) (place : ℕ) (v : KeyRows) : Type 0 where
-  pub k : Vec ℕ Global
+pub record Found (old new : KeyedRows) (key : Ids) (place : ℕ) (v : KeyRows) : Type 0 where
+  pub k : Ids
   pub at : slice_get old.pairs place ≡ Some (k, v)
   pub is : k.items ≡ key.items
   pub same : old ≡ new
 
-pub entered_there : (old new : KeyedRows) (key : Vec ℕ Global) (fresh : KeyRows) (place : ℕ) (v : KeyRows) → Enters same_key old key fresh place new → place ≢ length old.pairs
+pub entered_there : (old new : KeyedRows) (key : Ids) (fresh : KeyRows) (place : ℕ) (v : KeyRows) → Enters same_key old key fresh place new → place ≢ length old.pairs
     → slice_get (values_of new.pairs) place ≡ Some v → Found old new key place v
 entered_there old new key fresh place v (inr (absent, is, same)) before value = absurd (before is)
 entered_there old new key fresh place v (inl ((stored, at, equal), same)) before value = record {

@@ -4,8 +4,6 @@ use Rattle.std.specs.Prelude.{IsTrue, nat_eq, AllPairs}
 use Rattle.std.specs.List.{Contains}
 use Rattle.std.specs.Map.{values_of}
 use Rattle.std.specs.Str.{bytes_eq}
-use Rattle.std.specs.declared.vec.Vec.{Vec}
-use Rattle.std.specs.declared.alloc.Global.{Global}
 use Rattle.std.proofs.lemmas.Bool.{cases_lt}
 use Rattle.std.proofs.lemmas.Option.{none-some, same_Some, slice_get-get_or}
 use Rattle.std.proofs.lemmas.List.Elements.{All-weaker, All-contains_itself}
@@ -28,7 +26,7 @@ use Rattle.cfd_semantics.proofs.InclusionLaw.{found_by_any, any_from_found, both
 use Rattle.cind_index.specs.declared.side.Side.TheVariants.{Left, Right}
 use Rattle.cind_index.specs.declared.key_rows.KeyRows.{KeyRows}
 use Rattle.cind_index.specs.RowsHeld.{has, has_some, lacks_answer, is_dirty}
-use Rattle.cind_index.specs.KeysHeld.{KeyedRows, is_under, lefts, rights, AreMarkedRight}
+use Rattle.cind_index.specs.KeysHeld.{Ids, KeyedRows, is_under, lefts, rights, AreMarkedRight}
 use Rattle.cind_index.specs.Orphans.{AreOrphans, IsDirtyCount}
 use Rattle.row_store.specs.Watch.{IsWide}
 use Rattle.cind_index.specs.Entries.{ids_in}
@@ -229,7 +227,7 @@ module _ (m : KeyedRows) (distinct : HaveDistinctKeys same_key m) where
 
 -- ---- one left entry
 
-pub no_key_answers : (m : KeyedRows) (k : Vec ℕ Global) (t : InclusionRow ℕ) (left : SideEntry ℕ) → k.items ≡ left.key → IsAbsent same_key m k
+pub no_key_answers : (m : KeyedRows) (k : Ids) (t : InclusionRow ℕ) (left : SideEntry ℕ) → k.items ≡ left.key → IsAbsent same_key m k
     → (right : SideEntry ℕ) → IsTrue (rights m right) → answers nat_eq t left right ≡ false
 no_key_answers m k t left key absent right there = never (answers nat_eq t left right) (λ answer.
     let parts = both_true (bytes_eq left.key right.key) (bytes_eq t.yp right.pattern) answer in
@@ -259,7 +257,7 @@ other_constants m t left pattern is differ = (
   (λ unanswered. absurd (clash (bytes_eq t.xp pattern) (ap (bytes_eq t.xp) is ∙ unanswered.constants) differ)),
 )
 
-pub key_is_found : (m : KeyedRows) → HaveDistinctKeys same_key m → (k : Vec ℕ Global) (place : ℕ) (v : KeyRows) (t : InclusionRow ℕ) (left : SideEntry ℕ) (pattern : List ℕ) → HasKey same_key m k place → slice_get (values_of m.pairs) place ≡ Some v
+pub key_is_found : (m : KeyedRows) → HaveDistinctKeys same_key m → (k : Ids) (place : ℕ) (v : KeyRows) (t : InclusionRow ℕ) (left : SideEntry ℕ) (pattern : List ℕ) → HasKey same_key m k place → slice_get (values_of m.pairs) place ≡ Some v
     → k.items ≡ left.key → pattern ≡ left.pattern → bytes_eq t.xp pattern ≡ true → TellsOrphan (not (has_some v.rights t.yp)) m t left
 key_is_found m distinct k place v t left pattern (stored, at, same) value key is constants =
     let pair = pair_there m.pairs place stored v at value in
@@ -268,7 +266,7 @@ key_is_found m distinct k place v t left pattern (stored, at, same) value key is
       (λ unanswered. not_false (has_some v.rights t.yp) (none_answers m distinct t left place (stored, v) pair own unanswered.alone)),
     )
 
-pub key_is_absent : (m : KeyedRows) (k : Vec ℕ Global) (t : InclusionRow ℕ) (left : SideEntry ℕ) (pattern : List ℕ) → IsAbsent same_key m k → k.items ≡ left.key → pattern ≡ left.pattern → bytes_eq t.xp pattern ≡ true → TellsOrphan true m t left
+pub key_is_absent : (m : KeyedRows) (k : Ids) (t : InclusionRow ℕ) (left : SideEntry ℕ) (pattern : List ℕ) → IsAbsent same_key m k → k.items ≡ left.key → pattern ≡ left.pattern → bytes_eq t.xp pattern ≡ true → TellsOrphan true m t left
 key_is_absent m k t left pattern absent key is constants = (
   (λ yes. record { constants = sym (ap (bytes_eq t.xp) is) ∙ constants; alone = no_key_answers m k t left key absent }),
   (λ unanswered. refl),

@@ -1,9 +1,8 @@
 -- The rows under all keys: the two sets of entries that they are, and which keys are marked.
-use Rattle.std.specs.Prelude.{◌≡◌, ◌≢◌, ℕ, ◌≤◌, ◌&&◌, ◌||◌, not, Bool, true, false, List, length, vec_capacity, slice_get, Some, IsSomeAnd}
+use Rattle.std.specs.Prelude.{◌≡◌, ◌≢◌, ℕ, ◌≤◌, ◌&&◌, ◌||◌, not, Bool, true, false, List, length, slice_get, Some, IsSomeAnd}
 use Rattle.std.specs.List.{list_any}
 use Rattle.std.specs.Str.{bytes_eq}
-use Rattle.std.specs.declared.vec.Vec.{Vec}
-use Rattle.std.specs.declared.alloc.Global.{Global}
+use Rattle.smallvec.specs.SmallVec.{SmallVec}
 use Rattle.marked_map.specs.MarkedMap.{MarkedPairs, IsMarked, IsUnmarked}
 use Rattle.cfd_semantics.specs.declared.inclusion.Inclusion.{Inclusion}
 use Rattle.cfd_semantics.specs.declared.inclusion.InclusionRow.{InclusionRow}
@@ -13,12 +12,16 @@ use Rattle.cind_index.specs.declared.side.Side.TheVariants.{Left, Right}
 use Rattle.cind_index.specs.declared.key_rows.KeyRows.{KeyRows}
 use Rattle.cind_index.specs.RowsHeld.{has, rows_on, across, is_dirty}
 
+-- a list of ids, as a key or pattern values are
+abbrev pub Ids : Type 0
+Ids = SmallVec ℕ
+
 -- what the code keeps: keys with the rows of both sides
 abbrev pub KeyedRows : Type 0
-KeyedRows = MarkedPairs (Vec ℕ Global) KeyRows
+KeyedRows = MarkedPairs Ids KeyRows
 
 -- the key stands there, with the entry's row among the rows of that side
-abbrev pub is_under : Side → SideEntry ℕ → Vec ℕ Global × KeyRows → Bool
+abbrev pub is_under : Side → SideEntry ℕ → Ids × KeyRows → Bool
 is_under side e pair = bytes_eq e.key pair.0.items && has (rows_on pair.1 side) e.pattern e.row
 
 -- the set of entries of a side
@@ -33,13 +36,13 @@ rights keys = held keys Right
 
 -- the marked keys are exactly those with an orphan
 pub record AreMarkedRight (tableau : List (InclusionRow ℕ)) (keys : KeyedRows) : Type 0 where
-  pub marked : (pair : Vec ℕ Global × KeyRows) → IsMarked keys pair → is_dirty tableau pair.1 ≡ true
-  pub unmarked : (pair : Vec ℕ Global × KeyRows) → IsUnmarked keys pair → is_dirty tableau pair.1 ≡ false
+  pub marked : (pair : Ids × KeyRows) → IsMarked keys pair → is_dirty tableau pair.1 ≡ true
+  pub unmarked : (pair : Ids × KeyRows) → IsUnmarked keys pair → is_dirty tableau pair.1 ≡ false
 
 -- the same but for the pair at a place, which may have any mark
 pub record AreMarkedRightBut (place : ℕ) (tableau : List (InclusionRow ℕ)) (keys : KeyedRows) : Type 0 where
-  pub marked : (pair : Vec ℕ Global × KeyRows) → slice_get keys.pairs place ≢ Some pair → IsMarked keys pair → is_dirty tableau pair.1 ≡ true
-  pub unmarked : (pair : Vec ℕ Global × KeyRows) → slice_get keys.pairs place ≢ Some pair → IsUnmarked keys pair → is_dirty tableau pair.1 ≡ false
+  pub marked : (pair : Ids × KeyRows) → slice_get keys.pairs place ≢ Some pair → IsMarked keys pair → is_dirty tableau pair.1 ≡ true
+  pub unmarked : (pair : Ids × KeyRows) → slice_get keys.pairs place ≢ Some pair → IsUnmarked keys pair → is_dirty tableau pair.1 ≡ false
 
 -- ---- changes
 
@@ -67,8 +70,8 @@ pub record HoldsLess (side : Side) (test : SideEntry ℕ → Bool) (old new : Ke
 -- ---- room
 
 -- the two lists have room for a key and for pattern values of either side
-pub record HaveRoom (rule : Inclusion ℕ) (key pattern : Vec ℕ Global) : Type 0 where
-  pub x : length rule.x ≤ vec_capacity key
-  pub y : length rule.y ≤ vec_capacity key
-  pub xp : length rule.xp ≤ vec_capacity pattern
-  pub yp : length rule.yp ≤ vec_capacity pattern
+pub record HaveRoom (rule : Inclusion ℕ) (key pattern : Ids) : Type 0 where
+  pub x : length rule.x ≤ key.capacity
+  pub y : length rule.y ≤ key.capacity
+  pub xp : length rule.xp ≤ pattern.capacity
+  pub yp : length rule.yp ≤ pattern.capacity

@@ -1,19 +1,24 @@
-//! The ids of a tuple at attributes.
-ghost use Rattle.std.specs.Prelude.{◌≡◌, ◌≤◌, length, vec_capacity};
+//! Lists of ids, and the ids of a tuple at attributes.
+ghost use Rattle.std.specs.Prelude.{◌≡◌, ◌≤◌, length};
 ghost use Rattle.std.specs.Str.{bytes_eq};
 ghost use Rattle.row_store.specs.Tuple.{ids_of};
 ghost use Rattle.row_store.specs.Watch.{IsWide};
 ghost use Rattle.cind_index.specs.Entries.{ids_in};
 
 use row_store::Tuple;
+use smallvec::SmallVec;
 use value_pool::ValueId;
 
+/// The ids of a key, or of pattern values. Most rules compare one or two attributes, so two ids stand in place, without
+/// memory of their own. More take an allocation.
+pub(crate) type Ids = SmallVec<ValueId, 2>;
+
 /// Writes the ids at the attributes into a list that has the room.
-pub(crate) fn write_ids(list: &mut Vec<ValueId>, tuple: &Tuple, attributes: &[usize])
-    requires room { length attributes.now ≤ vec_capacity list.old }
+pub(crate) fn write_ids(list: &mut Ids, tuple: &Tuple, attributes: &[usize])
+    requires room { length attributes.now ≤ list.old.capacity }
     requires wide { IsWide attributes.now (ids_of tuple.now) }
     ensures ids { list.new.items ≡ ids_in (ids_of tuple.now) attributes.now }
-    ensures room { vec_capacity list.new ≡ vec_capacity list.old }
+    ensures room { list.new.capacity ≡ list.old.capacity }
 {
     list.clear();
     for attribute in attributes {

@@ -8,7 +8,7 @@ ghost use Rattle.cfd_semantics.specs.EntrySets.{IsUnanswered};
 ghost use Rattle.cind_index.specs.KeysHeld.{lefts, rights, AreMarkedRight, HaveRoom};
 ghost use Rattle.cind_index.specs.Orphans.{AreOrphans, IsDirtyCount};
 
-use crate::ids::{has_ids, write_ids};
+use crate::ids::{Ids, has_ids, write_ids};
 use crate::keys::Keys;
 use cfd_semantics::{Inclusion, InclusionRow};
 use marked_map::MarkedMap;
@@ -29,8 +29,8 @@ pub struct CindIndex {
     pub(crate) rule: Inclusion<ValueId>,
     pub(crate) keys: Keys,
     // Room for one key and for pattern values, so that an entry is taken away without memory.
-    pub(crate) key: Vec<ValueId>,
-    pub(crate) pattern: Vec<ValueId>,
+    pub(crate) key: Ids,
+    pub(crate) pattern: Ids,
     ghost marks: { AreMarkedRight rule.rows keys },
     ghost room: { 0 < length keys.pairs → HaveRoom rule key pattern },
 }
@@ -49,8 +49,8 @@ impl CindIndex {
             right,
             rule,
             keys: MarkedMap::new(alloc),
-            key: Vec::new(alloc),
-            pattern: Vec::new(alloc),
+            key: Ids::new(alloc),
+            pattern: Ids::new(alloc),
         }
     }
 
@@ -114,7 +114,7 @@ impl CindIndex {
             return Ok(false);
         }
         let x = self.rule.x.as_slice();
-        let mut key = Vec::with_capacity(*self.key.allocator(), x.len())?;
+        let mut key = Ids::with_capacity(*self.key.allocator(), x.len())?;
         write_ids(&mut key, tuple, x);
         match self.keys.find(&key, steps) {
             Some(place) => Ok(!self.keys.value_at(place).has_answer(tableau_row)),

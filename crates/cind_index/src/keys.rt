@@ -6,6 +6,7 @@ ghost use Rattle.cfd_semantics.specs.declared.inclusion.InclusionRow.{InclusionR
 ghost use Rattle.cind_index.specs.Entries.{is_entry};
 ghost use Rattle.cind_index.specs.KeysHeld.{held, AreMarkedRight, AreMarkedRightBut, HasKeyAt, HoldTheSame, HoldsMore, HoldsLess, KeepsKeys};
 
+use crate::ids::Ids;
 use crate::key_rows::KeyRows;
 use crate::side::Side;
 use cfd_semantics::InclusionRow;
@@ -16,14 +17,14 @@ use std::alloc::{AllocError, Global};
 use std::sync::ledger::Ledger;
 use value_pool::ValueId;
 
-pub(crate) type Keys = MarkedMap<Vec<ValueId>, KeyRows>;
+pub(crate) type Keys = MarkedMap<Ids, KeyRows>;
 
 /// Puts an entry in, in one probe. Gives the place of its key where the entry is new.
 pub(crate) fn put_entry<L: Ledger>(
     keys: &mut Keys,
     tableau: &[InclusionRow<ValueId>],
     side: Side,
-    key: Vec<ValueId>,
+    key: Ids,
     pattern: &[ValueId],
     row: RowId,
     steps: &mut Steps<L>,
@@ -46,7 +47,7 @@ pub(crate) fn put_entry<L: Ledger>(
 fn enter_entry<L: Ledger>(
     keys: &mut Keys,
     side: Side,
-    key: Vec<ValueId>,
+    key: Ids,
     pattern: &[ValueId],
     row: RowId,
     steps: &mut Steps<L>,
@@ -76,7 +77,7 @@ pub(crate) fn take_entry<L: Ledger>(
     keys: &mut Keys,
     tableau: &[InclusionRow<ValueId>],
     side: Side,
-    key: &Vec<ValueId>,
+    key: &Ids,
     pattern: &[ValueId],
     row: RowId,
     steps: &mut Steps<L>,

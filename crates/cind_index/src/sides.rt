@@ -11,7 +11,7 @@ ghost use Rattle.cind_index.specs.KeysHeld.{held, HaveRoom, HoldTheSame, HoldsMo
 ghost use Rattle.cind_index.specs.Index.{made_of, given, HoldsOfRowOn, StandsAt, KeepsMade};
 ghost use Rattle.cind_index.specs.declared.side.Side.TheVariants.{Left, Right};
 
-use crate::ids::{agree, write_ids};
+use crate::ids::{Ids, agree, write_ids};
 use crate::index::CindIndex;
 use crate::keys::{put_entry, take_at, take_entry};
 use crate::side::Side;
@@ -124,7 +124,7 @@ impl CindIndex {
         }
         write_ids(&mut self.key, new, key_on(&self.rule, side));
         write_ids(&mut self.pattern, new, pattern_on(&self.rule, side));
-        let key = Vec::from_slice(*self.key.allocator(), self.key.as_slice())?;
+        let key = Ids::from_slice(*self.key.allocator(), self.key.as_slice())?;
         let tableau = self.rule.rows.as_slice();
         let pattern = self.pattern.as_slice();
         put_entry(&mut self.keys, tableau, side, key, pattern, row, steps)

@@ -307,3 +307,11 @@ fn two_attributes_of_a_key(rt: HostRuntime) -> Result<(), Fail> {
     assert!(rt; walks::<Brand>(alloc, 1, 0, rule, Blank::new(1))?);
     Ok(())
 }
+
+#[test]
+fn key_longer_than_what_stands_in_place(rt: HostRuntime) -> Result<(), Fail> {
+    let alloc = rt.alloc();
+    let rule = rule(alloc, [b"012", b"3", b"123", b""], 3)?;
+    assert!(rt; walks::<Brand>(alloc, 0, 1, rule, Blank::new(1))?);
+    Ok(())
+}

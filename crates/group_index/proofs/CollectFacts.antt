@@ -3,14 +3,13 @@ use Rattle.std.proofs.Common.{◌≡◌, ◌≢◌, ℕ, zero, suc, ◌+◌, ◌
 use Rattle.std.specs.Prelude.{nat_eq, filter_map, AllPairs, Contains}
 use Rattle.std.specs.List.{cons_option, IsDistinct, AllByRecursion}
 use Rattle.std.specs.List.Sorted.{IsPermutation, IsNonDecreasingBy}
-use Rattle.std.specs.declared.vec.Vec.{Vec}
-use Rattle.std.specs.declared.alloc.Global.{Global}
 use Rattle.std.proofs.lemmas.Bool.{cases_lt}
 use Rattle.std.proofs.lemmas.Bool.Decides.{nat_tests}
 use Rattle.std.proofs.lemmas.List.Elements.{All-contains}
 use Rattle.std.proofs.lemmas.List.Sorted.{IsPermutation-map, IsPermutation-sym, Contains-permutation}
 use Rattle.std.proofs.lemmas.Map.Keys.{IsDistinct-IsPermutation, apart_from_distinct}
 use Rattle.std.proofs.lemmas.Option.{same_Some}
+use Rattle.smallvec.specs.SmallVec.{SmallVec}
 use Rattle.marked_map.specs.MarkedMap.{HaveDistinctKeys}
 use Rattle.cfd_semantics.specs.declared.dependency.TableauRow.{TableauRow}
 use Rattle.cfd_semantics.specs.declared.dependency.Dependency.{Dependency}
@@ -127,7 +126,7 @@ module _ (groups : KeyedGroups) (distinct : HaveDistinctKeys same_key groups) (t
   listed_matches e None alone = (single_parts nat_eq t e alone).x
   listed_matches e (Some row) least = (pair_parts nat_eq t e least.partner.0 least.partner.1.pair).x
 
-  module _ (i : ℕ) (key : Vec ℕ Global) (v : Group) (at : slice_get groups.pairs i ≡ Some (key, v)) where
+  module _ (i : ℕ) (key : SmallVec ℕ) (v : Group) (at : slice_get groups.pairs i ≡ Some (key, v)) where
     listed_apart : (h : Pair → Option Violation) → ((p : Pair) (w : Violation) → h p ≡ Some w → w.row ≡ p.1) → (ps : List Pair) → ((p : Pair) → Contains ps p → Contains (pairs_of v) p) → AllPairs (λ p q. p ≢ q) ps → Apart (map (λ (w : Violation). w.row) (filter_map h ps))
     unfolding Apart
     listed_apart h rows [] inside once = tt

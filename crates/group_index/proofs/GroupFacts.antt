@@ -1,16 +1,15 @@
 -- The entries of the groups, place by place, and what a change of one group makes of them.
-use Rattle.std.proofs.Common.{◌≡◌, ◌≢◌, ℕ, zero, suc, ◌+◌, ◌<◌, ◌⊎◌, Bool, true, false, not, ◌&&◌, ◌||◌, List, [], ◌∷◌, ◌++◌, map, length, slice_get, Some, refl, sym, ap, ◌∙◌, inl, inr, arith, length-append}
+use Rattle.std.proofs.Common.{◌≡◌, ◌≢◌, ℕ, zero, suc, ◌<◌, ◌⊎◌, Bool, true, false, not, ◌&&◌, ◌||◌, List, [], ◌∷◌, ◌++◌, map, length, slice_get, Some, refl, sym, ap, ◌∙◌, inl, inr, arith, length-append}
 use Rattle.std.specs.Prelude.{◌==◌, nat_eq}
 use Rattle.std.specs.List.{list_any}
 use Rattle.std.specs.Map.{keys_of, values_of}
 use Rattle.std.specs.Str.{bytes_eq}
-use Rattle.std.specs.declared.vec.Vec.{Vec}
-use Rattle.std.specs.declared.alloc.Global.{Global}
 use Rattle.std.proofs.lemmas.Bool.{cases_lt, cases_eq}
 use Rattle.std.proofs.lemmas.Bool.Decides.{nat_tests}
 use Rattle.std.proofs.lemmas.List.Folds.{list_any-append}
 use Rattle.std.proofs.lemmas.Option.{none-some, same_Some, slice_get_within}
 use Rattle.std.proofs.lemmas.Slice.Eq.{bytes_eq-Decides}
+use Rattle.smallvec.specs.SmallVec.{SmallVec}
 use Rattle.marked_map.specs.Lending.{with_value}
 use Rattle.marked_map.specs.MarkedMap.{HasKey, HaveDistinctKeys, Enters}
 use Rattle.cfd_semantics.specs.Violation.{Entry}
@@ -21,7 +20,7 @@ use Rattle.group_index.specs.Pairs.{Pair, pairs_of, is_pair, has_pair, IsPut, Is
 use Rattle.group_index.specs.Groups.{KeyedGroup, KeyedGroups, entries_at, entries_in, is_in}
 
 -- the keys' own `==`
-abbrev pub same_key : Vec ℕ Global → Vec ℕ Global → Bool
+abbrev pub same_key : SmallVec ℕ → SmallVec ℕ → Bool
 same_key x y = bytes_eq x.items y.items
 
 pub equal_ids : (xs ys : List ℕ) → bytes_eq xs ys ≡ true → xs ≡ ys
@@ -183,7 +182,7 @@ is_entry_parts entry e is =
 
 -- ---- a pair is put into the group at a place
 
-module _ (pairs : List KeyedGroup) (place : ℕ) (key : Vec ℕ Global) (v w : Group) (entry : Entry ℕ) (at : slice_get pairs place ≡ Some (key, v)) (is : key.items ≡ entry.x) where
+module _ (pairs : List KeyedGroup) (place : ℕ) (key : SmallVec ℕ) (v w : Group) (entry : Entry ℕ) (at : slice_get pairs place ≡ Some (key, v)) (is : key.items ≡ entry.x) where
   pub content_put : IsPut (pairs_of v) (pairs_of w) (entry.a, entry.row) → (e : Entry ℕ) → is_in (set_value_at pairs place w) e ≡ (is_in pairs e || is_entry entry e)
   content_put put e = same_test (is_in (set_value_at pairs place w) e) (is_in pairs e || is_entry entry e) to from
     where
@@ -246,13 +245,13 @@ module _ (pairs : List KeyedGroup) (place : ℕ) (key : Vec ℕ Global) (v w : G
 
 -- ---- a key is entered, and then a pair put into its group
 
-module _ (old mid : KeyedGroups) (key : Vec ℕ Global) (a row place : ℕ) (v w : Group) (enters : Enters same_key old key (One a row) place mid) (value : slice_get (values_of mid.pairs) place ≡ Some v) where
+module _ (old mid : KeyedGroups) (key : SmallVec ℕ) (a row place : ℕ) (v w : Group) (enters : Enters same_key old key (One a row) place mid) (value : slice_get (values_of mid.pairs) place ≡ Some v) where
   abbrev entry_of_key : Entry ℕ
   entry_of_key = record { x = key.items; a = a; row = row }
 
   -- the key stands there
   abbrev StandsThere : Type 0
-  StandsThere = (stored : Vec ℕ Global) × (slice_get mid.pairs place ≡ Some (stored, v)) × (stored.items ≡ key.items)
+  StandsThere = (stored : SmallVec ℕ) × (slice_get mid.pairs place ≡ Some (stored, v)) × (stored.items ≡ key.items)
 
   from_key : (m : KeyedGroups) → m ≡ mid → HasKey same_key m key place → StandsThere
   from_key m is (stored, at, same) = (stored, pair_at mid.pairs place stored v (ap (λ (n : KeyedGroups). slice_get (keys_of n.pairs) place) (sym is) ∙ at) value, sym (equal_ids key.items stored.items same))
@@ -326,7 +325,7 @@ module _ (old mid : KeyedGroups) (key : Vec ℕ Global) (a row place : ℕ) (v w
 
 -- ---- a pair is taken from the group at a place
 
-module _ (old : KeyedGroups) (place : ℕ) (key : Vec ℕ Global) (v w : Group) (entry : Entry ℕ) (at : slice_get old.pairs place ≡ Some (key, v)) (is : key.items ≡ entry.x) (distinct : HaveDistinctKeys same_key old) where
+module _ (old : KeyedGroups) (place : ℕ) (key : SmallVec ℕ) (v w : Group) (entry : Entry ℕ) (at : slice_get old.pairs place ≡ Some (key, v)) (is : key.items ≡ entry.x) (distinct : HaveDistinctKeys same_key old) where
   -- no other group has the entry's key
   other_key : (j : ℕ) (group : KeyedGroup) → slice_get old.pairs j ≡ Some group → group.0.items ≡ entry.x → j ≡ place
   other_key j group stands same =

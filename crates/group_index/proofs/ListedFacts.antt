@@ -3,12 +3,11 @@ use Rattle.std.proofs.Common.{◌≡◌, ◌≢◌, ℕ, Bool, true, false, cond
 use Rattle.std.specs.Prelude.{nat_eq, filter_map, AllPairs}
 use Rattle.std.specs.Option.{option_map}
 use Rattle.std.specs.declared.cmp.Ordering.TheVariants.{Less}
-use Rattle.std.specs.declared.vec.Vec.{Vec}
-use Rattle.std.specs.declared.alloc.Global.{Global}
 use Rattle.std.specs.BTreeSet.{BTreeSet}
 use Rattle.std.specs.List.Sorted.{IsStrictlySortedBy}
 use Rattle.std.proofs.lemmas.Bool.Decides.{nat_tests}
 use Rattle.std.proofs.lemmas.Map.Keys.{Less-from_sorted}
+use Rattle.smallvec.specs.SmallVec.{SmallVec}
 use Rattle.marked_map.specs.MarkedMap.{HaveDistinctKeys}
 use Rattle.cfd_semantics.specs.declared.pattern.Pattern.{Pattern}
 use Rattle.cfd_semantics.specs.declared.dependency.TableauRow.{TableauRow}
@@ -52,7 +51,7 @@ adds_listed cell group pairs first second old new is leads ordered added = recor
 abbrev with_partner : Pair → ℕ → Violation
 with_partner p partner = record { row = p.1; partner = Some partner }
 
-module _ (made : GroupsMade) (groups : KeyedGroups) (distinct : HaveDistinctKeys same_key groups) (t : TableauRow ℕ) (place : ℕ) (key : Vec ℕ Global) (v : Group) (at : slice_get groups.pairs place ≡ Some (key, v))
+module _ (made : GroupsMade) (groups : KeyedGroups) (distinct : HaveDistinctKeys same_key groups) (t : TableauRow ℕ) (place : ℕ) (key : SmallVec ℕ) (v : Group) (at : slice_get groups.pairs place ≡ Some (key, v))
     (matched : all_match nat_eq t.x key.items ≡ true) (first : Option Pair) (second : Option ℕ) (leads : AreLeads t.a (IsAmong (pairs_of v)) first second) where
   partner_is : (p : Pair) → matches nat_eq t.a p.0 ≡ true → IsPartnerOf (set_of made groups) t (entry_in key p) (partner_by first second p.0)
   partner_is p does =

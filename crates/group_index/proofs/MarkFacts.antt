@@ -1,9 +1,8 @@
 -- The marked groups are the dirty ones: what a change of one group, a mark and a removal leave of that.
-use Rattle.std.proofs.Common.{◌≡◌, ◌≢◌, ℕ, ◌+◌, ◌-◌, ◌<◌, ◌≤◌, true, false, List, [], ◌∷◌, ◌++◌, length, slice_get, swap, Some, sym, ap, ◌∙◌, subst, inl, inr, arith, length-append}
-use Rattle.std.specs.declared.vec.Vec.{Vec}
-use Rattle.std.specs.declared.alloc.Global.{Global}
+use Rattle.std.proofs.Common.{◌≡◌, ◌≢◌, ℕ, ◌-◌, ◌<◌, ◌≤◌, true, false, List, [], ◌∷◌, ◌++◌, length, slice_get, swap, Some, sym, ap, ◌∙◌, subst, inl, inr, arith, length-append}
 use Rattle.std.proofs.lemmas.Bool.{cases_lt, cases_eq}
 use Rattle.std.proofs.lemmas.Option.{same_Some, slice_get_within}
+use Rattle.smallvec.specs.SmallVec.{SmallVec}
 use Rattle.marked_map.specs.MarkedMap.{with_mark, without_mark, Enters}
 use Rattle.marked_map.proofs.MarkedMapLemmas.{slice_get-swap_to, slice_get-swap_from, slice_get-swap_else}
 use Rattle.cfd_semantics.specs.declared.dependency.TableauRow.{TableauRow}
@@ -80,7 +79,7 @@ module _ (rows : List (TableauRow ℕ)) where
 
   -- ---- one group is entered, or gets other pairs
 
-  pub marked_but_entered : (old mid : KeyedGroups) (key : Vec ℕ Global) (a row place : ℕ) (w : Group) → Enters same_key old key (One a row) place mid → AreMarked rows old → AreMarkedBut rows (record { pairs = set_value_at mid.pairs place w; marked = mid.marked }) place
+  pub marked_but_entered : (old mid : KeyedGroups) (key : SmallVec ℕ) (a row place : ℕ) (w : Group) → Enters same_key old key (One a row) place mid → AreMarked rows old → AreMarkedBut rows (record { pairs = set_value_at mid.pairs place w; marked = mid.marked }) place
   marked_but_entered old mid key a row place w enters are = (
     (λ i g apart below stands. let own = kept i g apart (sym (set_elsewhere mid.pairs place i w apart) ∙ stands) in are.marked i g (omega (arith, below, same_marked)) own),
     (λ i g apart past stands. let own = kept i g apart (sym (set_elsewhere mid.pairs place i w apart) ∙ stands) in are.unmarked i g (omega (arith, past, same_marked)) own),

@@ -2,10 +2,9 @@
 use Rattle.std.proofs.Common.{◌≡◌, ◌≢◌, ℕ, ◌<◌, Bool, true, false, ◌&&◌, List, length, get_or, slice_get, Option, Some, None, refl, sym, ap, ◌∙◌, subst, arith}
 use Rattle.std.specs.Prelude.{nat_eq, slice_index, Contains}
 use Rattle.std.specs.Str.{bytes_eq}
-use Rattle.std.specs.declared.vec.Vec.{Vec}
-use Rattle.std.specs.declared.alloc.Global.{Global}
 use Rattle.std.proofs.lemmas.Bool.Decides.{nat_tests}
 use Rattle.std.proofs.lemmas.Option.{same_Some, slice_get-get_or}
+use Rattle.smallvec.specs.SmallVec.{SmallVec}
 use Rattle.marked_map.specs.MarkedMap.{IsAbsent, HaveDistinctKeys}
 use Rattle.cfd_semantics.specs.declared.dependency.TableauRow.{TableauRow}
 use Rattle.cfd_semantics.specs.Pattern.{matches, all_match}
@@ -24,10 +23,10 @@ use Rattle.group_index.proofs.PairFacts.{has_from, member_from}
 use Rattle.group_index.proofs.GroupFacts.{same_key, equal_ids, same_ids, both_true, both_so, clash, isnt, found_in, is_in_from, key_at}
 
 -- the entry of a pair, under its key
-abbrev pub entry_in : Vec ℕ Global → Pair → Entry ℕ
+abbrev pub entry_in : SmallVec ℕ → Pair → Entry ℕ
 entry_in key p = record { x = key.items; a = p.0; row = p.1 }
 
-module _ (groups : KeyedGroups) (place : ℕ) (key : Vec ℕ Global) (v : Group) (at : slice_get groups.pairs place ≡ Some (key, v)) where
+module _ (groups : KeyedGroups) (place : ℕ) (key : SmallVec ℕ) (v : Group) (at : slice_get groups.pairs place ≡ Some (key, v)) where
   -- a pair of the group is an entry of the set
   pub entry_of_pair : (p : Pair) → Contains (pairs_of v) p → is_in groups.pairs (entry_in key p) ≡ true
   entry_of_pair p inside =
@@ -73,7 +72,7 @@ module _ (groups : KeyedGroups) (place : ℕ) (key : Vec ℕ Global) (v : Group)
       }
 
 -- without a group there is no partner
-pub no_partner_without_group : (made : GroupsMade) (groups : KeyedGroups) (key : Vec ℕ Global) (t : TableauRow ℕ) (e : Entry ℕ) → key.items ≡ e.x → IsAbsent same_key groups key → IsPartnerOf (set_of made groups) t e None
+pub no_partner_without_group : (made : GroupsMade) (groups : KeyedGroups) (key : SmallVec ℕ) (t : TableauRow ℕ) (e : Entry ℕ) → key.items ≡ e.x → IsAbsent same_key groups key → IsPartnerOf (set_of made groups) t e None
 no_partner_without_group made groups key t e own absent other is =
     let it = found_in groups.pairs other is.held in
     let both = both_true (bytes_eq it.group.0.items other.x) (has_pair (pairs_of it.group.1) (other.a, other.row)) it.holds in

@@ -1,10 +1,9 @@
 -- A group whose last pair is taken goes with its key.
 use Rattle.std.proofs.Common.{◌≡◌, ◌≢◌, ℕ, Bool, true, false, not, ◌&&◌, List, slice_get, Some, refl, sym, ap, ◌∙◌, inl, inr}
 use Rattle.std.specs.Str.{bytes_eq}
-use Rattle.std.specs.declared.vec.Vec.{Vec}
-use Rattle.std.specs.declared.alloc.Global.{Global}
 use Rattle.std.proofs.lemmas.Bool.{cases_lt, cases_eq}
 use Rattle.std.proofs.lemmas.Option.{same_Some}
+use Rattle.smallvec.specs.SmallVec.{SmallVec}
 use Rattle.marked_map.specs.MarkedMap.{IsAbsent, HaveDistinctKeys, KeepsOthers}
 use Rattle.cfd_semantics.specs.declared.dependency.TableauRow.{TableauRow}
 use Rattle.cfd_semantics.specs.Violation.{Entry}
@@ -15,7 +14,7 @@ use Rattle.group_index.specs.Groups.{KeyedGroup, KeyedGroups, is_in, AreMarked}
 use Rattle.group_index.proofs.GroupFacts.{same_key, equal_ids, same_ids, same_test, both_true, clash, isnt, not_true, holds_at, found_in, is_in_from, key_at, set_value_at, set_here, set_elsewhere, is_entry_parts, is_entry_from}
 
 -- nothing has a key that isn't there
-pub content_absent : (old : KeyedGroups) (entry : Entry ℕ) (key : Vec ℕ Global) → key.items ≡ entry.x → IsAbsent same_key old key → (e : Entry ℕ) → is_in old.pairs e ≡ (not (is_entry entry e) && is_in old.pairs e)
+pub content_absent : (old : KeyedGroups) (entry : Entry ℕ) (key : SmallVec ℕ) → key.items ≡ entry.x → IsAbsent same_key old key → (e : Entry ℕ) → is_in old.pairs e ≡ (not (is_entry entry e) && is_in old.pairs e)
 content_absent old entry key is absent e = by (is_entry entry e) refl
   where
     by : (b : Bool) → is_entry entry e ≡ b → is_in old.pairs e ≡ (not b && is_in old.pairs e)
@@ -26,7 +25,7 @@ content_absent old entry key is absent e = by (is_entry entry e) refl
         clash (same_key key it.group.0) (same_ids key.items it.group.0.items (is ∙ (is_entry_parts entry e same).x ∙ sym own)) (absent it.place it.group.0 (key_at old.pairs it.place it.group it.at)))
 
 -- a group with the pair alone is taken away
-module _ (old new : KeyedGroups) (place : ℕ) (key : Vec ℕ Global) (v w : Group) (taken : KeyedGroup) (at : slice_get old.pairs place ≡ Some (key, v)) (distinct : HaveDistinctKeys same_key old)
+module _ (old new : KeyedGroups) (place : ℕ) (key : SmallVec ℕ) (v w : Group) (taken : KeyedGroup) (at : slice_get old.pairs place ≡ Some (key, v)) (distinct : HaveDistinctKeys same_key old)
     (is_taken : slice_get (set_value_at old.pairs place w) place ≡ Some taken) (others : KeepsOthers (record { pairs = set_value_at old.pairs place w; marked = old.marked }) place new) (gone : IsAbsent same_key new taken.0) where
   abbrev mid : KeyedGroups
   mid = record { pairs = set_value_at old.pairs place w; marked = old.marked }

@@ -1,8 +1,7 @@
 -- How an index keeps its groups: a map from the ids on X to a group, in which the dirty groups are marked.
-use Rattle.std.specs.Prelude.{◌≡◌, ◌≢◌, ℕ, ◌<◌, ◌≤◌, Bool, false, ◌&&◌, ◌||◌, not, List, map, length, Option, Some, slice_get, IsTrue, vec_capacity}
+use Rattle.std.specs.Prelude.{◌≡◌, ◌≢◌, ℕ, ◌<◌, ◌≤◌, Bool, false, ◌&&◌, ◌||◌, not, List, map, length, Option, Some, slice_get, IsTrue}
 use Rattle.std.specs.List.{flat_map, list_any}
-use Rattle.std.specs.declared.vec.Vec.{Vec}
-use Rattle.std.specs.declared.alloc.Global.{Global}
+use Rattle.smallvec.specs.SmallVec.{SmallVec}
 use Rattle.marked_map.specs.MarkedMap.{MarkedPairs}
 use Rattle.cfd_semantics.specs.declared.dependency.TableauRow.{TableauRow}
 use Rattle.cfd_semantics.specs.declared.dependency.Dependency.{Dependency}
@@ -14,10 +13,10 @@ use Rattle.group_index.specs.Pairs.{pairs_of, is_dirty}
 
 -- a key with its group, and all of them
 abbrev pub KeyedGroup : Type 0
-KeyedGroup = Vec ℕ Global × Group
+KeyedGroup = SmallVec ℕ × Group
 
 abbrev pub KeyedGroups : Type 0
-KeyedGroups = MarkedPairs (Vec ℕ Global) Group
+KeyedGroups = MarkedPairs (SmallVec ℕ) Group
 
 -- the entries of a group
 abbrev pub entries_at : KeyedGroup → List (Entry ℕ)
@@ -52,9 +51,9 @@ pub record AreMarked (rows : List (TableauRow ℕ)) (groups : KeyedGroups) : Typ
   pub unmarked : (place : ℕ) (at : KeyedGroup) → groups.marked ≤ place → slice_get groups.pairs place ≡ Some at → is_dirty_at rows at ≡ false
 
 -- what an index keeps true of its parts: its marks, and that it has room for a key once there are groups
-pub record IsGroupIndex (dependency : Dependency ℕ) (groups : KeyedGroups) (key : Vec ℕ Global) : Type 0 where
+pub record IsGroupIndex (dependency : Dependency ℕ) (groups : KeyedGroups) (key : SmallVec ℕ) : Type 0 where
   pub marks : AreMarked dependency.rows groups
-  pub room : 0 < length groups.pairs → length dependency.x ≤ vec_capacity key
+  pub room : 0 < length groups.pairs → length dependency.x ≤ key.capacity
 
 -- the same of all groups but the one at a place
 abbrev pub AreMarkedBut : List (TableauRow ℕ) → KeyedGroups → ℕ → Type 0

@@ -7,7 +7,7 @@ ghost use Rattle.group_index.specs.Groups.{AreMarked, AreMarkedBut, IsEntered, I
 
 use crate::group::Group;
 use crate::index::IdRow;
-use crate::key::matches_all;
+use crate::key::{Key, matches_all};
 use crate::leads::Leads;
 use marked_map::MarkedMap;
 use probe_steps::Steps;
@@ -16,13 +16,13 @@ use std::alloc::{AllocError, Global};
 use std::sync::ledger::Ledger;
 use value_pool::ValueId;
 
-pub(crate) type Groups = MarkedMap<Vec<ValueId>, Group>;
+pub(crate) type Groups = MarkedMap<Key, Group>;
 
 /// Puts a row into the group of its key, in one probe.
 pub(crate) fn put_entry<L: Ledger>(
     groups: &mut Groups,
     rows: &[IdRow],
-    key: Vec<ValueId>,
+    key: Key,
     a: ValueId,
     row: RowId,
     steps: &mut Steps<L>,
@@ -44,7 +44,7 @@ pub(crate) fn put_entry<L: Ledger>(
 pub(crate) fn take_entry<L: Ledger>(
     groups: &mut Groups,
     rows: &[IdRow],
-    key: &Vec<ValueId>,
+    key: &Key,
     a: ValueId,
     row: RowId,
     steps: &mut Steps<L>,
@@ -67,7 +67,7 @@ pub(crate) fn take_entry<L: Ledger>(
 pub(crate) fn least_partner<L: Ledger>(
     groups: &Groups,
     row: &IdRow,
-    key: &Vec<ValueId>,
+    key: &Key,
     a: ValueId,
     steps: &mut Steps<L>,
 ) -> Option<RowId>

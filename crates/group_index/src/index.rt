@@ -8,13 +8,14 @@ ghost use Rattle.group_index.specs.Laws.{gives_names_row, needed_where_given};
 ghost use Rattle.group_index.specs.Answers.{AreDirty, IsSettled, AreViolationsOf, AreThoseOfTheList, IsPartnerOfRow};
 
 use crate::groups::{Groups, least_partner, put_entry, take_entry};
-use crate::key::{make_room, same_entry, write_key};
+use crate::key::{Key, make_room, same_entry, write_key};
 use crate::violations::collect;
 use cfd_semantics::{Dependency, Pattern, TableauRow, Violation};
 use marked_map::MarkedMap;
 use probe_steps::Steps;
 use row_store::{RowId, Tuple, Watch};
 use schema_core::List;
+use smallvec::SmallVec;
 use std::alloc::{AllocError, Global};
 use std::marker::Model;
 use std::sync::ledger::Ledger;
@@ -33,7 +34,7 @@ pub struct GroupIndex {
     dependency: Dependency<ValueId>,
     groups: Groups,
     // Room for the key of one group, so that a row is taken away without memory.
-    key: Vec<ValueId>,
+    key: Key,
 }
 
 impl Model for GroupIndex {
@@ -61,7 +62,7 @@ impl GroupIndex {
                 rows: List::from(rows),
             },
             groups: MarkedMap::new(alloc),
-            key: Vec::new(alloc),
+            key: SmallVec::new(alloc),
         }
     }
 
@@ -117,7 +118,7 @@ impl GroupIndex {
         let _ = row;
         let tableau_row = &self.dependency.rows.as_slice()[k];
         let x = self.dependency.x.as_slice();
-        let mut key = Vec::with_capacity(*self.key.allocator(), x.len())?;
+        let mut key = SmallVec::with_capacity(*self.key.allocator(), x.len())?;
         write_key(&mut key, tuple, x);
         let a = tuple.as_slice()[self.dependency.a];
         Ok(least_partner(&self.groups, tableau_row, &key, a, steps))
@@ -166,7 +167,7 @@ impl Watch for GroupIndex {
             return Ok(());
         }
         make_room(&mut self.key, x.len())?;
-        let mut key = Vec::with_capacity(*self.key.allocator(), x.len())?;
+        let mut key = SmallVec::with_capacity(*self.key.allocator(), x.len())?;
         write_key(&mut key, new, x);
         let rows = self.dependency.rows.as_slice();
         put_entry(&mut self.groups, rows, key, new.as_slice()[a], row, steps)

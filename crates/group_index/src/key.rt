@@ -1,5 +1,5 @@
 //! The key of a row's group: its ids on X.
-ghost use Rattle.std.specs.Prelude.{◌≡◌, ◌<◌, ◌≤◌, ◌∷◌, false, length, All, OnErr, OnOk, nat_eq, vec_capacity};
+ghost use Rattle.std.specs.Prelude.{◌≡◌, ◌<◌, ◌≤◌, ◌∷◌, false, length, All, OnErr, OnOk, nat_eq};
 ghost use Rattle.std.specs.Str.{bytes_eq};
 ghost use Rattle.cfd_semantics.specs.Pattern.{all_match};
 ghost use Rattle.std.specs.Option.{option_map_or, ForSome};
@@ -9,15 +9,19 @@ ghost use Rattle.group_index.specs.Keys.{ids_at, gives_alike};
 
 use crate::index::IdCell;
 use row_store::Tuple;
+use smallvec::SmallVec;
 use std::alloc::AllocError;
 use value_pool::ValueId;
 
+/// The ids of a key. Up to two stand in place, so that most groups take no memory for their key.
+pub(crate) type Key = SmallVec<ValueId, 2>;
+
 /// Writes the ids of a tuple on X into a list that has the room.
-pub(crate) fn write_key(key: &mut Vec<ValueId>, tuple: &Tuple, x: &[usize])
-    requires room { length x.now ≤ vec_capacity key.old }
+pub(crate) fn write_key(key: &mut Key, tuple: &Tuple, x: &[usize])
+    requires room { length x.now ≤ key.old.capacity }
     requires wide { All (λ attribute. attribute < length (ids_of tuple.now)) x.now }
     ensures ids { key.new.items ≡ ids_at (ids_of tuple.now) x.now }
-    ensures room { vec_capacity key.new ≡ vec_capacity key.old }
+    ensures room { key.new.capacity ≡ key.old.capacity }
 {
     key.clear();
     for attribute in x {
@@ -26,12 +30,12 @@ pub(crate) fn write_key(key: &mut Vec<ValueId>, tuple: &Tuple, x: &[usize])
 }
 
 /// Makes room for a key.
-pub(crate) fn make_room(key: &mut Vec<ValueId>, count: usize) -> Result<(), AllocError>
-    ensures ok { OnOk result (count ≤ vec_capacity key.new) }
+pub(crate) fn make_room(key: &mut Key, count: usize) -> Result<(), AllocError>
+    ensures ok { OnOk result (count ≤ key.new.capacity) }
     ensures err { OnErr result (key.new ≡ key.old) }
 {
     if key.capacity() < count {
-        *key = Vec::with_capacity(*key.allocator(), count)?;
+        *key = SmallVec::with_capacity(*key.allocator(), count)?;
     }
     Ok(())
 }

@@ -2,8 +2,6 @@
 use Rattle.std.proofs.Common.{◌≡◌, ℕ, zero, suc, ◌+◌, ◌-◌, ◌<◌, ◌≤◌, Bool, true, false, cond, List, [], ◌∷◌, ◌++◌, length, get_or, set, Option, Some, None, Result, Ok, Err, refl, sym, ap, subst, ◌∙◌, true≢false, arith, OnOk, OnErr, IfSome, IfNone, slice_get, nat_lt}
 use borrow.Author.Tests.{ltb-true}
 use Rattle.std.specs.Prelude.{◌==◌, ◌||◌, ◌&&◌, not, All, IsSome, IsSomeAnd, swap_remove}
-use Rattle.std.specs.declared.vec.Vec.{Vec}
-use Rattle.std.specs.declared.alloc.Global.{Global}
 use Rattle.std.specs.Cmp.{IsEquivalence}
 use Rattle.std.specs.List.{position_or_len, position, IsDistinct, AllByRecursion}
 use Rattle.std.specs.List.Sorted.{IsStrictlyIncreasing}
@@ -17,15 +15,16 @@ use Rattle.std.proofs.lemmas.Option.{none-some, same_Some, cond_some}
 use Rattle.std.proofs.lemmas.Slice.Eq.{bytes_eq-Decides}
 use Rattle.indexmap.specs.IndexMap.{IndexMap, set_value_at, IsUnique, Updates}
 use Rattle.indexmap.proofs.CallerLemmas.{updates-with_value_at}
+use Rattle.smallvec.specs.SmallVec.{SmallVec}
 use Rattle.master_index.specs.declared.rising.RowIds.{RowIds}
 use Rattle.master_index.specs.ColumnRows.{KeyedRows, listed, rows_under, is_among, is_under, AreOrderly, IsPutUnder, IsTakenFrom, HoldAlike, HasKeyAt}
 
 -- the keys' own `==`
-abbrev pub same_key : Vec ℕ Global → Vec ℕ Global → Bool
+abbrev pub same_key : SmallVec ℕ → SmallVec ℕ → Bool
 same_key x y = bytes_eq x.items y.items
 
 same_key_laws : IsEquivalence same_key
-same_key_laws = on_equiv (λ (key : Vec ℕ Global). key.items) nat_list_eq_equiv
+same_key_laws = on_equiv (λ (key : SmallVec ℕ). key.items) nat_list_eq_equiv
 
 abbrev rows_of : Option RowIds → List ℕ
 rows_of found = option_map_or listed found []
@@ -37,7 +36,7 @@ same_list : (xs : List ℕ) → bytes_eq xs xs ≡ true
 same_list xs = (bytes_eq-Decides xs xs).1 refl
 
 -- the rows under each key, once one key has other rows
-pub rows_updated : (old new : KeyedRows) (key : Vec ℕ Global) (w : Option RowIds) → lookup (same_key key) new ≡ w → KeepsOthers same_key (same_key key) old new
+pub rows_updated : (old new : KeyedRows) (key : SmallVec ℕ) (w : Option RowIds) → lookup (same_key key) new ≡ w → KeepsOthers same_key (same_key key) old new
     → (ids : List ℕ) → rows_under ids new ≡ cond (bytes_eq ids key.items) (rows_of w) (rows_under ids old)
 unfolding KeepsOthers
 rows_updated old new key w at others ids = by (bytes_eq ids key.items) refl
@@ -49,7 +48,7 @@ rows_updated old new key w at others ids = by (bytes_eq ids key.items) refl
         (λ other is. ap (bytes_eq ids) (sym (equal_lists key.items other.items is)) ∙ e))
 
 -- an entry that comes in last
-lookup_passing : (test : Vec ℕ Global → Bool) (es : KeyedRows) (key : Vec ℕ Global) (rows : RowIds) → lookup test es ≡ None → test key ≡ true → lookup test (es ++ (key, rows) ∷ []) ≡ Some rows
+lookup_passing : (test : SmallVec ℕ → Bool) (es : KeyedRows) (key : SmallVec ℕ) (rows : RowIds) → lookup test es ≡ None → test key ≡ true → lookup test (es ++ (key, rows) ∷ []) ≡ Some rows
 lookup_passing test [] key rows none is = ap (λ b. cond b (Some rows) None) is
 lookup_passing test (e ∷ es) key rows none is = by (test e.0) refl (lookup_passing test es key rows)
   where
@@ -58,11 +57,11 @@ lookup_passing test (e ∷ es) key rows none is = by (test e.0) refl (lookup_pas
     by true h rest = absurd (none-some e.1 (sym none ∙ ap (λ b. cond b (Some e.1) (lookup test es)) h))
     by false h rest = ap (λ b. cond b (Some e.1) (lookup test (es ++ (key, rows) ∷ []))) h ∙ rest (sym (ap (λ b. cond b (Some e.1) (lookup test es)) h) ∙ none) is
 
-lookup_failing : (test : Vec ℕ Global → Bool) (es : KeyedRows) (key : Vec ℕ Global) (rows : RowIds) → test key ≡ false → lookup test (es ++ (key, rows) ∷ []) ≡ lookup test es
+lookup_failing : (test : SmallVec ℕ → Bool) (es : KeyedRows) (key : SmallVec ℕ) (rows : RowIds) → test key ≡ false → lookup test (es ++ (key, rows) ∷ []) ≡ lookup test es
 lookup_failing test [] key rows isnt = ap (λ b. cond b (Some rows) None) isnt
 lookup_failing test (e ∷ es) key rows isnt = ap (cond (test e.0) (Some e.1)) (lookup_failing test es key rows isnt)
 
-rows_pushed : (es : KeyedRows) (key : Vec ℕ Global) (rows : RowIds) → lookup (same_key key) es ≡ None → (ids : List ℕ) → rows_under ids (es ++ (key, rows) ∷ []) ≡ cond (bytes_eq ids key.items) (listed rows) (rows_under ids es)
+rows_pushed : (es : KeyedRows) (key : SmallVec ℕ) (rows : RowIds) → lookup (same_key key) es ≡ None → (ids : List ℕ) → rows_under ids (es ++ (key, rows) ∷ []) ≡ cond (bytes_eq ids key.items) (listed rows) (rows_under ids es)
 rows_pushed es key rows none ids = by (bytes_eq ids key.items) refl
   where
     by : (b : Bool) → bytes_eq ids key.items ≡ b → rows_under ids (es ++ (key, rows) ∷ []) ≡ cond b (listed rows) (rows_under ids es)
@@ -70,14 +69,14 @@ rows_pushed es key rows none ids = by (bytes_eq ids key.items) refl
     by false e = ap rows_of (lookup_failing (λ other. bytes_eq ids other.items) es key rows e)
 
 -- ---- where a key stands
-pub record StandsAt (es : KeyedRows) (test : Vec ℕ Global → Bool) (place : ℕ) : Type 0 where
-  pub key : Vec ℕ Global
+pub record StandsAt (es : KeyedRows) (test : SmallVec ℕ → Bool) (place : ℕ) : Type 0 where
+  pub key : SmallVec ℕ
   pub rows : RowIds
   pub at : slice_get es place ≡ Some (key, rows)
   pub passes : test key ≡ true
   pub found : lookup test es ≡ Some rows
 
-stands_later : (e : Vec ℕ Global × RowIds) (es : KeyedRows) (test : Vec ℕ Global → Bool) (place : ℕ) → test e.0 ≡ false → StandsAt es test place → StandsAt (e ∷ es) test (suc place)
+stands_later : (e : SmallVec ℕ × RowIds) (es : KeyedRows) (test : SmallVec ℕ → Bool) (place : ℕ) → test e.0 ≡ false → StandsAt es test place → StandsAt (e ∷ es) test (suc place)
 stands_later e es test place isnt it = record {
   key = it.key;
   rows = it.rows;
@@ -86,7 +85,7 @@ stands_later e es test place isnt it = record {
   found = ap (λ b. cond b (Some e.1) (lookup test es)) isnt ∙ it.found;
 }
 
-pub stands_at : (es : KeyedRows) (test : Vec ℕ Global → Bool) (place : ℕ) → place ≡ position_or_len test (keys_of es) → place < length es → StandsAt es test place
+pub stands_at : (es : KeyedRows) (test : SmallVec ℕ → Bool) (place : ℕ) → place ≡ position_or_len test (keys_of es) → place < length es → StandsAt es test place
 stands_at [] test place is within = absurd (omega arith)
 stands_at (e ∷ es) test place is within = by (test e.0) refl (stands_at es test)
   where
@@ -99,7 +98,7 @@ stands_at (e ∷ es) test place is within = by (test e.0) refl (stands_at es tes
         let next : place ≡ suc (position_or_len test (keys_of es)) = omega arith in
         subst (StandsAt (e ∷ es) test) (sym next) (stands_later e es test _ h (rest (position_or_len test (keys_of es)) refl (omega arith)))
 
-position_within : (es : KeyedRows) (test : Vec ℕ Global → Bool) (rows : RowIds) → lookup test es ≡ Some rows → position_or_len test (keys_of es) < length es
+position_within : (es : KeyedRows) (test : SmallVec ℕ → Bool) (rows : RowIds) → lookup test es ≡ Some rows → position_or_len test (keys_of es) < length es
 position_within [] test rows there = absurd (none-some rows there)
 position_within (e ∷ es) test rows there = by (test e.0) refl (position_within es test rows)
   where
@@ -111,7 +110,7 @@ position_within (e ∷ es) test rows there = by (test e.0) refl (position_within
         subst (λ t. cond (not t) (1 + position_or_len test (keys_of es)) 0 < suc (length es)) (sym h) (omega (arith, tail))
 
 -- a key that a new entry brings in stands last
-stands_last : (es : KeyedRows) (key : Vec ℕ Global) (rows : RowIds) → lookup (same_key key) es ≡ None → position_or_len (same_key key) (keys_of es) ≡ length es
+stands_last : (es : KeyedRows) (key : SmallVec ℕ) (rows : RowIds) → lookup (same_key key) es ≡ None → position_or_len (same_key key) (keys_of es) ≡ length es
 stands_last [] key rows none = refl
 stands_last (e ∷ es) key rows none = by (same_key key e.0) refl (stands_last es key rows)
   where
@@ -122,17 +121,17 @@ stands_last (e ∷ es) key rows none = by (same_key key e.0) refl (stands_last e
         let tail = rest (sym (ap (λ b. cond b (Some e.1) (lookup (same_key key) es)) h) ∙ none) in
         ap (λ b. cond (not b) (1 + position_or_len (same_key key) (keys_of es)) 0) h ∙ omega (arith, tail)
 
-last_entry : (es : KeyedRows) (entry : Vec ℕ Global × RowIds) → slice_get (es ++ entry ∷ []) (length es) ≡ Some entry
+last_entry : (es : KeyedRows) (entry : SmallVec ℕ × RowIds) → slice_get (es ++ entry ∷ []) (length es) ≡ Some entry
 last_entry [] entry = refl
 last_entry (e ∷ es) entry = last_entry es entry
 
-one_longer : (es : KeyedRows) (entry : Vec ℕ Global × RowIds) → length es < length (es ++ entry ∷ [])
+one_longer : (es : KeyedRows) (entry : SmallVec ℕ × RowIds) → length es < length (es ++ entry ∷ [])
 one_longer [] entry = omega arith
 one_longer (e ∷ es) entry = let tail = one_longer es entry in omega (arith, tail)
 
 -- the key stands at the place, and nothing but its row may have come in
 pub record IsEntered (old mid : KeyedRows) (key : List ℕ) (row place : ℕ) : Type 0 where
-  pub stored : Vec ℕ Global
+  pub stored : SmallVec ℕ
   pub rows : RowIds
   pub at : slice_get mid place ≡ Some (stored, rows)
   pub within : place < length mid
@@ -149,7 +148,7 @@ rising_one row k within = absurd (omega arith)
 among_one : (row : ℕ) → is_among row (row ∷ []) ≡ true
 among_one row = grind (arith, nat_tests)
 
-pub entered : (old mid : KeyedRows) (key : Vec ℕ Global) (alone : RowIds) (row place : ℕ) → AreOrderly old → (listed alone) ≡ row ∷ []
+pub entered : (old mid : KeyedRows) (key : SmallVec ℕ) (alone : RowIds) (row place : ℕ) → AreOrderly old → (listed alone) ≡ row ∷ []
     → place ≡ position_or_len (same_key key) (keys_of old)
     → (IsSome (lookup (same_key key) old) → mid ≡ old) → (lookup (same_key key) old ≡ None → mid ≡ old ++ (key, alone) ∷ [])
     → IsEntered old mid key.items row place
@@ -170,8 +169,8 @@ entered old mid key alone row place kept one index found pushed = by (lookup (sa
           new_or_old = λ isnt. absurd (true≢false (sym (among_one row) ∙ ap (is_among row) (sym one) ∙ isnt));
           held = λ ids other. came_in ids other (bytes_eq ids key.items) refl (rows_pushed old key alone none ids) under;
           kept = record {
-            rising = All-push (λ (entry : Vec ℕ Global × RowIds). IsStrictlyIncreasing (listed entry.1)) old (key, alone) kept.rising (rw one (rising_one row));
-            filled = All-push (λ (entry : Vec ℕ Global × RowIds). 0 < length (listed entry.1)) old (key, alone) kept.filled (rw one (omega arith));
+            rising = All-push (λ (entry : SmallVec ℕ × RowIds). IsStrictlyIncreasing (listed entry.1)) old (key, alone) kept.rising (rw one (rising_one row));
+            filled = All-push (λ (entry : SmallVec ℕ × RowIds). 0 < length (listed entry.1)) old (key, alone) kept.filled (rw one (omega arith));
           };
         })
       where
@@ -203,22 +202,22 @@ entered old mid key alone row place kept one index found pushed = by (lookup (sa
           kept = kept;
         })
       where
-        within_some : (es : KeyedRows) (test : Vec ℕ Global → Bool) (rows : RowIds) → lookup test es ≡ Some rows → place ≡ position_or_len test (keys_of es) → place < length es
+        within_some : (es : KeyedRows) (test : SmallVec ℕ → Bool) (rows : RowIds) → lookup test es ≡ Some rows → place ≡ position_or_len test (keys_of es) → place < length es
         within_some es test rows there is = rw is (position_within es test rows there)
 
 -- ---- other rows for the key at a place
-module _ {S : Type 0} (m : IndexMap (Vec ℕ Global) RowIds S) (unique : IsUnique same_key m) (place : ℕ) (key : Vec ℕ Global) (rows new : RowIds) (at : slice_get m.entries place ≡ Some (key, rows)) where
+module _ {S : Type 0} (m : IndexMap (SmallVec ℕ) RowIds S) (unique : IsUnique same_key m) (place : ℕ) (key : SmallVec ℕ) (rows new : RowIds) (at : slice_get m.entries place ≡ Some (key, rows)) where
   rows_written : (ids : List ℕ) → rows_under ids (set_value_at m.entries place new) ≡ cond (bytes_eq ids key.items) (listed new) (rows_under ids m.entries)
   rows_written ids =
       let updates = updates-with_value_at m place new same_key_laws unique key rows at in
       rows_updated m.entries (set_value_at m.entries place new) key (Some new) updates.1 updates.3 ids
 
-all_written : (P : RowIds → Type 0) (es : KeyedRows) (place : ℕ) (new : RowIds) → P new → All (λ (entry : Vec ℕ Global × RowIds). P entry.1) es → All (λ (entry : Vec ℕ Global × RowIds). P entry.1) (set_value_at es place new)
+all_written : (P : RowIds → Type 0) (es : KeyedRows) (place : ℕ) (new : RowIds) → P new → All (λ (entry : SmallVec ℕ × RowIds). P entry.1) es → All (λ (entry : SmallVec ℕ × RowIds). P entry.1) (set_value_at es place new)
 all_written P [] place new here all = all
-all_written P (e ∷ es) zero new here all = All-cons (λ (entry : Vec ℕ Global × RowIds). P entry.1) (e.0, new) es here (All-tail (λ (entry : Vec ℕ Global × RowIds). P entry.1) e es all)
+all_written P (e ∷ es) zero new here all = All-cons (λ (entry : SmallVec ℕ × RowIds). P entry.1) (e.0, new) es here (All-tail (λ (entry : SmallVec ℕ × RowIds). P entry.1) e es all)
 all_written P (e ∷ es) (suc place) new here all =
-    All-cons (λ (entry : Vec ℕ Global × RowIds). P entry.1) e (set_value_at es place new) (All-head (λ (entry : Vec ℕ Global × RowIds). P entry.1) e es all)
-    (all_written P es place new here (All-tail (λ (entry : Vec ℕ Global × RowIds). P entry.1) e es all))
+    All-cons (λ (entry : SmallVec ℕ × RowIds). P entry.1) e (set_value_at es place new) (All-head (λ (entry : SmallVec ℕ × RowIds). P entry.1) e es all)
+    (all_written P es place new here (All-tail (λ (entry : SmallVec ℕ × RowIds). P entry.1) e es all))
 
 pub kept_written : (es : KeyedRows) (place : ℕ) (new : RowIds) → AreOrderly es → IsStrictlyIncreasing (listed new) → 0 < length (listed new) → AreOrderly (set_value_at es place new)
 kept_written es place new kept rising filled = record {
@@ -226,7 +225,7 @@ kept_written es place new kept rising filled = record {
   filled = all_written (λ rows. 0 < length (listed rows)) es place new filled kept.filled;
 }
 
-value_at_place : (es : KeyedRows) (place : ℕ) (key : Vec ℕ Global) (rows lent : RowIds) → slice_get es place ≡ Some (key, rows) → slice_get (values_of es) place ≡ Some lent → lent ≡ rows
+value_at_place : (es : KeyedRows) (place : ℕ) (key : SmallVec ℕ) (rows lent : RowIds) → slice_get es place ≡ Some (key, rows) → slice_get (values_of es) place ≡ Some lent → lent ≡ rows
 value_at_place [] place key rows lent at value = absurd (none-some (key, rows) at)
 value_at_place (e ∷ es) zero key rows lent at value = sym (same_Some e.1 lent value) ∙ ap (λ entry. entry.1) (same_Some e (key, rows) at)
 value_at_place (e ∷ es) (suc place) key rows lent at value = value_at_place es place key rows lent at value
@@ -239,10 +238,10 @@ kept_at [] place lent kept value = absurd (none-some lent value)
 kept_at (e ∷ es) zero lent kept value =
     let same : e.1 ≡ lent = same_Some e.1 lent value in
     subst (λ (rows : RowIds). IsStrictlyIncreasing (listed rows) × (0 < length (listed rows))) same
-    (All-head (λ (entry : Vec ℕ Global × RowIds). IsStrictlyIncreasing (listed entry.1)) e es kept.rising, All-head (λ (entry : Vec ℕ Global × RowIds). 0 < length (listed entry.1)) e es kept.filled)
+    (All-head (λ (entry : SmallVec ℕ × RowIds). IsStrictlyIncreasing (listed entry.1)) e es kept.rising, All-head (λ (entry : SmallVec ℕ × RowIds). 0 < length (listed entry.1)) e es kept.filled)
 kept_at (e ∷ es) (suc place) lent kept value = kept_at es place lent (record {
-  rising = All-tail (λ (entry : Vec ℕ Global × RowIds). IsStrictlyIncreasing (listed entry.1)) e es kept.rising;
-  filled = All-tail (λ (entry : Vec ℕ Global × RowIds). 0 < length (listed entry.1)) e es kept.filled;
+  rising = All-tail (λ (entry : SmallVec ℕ × RowIds). IsStrictlyIncreasing (listed entry.1)) e es kept.rising;
+  filled = All-tail (λ (entry : SmallVec ℕ × RowIds). 0 < length (listed entry.1)) e es kept.filled;
 }) value
 
 -- the rows that are lent at a place of a kept map rise
@@ -253,7 +252,7 @@ pub lent_has_rows : (es : KeyedRows) (place : ℕ) (lent : RowIds) → AreOrderl
 lent_has_rows es place lent kept value = (kept_at es place lent kept value).1
 
 -- ---- a row that comes in
-module _ {S : Type 0} (old : KeyedRows) (m : IndexMap (Vec ℕ Global) RowIds S) (unique : IsUnique same_key m) (key : List ℕ) (row place : ℕ) (lent new : RowIds)
+module _ {S : Type 0} (old : KeyedRows) (m : IndexMap (SmallVec ℕ) RowIds S) (unique : IsUnique same_key m) (key : List ℕ) (row place : ℕ) (lent new : RowIds)
     (it : IsEntered old m.entries key row place) (value : slice_get (values_of m.entries) place ≡ Some lent) where
   lent_under : (listed lent) ≡ rows_under key m.entries
   lent_under = ap listed (value_at_place m.entries place it.stored it.rows lent it.at value) ∙ sym it.under
@@ -291,13 +290,13 @@ module _ {S : Type 0} (old : KeyedRows) (m : IndexMap (Vec ℕ Global) RowIds S)
   err_answer (Err _) same isnt = alike_after_err same isnt
 
 -- ---- a row that goes
-reads_key : (P : Vec ℕ Global → Type 0) (es : KeyedRows) (place : ℕ) (key : Vec ℕ Global) (rows : RowIds) → AllByRecursion P (keys_of es) → slice_get es place ≡ Some (key, rows) → P key
+reads_key : (P : SmallVec ℕ → Type 0) (es : KeyedRows) (place : ℕ) (key : SmallVec ℕ) (rows : RowIds) → AllByRecursion P (keys_of es) → slice_get es place ≡ Some (key, rows) → P key
 reads_key P [] place key rows all at = absurd (none-some (key, rows) at)
 reads_key P (e ∷ es) zero key rows all at = subst P (ap (λ entry. entry.0) (same_Some e (key, rows) at)) all.0
 reads_key P (e ∷ es) (suc place) key rows all at = reads_key P es place key rows all.1 at
 
 -- a key finds its own rows
-own_rows : (es : KeyedRows) → IsDistinct same_key (keys_of es) → (place : ℕ) (key : Vec ℕ Global) (rows : RowIds) → slice_get es place ≡ Some (key, rows) → lookup (same_key key) es ≡ Some rows
+own_rows : (es : KeyedRows) → IsDistinct same_key (keys_of es) → (place : ℕ) (key : SmallVec ℕ) (rows : RowIds) → slice_get es place ≡ Some (key, rows) → lookup (same_key key) es ≡ Some rows
 unfolding IsDistinct
 own_rows [] distinct place key rows at = absurd (none-some (key, rows) at)
 own_rows (e ∷ es) distinct zero key rows at =
@@ -307,9 +306,9 @@ own_rows (e ∷ es) distinct (suc place) key rows at =
     let other : same_key e.0 key ≡ false = reads_key (λ k. same_key e.0 k ≡ false) es place key rows distinct.0 at in
     ap (λ b. cond b (Some e.1) (lookup (same_key key) es)) (same_key_laws.symm key e.0 ∙ other) ∙ own_rows es distinct.1 place key rows at
 
-module _ {S : Type 0} (m : IndexMap (Vec ℕ Global) RowIds S) (unique : IsUnique same_key m) (row place : ℕ) where
+module _ {S : Type 0} (m : IndexMap (SmallVec ℕ) RowIds S) (unique : IsUnique same_key m) (row place : ℕ) where
   -- with one row fewer under the key at the place
-  taken_at : (key : Vec ℕ Global) (rows : RowIds) (left : List ℕ) (new : KeyedRows) → slice_get m.entries place ≡ Some (key, rows)
+  taken_at : (key : SmallVec ℕ) (rows : RowIds) (left : List ℕ) (new : KeyedRows) → slice_get m.entries place ≡ Some (key, rows)
       → ((ids : List ℕ) → rows_under ids new ≡ cond (bytes_eq ids key.items) left (rows_under ids m.entries))
       → ((other : ℕ) → is_among other left ≡ (not (other == row) && is_among other (listed rows)))
       → IsTakenFrom m.entries new key.items row
@@ -326,10 +325,10 @@ module _ {S : Type 0} (m : IndexMap (Vec ℕ Global) RowIds S) (unique : IsUniqu
           grind (arith, nat_tests, e, now)
 
   -- the same, at the entry that stands there
-  at_key : (P : List ℕ → Type 0) → ((key : Vec ℕ Global) (rows : RowIds) → slice_get m.entries place ≡ Some (key, rows) → P key.items) → (key : List ℕ) → HasKeyAt m.entries place key → P key
+  at_key : (P : List ℕ → Type 0) → ((key : SmallVec ℕ) (rows : RowIds) → slice_get m.entries place ≡ Some (key, rows) → P key.items) → (key : List ℕ) → HasKeyAt m.entries place key → P key
   at_key P all key has = by (slice_get m.entries place) refl has
     where
-      by : (o : Option (Vec ℕ Global × RowIds)) → slice_get m.entries place ≡ o → IsSomeAnd o (λ entry. entry.0.items ≡ key) → P key
+      by : (o : Option (SmallVec ℕ × RowIds)) → slice_get m.entries place ≡ o → IsSomeAnd o (λ entry. entry.0.items ≡ key) → P key
       by None e h = absurd h
       by (Some entry) e h = subst P h (all entry.0 entry.1 e)
 
@@ -340,7 +339,7 @@ module _ {S : Type 0} (m : IndexMap (Vec ℕ Global) RowIds S) (unique : IsUniqu
       taken_at key rows (listed new) (set_value_at m.entries place new) at (rows_written m unique place key rows new at)
       (λ other. fewer other ∙ ap (λ (held : RowIds). not (other == row) && is_among other (listed held)) same))
 
-  pub left_removed : (lent : RowIds) (n : IndexMap (Vec ℕ Global) RowIds S) (taken : Option (Vec ℕ Global × RowIds)) → slice_get (values_of m.entries) place ≡ Some lent → (listed lent) ≡ row ∷ []
+  pub left_removed : (lent : RowIds) (n : IndexMap (SmallVec ℕ) RowIds S) (taken : Option (SmallVec ℕ × RowIds)) → slice_get (values_of m.entries) place ≡ Some lent → (listed lent) ≡ row ∷ []
       → taken ≡ slice_get m.entries place → IfSome taken (λ pair. Updates same_key m n pair.0 None)
       → (key : List ℕ) → HasKeyAt m.entries place key → IsTakenFrom m.entries n.entries key row
   left_removed lent n taken value one is updates = at_key (λ key. IsTakenFrom m.entries n.entries key row) (λ key rows at.
@@ -350,10 +349,10 @@ module _ {S : Type 0} (m : IndexMap (Vec ℕ Global) RowIds S) (unique : IsUniqu
       taken_at key rows [] n.entries at (rows_updated m.entries n.entries key None update.1 update.3)
       (λ other. let among = ap (is_among other) rows_are in grind (arith, nat_tests, among)))
 
-all_removed : (P : Vec ℕ Global × RowIds → Type 0) (es : KeyedRows) (place : ℕ) (d : Vec ℕ Global × RowIds) → place < length es → All P es → All P (swap_remove es place d)
+all_removed : (P : SmallVec ℕ × RowIds → Type 0) (es : KeyedRows) (place : ℕ) (d : SmallVec ℕ × RowIds) → place < length es → All P es → All P (swap_remove es place d)
 all_removed P es place d within all = All-take P (length es - 1) (set es place (get_or es (length es - 1) d)) (All-set P es place (get_or es (length es - 1) d) (All-get_or P es (length es - 1) d (omega arith) all) all)
 
-pub kept_removed : (es new : KeyedRows) (place : ℕ) (taken : Option (Vec ℕ Global × RowIds)) → place < length es → AreOrderly es
+pub kept_removed : (es new : KeyedRows) (place : ℕ) (taken : Option (SmallVec ℕ × RowIds)) → place < length es → AreOrderly es
     → IfSome taken (λ pair. new ≡ swap_remove es place pair) → IfNone taken (new ≡ es) → AreOrderly new
 kept_removed es new place None within kept removed same = subst AreOrderly (sym same) kept
 kept_removed es new place (Some pair) within kept removed same = subst AreOrderly (sym removed) (record {

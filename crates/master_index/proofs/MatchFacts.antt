@@ -1,8 +1,6 @@
 -- What a look-up by ids says of the rows that it gives.
 use Rattle.std.proofs.Common.{◌≡◌, ◌≢◌, ℕ, zero, suc, ◌<◌, Bool, true, false, cond, List, [], ◌∷◌, length, get_or, slice_get, Option, Some, None, refl, sym, ap, ◌∙◌, true≢false, arith}
 use Rattle.std.specs.Prelude.{◌==◌, ◌||◌, ◌↔◌, map, All, Contains, IsSomeAnd, IfSome, unwrap_or}
-use Rattle.std.specs.declared.vec.Vec.{Vec}
-use Rattle.std.specs.declared.alloc.Global.{Global}
 use Rattle.std.specs.List.Sorted.{IsStrictlyIncreasing}
 use Rattle.std.specs.Map.{lookup}
 use Rattle.std.specs.Option.{option_map_or}
@@ -11,6 +9,7 @@ use Rattle.std.proofs.lemmas.Bool.Decides.{nat_tests}
 use Rattle.std.proofs.lemmas.List.Elements.{All-head, All-tail, All-contains}
 use Rattle.std.proofs.lemmas.Option.{slice_get-get_or}
 use Rattle.std.proofs.lemmas.Slice.Eq.{bytes_eq-Decides}
+use Rattle.smallvec.specs.SmallVec.{SmallVec}
 use Rattle.master_index.specs.declared.rising.RowIds.{RowIds}
 use Rattle.master_index.specs.ColumnRows.{KeyedRows, listed, rows_under, is_among, AreRising, ids_in}
 use Rattle.master_index.specs.Masters.{HasIds, IsWideFor}
@@ -23,10 +22,10 @@ none_rise k within = absurd (omega arith)
 -- the rows under any key rise
 pub rows_rise : (es : KeyedRows) (ids : List ℕ) → AreRising es → IsStrictlyIncreasing (rows_under ids es)
 rows_rise [] ids rising = none_rise
-rows_rise (e ∷ es) ids rising = by (bytes_eq ids e.0.items) (rows_rise es ids (All-tail (λ (entry : Vec ℕ Global × RowIds). IsStrictlyIncreasing (listed entry.1)) e es rising))
+rows_rise (e ∷ es) ids rising = by (bytes_eq ids e.0.items) (rows_rise es ids (All-tail (λ (entry : SmallVec ℕ × RowIds). IsStrictlyIncreasing (listed entry.1)) e es rising))
   where
     by : (b : Bool) → IsStrictlyIncreasing (rows_under ids es) → IsStrictlyIncreasing (option_map_or listed (cond b (Some e.1) (lookup (λ key. bytes_eq ids key.items) es)) [])
-    by true rest = All-head (λ (entry : Vec ℕ Global × RowIds). IsStrictlyIncreasing (listed entry.1)) e es rising
+    by true rest = All-head (λ (entry : SmallVec ℕ × RowIds). IsStrictlyIncreasing (listed entry.1)) e es rising
     by false rest = rest
 
 -- a row is among rows exactly where they contain it

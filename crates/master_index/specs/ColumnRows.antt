@@ -6,8 +6,7 @@ use Rattle.std.specs.List.{list_any}
 use Rattle.std.specs.Map.{lookup}
 use Rattle.std.specs.Option.{option_map_or}
 use Rattle.std.specs.Str.{bytes_eq}
-use Rattle.std.specs.declared.vec.Vec.{Vec}
-use Rattle.std.specs.declared.alloc.Global.{Global}
+use Rattle.smallvec.specs.SmallVec.{SmallVec}
 use Rattle.master_index.specs.declared.rising.RowIds.{RowIds}
 use Rattle.master_index.specs.declared.rising.RowIds.TheVariants.{One, Several}
 
@@ -18,7 +17,7 @@ listed (Several rows) = rows.value.items
 
 -- what the code keeps: keys with their row ids
 abbrev pub KeyedRows : Type 0
-KeyedRows = List (Vec ℕ Global × RowIds)
+KeyedRows = List (SmallVec ℕ × RowIds)
 
 -- the ids of a tuple in the columns, which it has
 abbrev pub ids_in : List ℕ → List ℕ → List ℕ

@@ -1,5 +1,5 @@
 //! The rows of one master table by the ids in some of its columns, kept in step with the rows.
-ghost use Rattle.std.specs.Prelude.{◌≡◌, ◌+◌, ◌≤◌, ◌<◌, ◌==◌, ◌&&◌, ℕ, List, length, All, IfOk, IsTrue, ◌↔◌, vec_capacity, false, []};
+ghost use Rattle.std.specs.Prelude.{◌≡◌, ◌+◌, ◌≤◌, ◌<◌, ◌==◌, ◌&&◌, ℕ, List, length, All, IfOk, IsTrue, ◌↔◌, false, []};
 ghost use Rattle.std.specs.Str.{bytes_eq};
 ghost use Rattle.row_store.specs.Tuple.{ids_of};
 ghost use Rattle.master_index.specs.ColumnRows.{AreOrderly, ids_in, is_under, rows_under};
@@ -10,6 +10,7 @@ ghost use Rattle.std.proofs.lemmas.Slice.Eq.{bytes_eq-Decides};
 
 use crate::column_list::ColumnList;
 use crate::column_rows::{ColumnRows, put_row, rows_with, take_row};
+use crate::key::Key;
 use indexmap::IndexMap;
 use probe_steps::Steps;
 use row_store::{RowId, Tuple, Watch};
@@ -22,9 +23,9 @@ pub(crate) struct ColumnIndex {
     pub(crate) list: ColumnList,
     rows: ColumnRows,
     // Room for one key, so that a row is taken away without memory.
-    key: Vec<ValueId>,
+    key: Key,
     ghost kept: { AreOrderly rows.entries },
-    ghost room: { length list.columns ≤ vec_capacity key },
+    ghost room: { length list.columns ≤ key.capacity },
 }
 
 impl ColumnIndex {
@@ -32,7 +33,7 @@ impl ColumnIndex {
         ensures list { IfOk result (λ index. index.list ≡ list) }
         ensures empty { IfOk result (λ index. (ids : List ℕ) (row : ℕ) → is_under ids row index.rows.entries ≡ false) }
     {
-        let key = Vec::with_capacity(alloc, list.columns.as_slice().len())?;
+        let key = Key::with_capacity(alloc, list.columns.as_slice().len())?;
         Ok(ColumnIndex {
             list,
             rows: IndexMap::new(alloc),
@@ -97,7 +98,7 @@ impl Watch for ColumnIndex {
                 return Ok(());
             }
         }
-        let mut key = Vec::with_capacity(*self.rows.allocator(), columns.len())?;
+        let mut key = Key::with_capacity(*self.rows.allocator(), columns.len())?;
         write_key(&mut key, new, columns);
         put_row(&mut self.rows, key, row, steps)
     }
@@ -132,12 +133,12 @@ impl Watch for ColumnIndex {
     ) };
 }
 
-// Writes the ids of a tuple in the columns into a list that has the room.
-fn write_key(key: &mut Vec<ValueId>, tuple: &Tuple, columns: &[usize])
-    requires room { length columns.now ≤ vec_capacity key.old }
+// Writes the ids of a tuple in the columns into a key that has the room.
+fn write_key(key: &mut Key, tuple: &Tuple, columns: &[usize])
+    requires room { length columns.now ≤ key.old.capacity }
     requires wide { All (λ column. column < length (ids_of tuple.now)) columns.now }
     ensures ids { key.new.items ≡ ids_in (ids_of tuple.now) columns.now }
-    ensures room { vec_capacity key.new ≡ vec_capacity key.old }
+    ensures room { key.new.capacity ≡ key.old.capacity }
 {
     key.clear();
     for column in columns {

@@ -5,6 +5,7 @@ ghost use Rattle.indexmap.specs.IndexMap.{get, insert_index, ContainsKey, IsUniq
 ghost use Rattle.master_index.specs.ColumnRows.{rows_under, AreOrderly, HasKeyAt, HoldAlike, IsPutUnder, IsTakenFrom};
 
 use crate::entry::find_or_push;
+use crate::key::{Ids, Key};
 use crate::rising::RowIds;
 use indexmap::IndexMap;
 use probe_steps::Steps;
@@ -13,13 +14,13 @@ use std::alloc::AllocError;
 use std::sync::ledger::Ledger;
 use value_pool::ValueId;
 
-pub(crate) type ColumnRows = IndexMap<Vec<ValueId>, RowIds>;
+pub(crate) type ColumnRows = IndexMap<Key, RowIds>;
 
 /// The rows under a key.
 pub(crate) fn rows_with<'a>(map: &'a ColumnRows, ids: &[ValueId]) -> &'a [RowId]
     ensures { result.now ≡ rows_under ids.now map.now.entries }
 {
-    match map.get(ids) {
+    match map.get(Ids(ids)) {
         Some(rows) => rows.as_slice(),
         None => &[],
     }
@@ -28,7 +29,7 @@ pub(crate) fn rows_with<'a>(map: &'a ColumnRows, ids: &[ValueId]) -> &'a [RowId]
 /// Puts the row under a key, in one probe.
 pub(crate) fn put_row<L: Ledger>(
     map: &mut ColumnRows,
-    key: Vec<ValueId>,
+    key: Key,
     row: RowId,
     steps: &mut Steps<L>,
 ) -> Result<(), AllocError>
@@ -56,7 +57,7 @@ pub(crate) fn take_row<L: Ledger>(
     ensures probes { steps.new ≡ steps.old + 1 }
 {
     steps.tick();
-    if let Some(place) = map.get_index_of(key) {
+    if let Some(place) = map.get_index_of(Ids(key)) {
         take_at(map, place, row);
     }
 }
@@ -65,7 +66,7 @@ pub(crate) fn take_row<L: Ledger>(
 fn take_at(map: &mut ColumnRows, place: usize, row: RowId)
     requires within { place < length map.old.entries }
     requires kept { AreOrderly map.old.entries }
-    requires unique { IsUnique ⟦<Vec<ValueId> as PartialEq>⟧.eq map.old }
+    requires unique { IsUnique ⟦<Key as PartialEq>⟧.eq map.old }
     ensures kept { AreOrderly map.new.entries }
     ensures left { (key : List ℕ) → HasKeyAt map.old.entries place key → IsTakenFrom map.old.entries map.new.entries key row }
 {

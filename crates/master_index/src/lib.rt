@@ -11,6 +11,7 @@ mod column_list;
 mod column_rows;
 mod entry;
 mod index;
+mod key;
 mod rising;
 
 pub use column_list::ColumnList;

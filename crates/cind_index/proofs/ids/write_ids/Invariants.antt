@@ -1,5 +1,4 @@
 use Rattle.std.proofs.Common.{◌≡◌, take}
-use Rattle.std.specs.Prelude.{vec_capacity}
 use Rattle.row_store.specs.Tuple.{ids_of}
 use Rattle.cind_index.specs.Entries.{ids_in}
 use Rattle.cind_index.proofs.ids.write_ids.Given as goal
@@ -8,5 +7,5 @@ use Rattle.cind_index.proofs.ids.write_ids.Given as goal
 abbrev pub invariant-loop-attribute : goal.invariant-loop-attribute
 invariant-loop-attribute l = record {
   ids : l.list.items ≡ ids_in (ids_of l.tuple) (take l.attribute-index l.attributes);
-  room : vec_capacity l.list ≡ vec_capacity l.initial.list;
+  room : l.list.capacity ≡ l.initial.list.capacity;
 }

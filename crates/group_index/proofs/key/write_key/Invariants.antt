@@ -1,5 +1,4 @@
 use Rattle.std.proofs.Common.{◌≡◌, take}
-use Rattle.std.specs.Prelude.{vec_capacity}
 use Rattle.row_store.specs.Tuple.{ids_of}
 use Rattle.group_index.specs.Keys.{ids_at}
 use Rattle.group_index.proofs.key.write_key.Given as goal
@@ -8,5 +7,5 @@ use Rattle.group_index.proofs.key.write_key.Given as goal
 abbrev pub invariant-loop-attribute : goal.invariant-loop-attribute
 invariant-loop-attribute l = record {
   ids : l.key.items ≡ ids_at (ids_of l.tuple) (take l.attribute-index l.x);
-  room : vec_capacity l.key ≡ vec_capacity l.initial.key;
+  room : l.key.capacity ≡ l.initial.key.capacity;
 }

@@ -16,7 +16,7 @@ loop-place-init g c = record {
 pub loop-place-preserved : goal.loop-place-preserved
 loop-place-preserved g c =
     let at = pair_at c.args.groups.now.pairs c.loop-place.place c.key_at.result.now c.value_at.result.now c.key_at.ensures c.value_at.ensures in
-    let adds = subst (λ x. AddsMatching c.index-rows-k.result x (pairs_of c.value_at.result.now) c.loop-place.found.items c.push_matching.new.found.items) c.as_slice-x.ensures.value c.in_ok-push_matching.ensures in
+    let adds = subst (λ x. AddsMatching c.index-rows-k.result x (pairs_of c.value_at.result.now) c.loop-place.found.items c.push_matching.new.found.items) c.as_slice-x.ensures c.in_ok-push_matching.ensures in
     record {
       listed = listed_more c.args.groups.now c.len-len.ensures.distinct c.index-rows-k.result c.requires.settled c.loop-place.place c.key_at.result.now c.value_at.result.now at c.loop-place.found.items c.push_matching.new.found.items c.loop-place.invariant.listed adds;
       probes = omega (arith, c.tick.ensures, c.loop-place.invariant.probes);

@@ -1,5 +1,4 @@
 use Rattle.std.proofs.Common.{◌≡◌, take}
-use Rattle.std.specs.Prelude.{vec_capacity}
 use Rattle.row_store.specs.Tuple.{ids_of}
 use Rattle.master_index.specs.ColumnRows.{ids_in}
 use Rattle.master_index.proofs.column_index.write_key.Given as goal
@@ -8,5 +7,5 @@ use Rattle.master_index.proofs.column_index.write_key.Given as goal
 abbrev pub invariant-loop-column : goal.invariant-loop-column
 invariant-loop-column l = record {
   ids : l.key.items ≡ ids_in (ids_of l.tuple) (take l.column-index l.columns);
-  room : vec_capacity l.key ≡ vec_capacity l.initial.key;
+  room : l.key.capacity ≡ l.initial.key.capacity;
 }

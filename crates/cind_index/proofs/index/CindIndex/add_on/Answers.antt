@@ -31,8 +31,8 @@ returns-clause-ok g c =
     let row = c.args.row in
     let here = c.if-not-differs_on.ensures.here refl in
     let wide = wide_here (made_of index) c.args.table side ids here c.requires.wide_new in
-    let key = c.in_ok-key.ensures.items ∙ c.as_slice.ensures.value ∙ c.write_ids.ensures.ids ∙ ap (ids_in ids) c.key_on.ensures in
-    let pattern = c.as_slice-pattern.ensures.value ∙ c.write_ids-2.ensures.ids ∙ ap (ids_in ids) c.pattern_on.ensures in
+    let key = c.in_ok-key.ensures.ok ∙ c.as_slice.ensures ∙ c.write_ids.ensures.ids ∙ ap (ids_in ids) c.key_on.ensures in
+    let pattern = c.as_slice-pattern.ensures ∙ c.write_ids-2.ensures.ids ∙ ap (ids_in ids) c.pattern_on.ensures in
     on_ok c.put_entry.result (more_by side (is_entry c.in_ok-key.key.items c.as_slice-pattern.result.now row) (given (made_of index) side c.args.table row ids) index.keys c.put_entry.new.keys
     (λ e. ap (λ k. is_entry k c.as_slice-pattern.result.now row e) key ∙ ap (λ p. is_entry (ids_in ids (key_on index.rule side)) p row e) pattern
     ∙ sym (gives_own index.rule side row ids e wide) ∙ sym (given_here (made_of index) side c.args.table row ids e here))) c.put_entry.ensures.ok
@@ -45,8 +45,8 @@ returns-clause-new g c =
     let row = c.args.row in
     let here = c.if-not-differs_on.ensures.here refl in
     let wide = wide_here (made_of index) c.args.table side ids here c.requires.wide_new in
-    let key = c.in_ok-key.ensures.items ∙ c.as_slice.ensures.value ∙ c.write_ids.ensures.ids ∙ ap (ids_in ids) c.key_on.ensures in
-    let pattern = c.as_slice-pattern.ensures.value ∙ c.write_ids-2.ensures.ids ∙ ap (ids_in ids) c.pattern_on.ensures in
+    let key = c.in_ok-key.ensures.ok ∙ c.as_slice.ensures ∙ c.write_ids.ensures.ids ∙ ap (ids_in ids) c.key_on.ensures in
+    let pattern = c.as_slice-pattern.ensures ∙ c.write_ids-2.ensures.ids ∙ ap (ids_in ids) c.pattern_on.ensures in
     if_ok _ _ c.put_entry.result (λ new_at known. if_some _ _ new_at (λ place has. (
       here,
       (λ key_is at. subst (λ xs. HasKeyAt c.put_entry.new.keys place xs)

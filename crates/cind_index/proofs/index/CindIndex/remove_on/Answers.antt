@@ -23,7 +23,7 @@ returns-clause-left g c =
     let here = c.if-not-differs_on.ensures.here refl in
     let wide = wide_here (made_of index) c.args.table side ids here c.requires.wide_old in
     let key = c.write_ids.ensures.ids ∙ ap (ids_in ids) c.key_on.ensures in
-    let pattern = c.as_slice-pattern.ensures.value ∙ c.write_ids-2.ensures.ids ∙ ap (ids_in ids) c.pattern_on.ensures in
+    let pattern = c.as_slice-pattern.ensures ∙ c.write_ids-2.ensures.ids ∙ ap (ids_in ids) c.pattern_on.ensures in
     gone_by (made_of index) side c.args.table row ids (ids_behind c.args.new) index.keys c.take_entry.new.keys here (c.if-not-differs_on.ensures.differ refl)
     (less_by side (is_entry c.write_ids.new.list.items c.as_slice-pattern.result.now row) (gives_on index.rule side row ids) index.keys c.take_entry.new.keys
     (λ e. ap (λ k. is_entry k c.as_slice-pattern.result.now row e) key ∙ ap (λ p. is_entry (ids_in ids (key_on index.rule side)) p row e) pattern ∙ sym (gives_own index.rule side row ids e wide))

@@ -24,7 +24,7 @@ returns-clause-left c =
     let rule = c.args.self.now.rule in
     let ids = ids_of c.args.tuple.now in
     let row = c.args.row in
-    let pattern = c.as_slice-pattern.ensures.value ∙ c.write_ids.ensures.ids ∙ ap (ids_in ids) c.as_slice.ensures in
+    let pattern = c.as_slice-pattern.ensures ∙ c.write_ids.ensures.ids ∙ ap (ids_in ids) c.as_slice.ensures in
     less_by Left (is_entry (ids_in ids rule.x) c.as_slice-pattern.result.now row) (gives_on rule Left row ids) c.args.self.now.keys c.take_at.new.keys
     (λ e. ap (λ p. is_entry (ids_in ids rule.x) p row e) pattern ∙ sym (gives_own rule Left row ids e c.requires.wide))
     (c.take_at.ensures.left (ids_in ids rule.x) (c.requires.at (ids_in ids rule.x) (values_there ids rule.x (wide_front rule.x rule.xp ids c.requires.wide))))

@@ -1,9 +1,10 @@
-use Rattle.std.proofs.Common.{◌<◌, length, sym, ap, ◌∙◌}
+use Rattle.std.proofs.Common.{◌<◌, ◌≤◌, length, sym, ap, ◌∙◌, subst}
 use Rattle.std.specs.Prelude.{false, slice_index}
 use Rattle.std.specs.Option.{option_map_or}
 use Rattle.std.proofs.lemmas.List.Elements.{All-tail}
 use Rattle.row_store.specs.Tuple.{ids_of, ids_behind}
 use Rattle.group_index.specs.GroupSet.{GroupsMade}
+use Rattle.group_index.specs.Groups.{AreMarked}
 use Rattle.group_index.specs.Keys.{ids_at, gives_alike}
 use Rattle.group_index.proofs.WatchFacts.{wide_from, some_group, removed, removed_already}
 use Rattle.group_index.proofs.index.GroupIndexWatch.remove.Goals as goal
@@ -49,3 +50,13 @@ returns-clause-left g c =
     (λ i. record { x = key i; a = a i; row = c.args.row })
     (ap (λ x. option_map_or (λ own. gives_alike own (ids_of c.args.old.now) x c.self.inside.dependency.a) (ids_behind c.args.new) false) (sym c.as_slice-x.ensures) ∙ sym c.same_entry.ensures ∙ c.if-same_entry.false)
     c.take_entry.ensures.left
+
+pub invariant_of-self : goal.invariant_of-self
+invariant_of-self g c =
+    let made : GroupsMade = record { table = c.self.inside.table; dependency = c.self.inside.dependency } in
+    let wide = wide_from made c.self.inside.groups c.args.self.now c.args.table (ids_of c.args.old.now) c.self.view_is c.if-table-self.false c.requires.wide_old in
+    let room = c.self.invariant.room (some_group made c.self.inside.groups c.args.self.now c.args.table c.args.row c.self.view_is c.if-table-self.false (ids_of c.args.old.now) (ids_behind c.args.new) wide c.requires.present) in
+    record {
+      marks = subst (λ rows. AreMarked rows c.take_entry.new.groups) c.as_slice-rows.ensures c.take_entry.ensures.marks;
+      room = λ _. subst (λ n. length c.self.inside.dependency.x ≤ n) (sym c.write_key.ensures.room) room;
+    }
