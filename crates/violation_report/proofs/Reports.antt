@@ -1,26 +1,71 @@
--- A report has whole numbers only, so its text is known.
-use Rattle.std.proofs.Common.{◌≡◌, ℕ, List, [], ◌∷◌, ◌++◌, map, false, refl, ap, ◌∙◌, codes}
-use Rattle.serde_json.specs.Data.{Data}
+-- The text of a report, piece by piece.
+use Rattle.std.proofs.Common.{◌≡◌, ℕ, ◌+◌, ◌<◌, Bool, true, false, List, [], ◌∷◌, ◌++◌, map, length, drop, get_or, refl, ap, ◌∙◌, sym, codes}
+use Rattle.std.specs.Prelude.{decimal}
+use Rattle.std.specs.List.{concat}
+use Rattle.std.proofs.lemmas.List.{append_assoc, drop_more}
+use Rattle.serde_json.specs.Data.{Data, string}
 use Rattle.serde_json.specs.View.{items_of}
-use Rattle.serde_json.specs.Written.{compact_text, has_float, items_have_float}
+use Rattle.serde_json.specs.Written.{comma_if, compact_text, items_text}
+use Rattle.serde_json.proofs.OnLiterals.{serde_json_on_literals}
 use Rattle.rule_model.specs.Books.{Book}
-use Rattle.violation_report.specs.Report.{line_data, report_data, report_text}
+use Rattle.violation_report.specs.Report.{line_data, lines_data, report_text}
+use Rattle.violation_report.specs.Text.{dep_name, dep_attr, dep_table, cind_name, cind_table}
 use Rattle.violation_report.specs.declared.line.Line.{Line}
 use Rattle.violation_report.specs.declared.line.Line.TheVariants.{Single, Pair, Orphan}
 
-line_has_none : (rules : Book) (line : Line) → has_float (line_data rules line) ≡ false
-line_has_none rules (Single dep k row) = refl
-line_has_none rules (Pair dep k row partner) = refl
-line_has_none rules (Orphan cind k row) = refl
+-- a name as a JSON string
+abbrev pub name_text : List ℕ → List ℕ
+name_text name = compact_text (string name)
 
-lines_have_none : (rules : Book) (lines : List Line) → items_have_float (items_of (map (line_data rules) lines)) ≡ false
-lines_have_none rules [] = refl
-lines_have_none rules (line ∷ lines) = rw (line_has_none rules line) (lines_have_none rules lines)
+-- what was written of a line, piece by piece
+module _ (rules : Book) (k row : ℕ) (old new id rule table number : List ℕ) where
+  pub single_written : (dep : ℕ) (attr : List ℕ)
+      → attr ≡ name_text (dep_attr rules dep) → id ≡ decimal row → rule ≡ name_text (dep_name rules dep) → table ≡ name_text (dep_table rules dep) → number ≡ decimal (k + 1)
+      → new ≡ old ++ concat (codes "{\"attr\":" ∷ attr ∷ codes ",\"kind\":\"single\",\"row\":" ∷ id ∷ codes ",\"rule\":" ∷ rule ∷ codes ",\"table\":" ∷ table ∷ codes ",\"tableau\":" ∷ number ∷ codes "}" ∷ [])
+      → new ≡ old ++ compact_text (line_data rules (Single dep k row))
+  unfolding serde_json_on_literals
+  single_written dep attr is_attr is_id is_rule is_table is_number written = written ∙ rw (is_attr, is_id, is_rule, is_table, is_number) refl
 
-report_has_none : (rules : Book) (lines : List Line) → has_float (report_data rules lines) ≡ false
-report_has_none rules lines = rw (lines_have_none rules lines) refl
+  pub pair_written : (dep partner : ℕ) (attr other : List ℕ)
+      → attr ≡ name_text (dep_attr rules dep) → other ≡ decimal partner → id ≡ decimal row → rule ≡ name_text (dep_name rules dep) → table ≡ name_text (dep_table rules dep) → number ≡ decimal (k + 1)
+      → new ≡ old ++ concat (codes "{\"attr\":" ∷ attr ∷ codes ",\"kind\":\"pair\",\"partner\":" ∷ other ∷ codes ",\"row\":" ∷ id ∷ codes ",\"rule\":" ∷ rule ∷ codes ",\"table\":" ∷ table ∷ codes ",\"tableau\":" ∷ number ∷ codes "}" ∷ [])
+      → new ≡ old ++ compact_text (line_data rules (Pair dep k row partner))
+  unfolding serde_json_on_literals
+  pair_written dep partner attr other is_attr is_other is_id is_rule is_table is_number written = written ∙ rw (is_attr, is_other, is_id, is_rule, is_table, is_number) refl
 
--- what was written of the report, and its end
-pub written_report : (rules : Book) (lines : List Line) (report : Data) (text out : List ℕ) → report ≡ report_data rules lines → (has_float report ≡ false → text ≡ compact_text report) → out ≡ text ++ codes "\n" → out ≡ report_text rules lines
-written_report rules lines report text out is told more =
-    more ∙ ap (λ t. t ++ codes "\n") (told (ap has_float is ∙ report_has_none rules lines) ∙ ap compact_text is)
+  pub orphan_written : (cind : ℕ)
+      → id ≡ decimal row → rule ≡ name_text (cind_name rules cind) → table ≡ name_text (cind_table rules cind) → number ≡ decimal (k + 1)
+      → new ≡ old ++ concat (codes "{\"kind\":\"orphan\",\"row\":" ∷ id ∷ codes ",\"rule\":" ∷ rule ∷ codes ",\"table\":" ∷ table ∷ codes ",\"tableau\":" ∷ number ∷ codes "}" ∷ [])
+      → new ≡ old ++ compact_text (line_data rules (Orphan cind k row))
+  unfolding serde_json_on_literals
+  orphan_written cind is_id is_rule is_table is_number written = written ∙ rw (is_id, is_rule, is_table, is_number) refl
+
+-- one object more, before those that are left
+pub item_more : (rules : Book) (lines : List Line) (i : ℕ) (line : Line) → i < length lines → (later : Bool) (before out more : List ℕ)
+    → out ++ items_text later (items_of (map (line_data rules) (drop i lines))) ≡ before
+    → more ≡ out ++ (comma_if later ++ compact_text (line_data rules (get_or lines i line)))
+    → more ++ items_text true (items_of (map (line_data rules) (drop (i + 1) lines))) ≡ before
+item_more rules lines i line within later before out more so_far is =
+    let text = compact_text (line_data rules (get_or lines i line)) in
+    let rest = items_text true (items_of (map (line_data rules) (drop (i + 1) lines))) in
+    ap (λ t. t ++ rest) is
+    ∙ append_assoc out (comma_if later ++ text) rest
+    ∙ ap (λ t. out ++ t) (append_assoc (comma_if later) text rest ∙ ap (λ ls. items_text later (items_of (map (line_data rules) ls))) (sym (drop_more lines i line within)))
+    ∙ so_far
+
+-- the front of a report, the objects with their closing bracket, and its end
+pub report_pieces : (rules : Book) (lines : List Line) (front out report : List ℕ)
+    → front ≡ concat (codes "{\"count\":" ∷ decimal (length lines) ∷ codes ",\"lines\":[" ∷ [])
+    → out ≡ front ++ items_text false (items_of (map (line_data rules) lines))
+    → report ≡ out ++ codes "}\n"
+    → report ≡ report_text rules lines
+unfolding serde_json_on_literals
+report_pieces rules lines front out report is then last =
+    let items = items_text false (items_of (map (line_data rules) lines)) in
+    let count = decimal (length lines) in
+    let head = codes ",\"lines\":[" in
+    last
+    ∙ ap (λ t. t ++ codes "}\n") (then ∙ ap (λ t. t ++ items) is)
+    ∙ append_assoc (concat (codes "{\"count\":" ∷ count ∷ head ∷ [])) items (codes "}\n")
+    ∙ ap (λ t. codes "{\"count\":" ++ t) (append_assoc count head (items ++ codes "}\n"))
+    ∙ sym (ap (λ t. codes "{\"count\":" ++ t) (append_assoc count (head ++ (items ++ codes "}")) (codes "\n") ∙ ap (λ t. count ++ (head ++ t)) (append_assoc items (codes "}") (codes "\n"))))

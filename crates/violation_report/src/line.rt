@@ -212,8 +212,8 @@ pub(crate) fn cind_head(rules: &RuleBook, cind: usize, k: usize) -> CindHead<'_>
     }
 }
 
-// Appends the pieces, all or none.
-fn push_all(pieces: &[&[u8]], out: &mut Vec<u8>) -> Result<(), AllocError>
+/// Appends the pieces, all or none.
+pub(crate) fn push_all(pieces: &[&[u8]], out: &mut Vec<u8>) -> Result<(), AllocError>
     ensures ok { OnOk result (out.new.items ≡ out.old.items ++ concat (map (λ piece. piece.now) pieces.now)) }
     ensures err { OnErr result (out.new.items ≡ out.old.items) }
 {

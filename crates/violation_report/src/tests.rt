@@ -2,14 +2,12 @@
 
 ghost use Rattle.std.specs.Prelude.{◌≡◌, ◌<◌, ℕ, IfOk};
 ghost use Rattle.bench_core.specs.Loading.{AreTables};
-ghost use Rattle.rule_model.specs.Declarations.{IsWritten, IsWrittenCell, IsWrittenRow};
 
 use super::*;
 use bench_core::Bench;
-use cfd_semantics::{InclusionRow, Pattern};
 use edit_log::Edit;
 use probe_steps::Steps;
-use rule_model::{Cell, CfdDecl, CfdRow, CindDecl, CindRow, Decl, RuleBook};
+use rule_parser::parse_rules;
 use schema_core::{Limits, List, Schema, Text, Texts, parse_schema};
 use std::alloc::{AllocError, Global};
 use std::marker::Brand;
@@ -18,66 +16,8 @@ use std::test::Fail;
 
 const SCHEMA: &[u8] = b"table cust 'cust.csv'\nattr zip\nattr street\n";
 
-fn one(alloc: Global, text: &str) -> Result<Texts, AllocError> {
-    let mut texts = List::new(alloc);
-    texts.push(Text::new(alloc, text)?)?;
-    Ok(texts)
-}
-
-fn row(alloc: Global, x: Cell, y: Cell) -> Result<CfdRow, AllocError>
-    requires x { IsWrittenCell x }
-    requires y { IsWrittenCell y }
-    ensures { IfOk result IsWrittenRow }
-{
-    let mut left = List::new(alloc);
-    left.push(x)?;
-    let mut right = List::new(alloc);
-    right.push(y)?;
-    Ok(CfdRow { x: left, y: right })
-}
-
-// `cfd f1 cust: [zip] -> [street]` with the rows `'EH4' || 'High St'` and `_ || _`.
-fn dependency(alloc: Global) -> Result<Decl, AllocError>
-    ensures { IfOk result IsWritten }
-{
-    let mut y = List::new(alloc);
-    y.push(Text::new(alloc, "street")?)?;
-    let mut rows = List::new(alloc);
-    rows.push(row(
-        alloc,
-        Pattern::Is(Text::new(alloc, "EH4")?),
-        Pattern::Is(Text::new(alloc, "High St")?),
-    )?)?;
-    rows.push(row(alloc, Pattern::Any, Pattern::Any)?)?;
-    Ok(Decl::Cfd(CfdDecl {
-        name: Text::new(alloc, "f1")?,
-        table: Text::new(alloc, "cust")?,
-        x: one(alloc, "zip")?,
-        y,
-        rows,
-    }))
-}
-
-// `cind c1 cust[street; ] in cust[zip; ]` with the row `||`.
-fn inclusion(alloc: Global) -> Result<Decl, AllocError>
-    ensures { IfOk result IsWritten }
-{
-    let mut rows: List<CindRow> = List::new(alloc);
-    rows.push(InclusionRow {
-        xp: List::new(alloc),
-        yp: List::new(alloc),
-    })?;
-    Ok(Decl::Cind(CindDecl {
-        name: Text::new(alloc, "c1")?,
-        left: Text::new(alloc, "cust")?,
-        x: one(alloc, "street")?,
-        xp: List::new(alloc),
-        right: Text::new(alloc, "cust")?,
-        y: one(alloc, "zip")?,
-        yp: List::new(alloc),
-        rows,
-    }))
-}
+const RULES: &[u8] = b"cind c1 cust[street; ] in cust[zip; ]\nrow ||\n\
+    cfd f1 cust: [zip] -> [street]\nrow 'EH4' || 'High St'\nrow _ || _\n";
 
 fn no_rows(alloc: Global, schema: &Schema) -> Result<List<List<Texts>>, AllocError>
     ensures { IfOk result (λ tables. (cell_bytes : ℕ) → AreTables schema.now cell_bytes tables) }
@@ -93,9 +33,7 @@ fn bench<L: Ledger>(alloc: Global, steps: &mut Steps<L>) -> Result<Bench, Fail> 
     let limits = Limits::standard();
     let schema = parse_schema(alloc, SCHEMA, &limits)?;
     let tables = no_rows(alloc, &schema)?;
-    let mut rules = RuleBook::new(alloc, schema, limits);
-    rules.add(inclusion(alloc)?)?;
-    rules.add(dependency(alloc)?)?;
+    let rules = parse_rules(alloc, schema, RULES, &limits)?;
     Ok(Bench::load(alloc, rules, tables, limits, steps)?)
 }
 
@@ -106,7 +44,8 @@ fn insert<L: Ledger>(
     street: &str,
     steps: &mut Steps<L>,
 ) -> Result<(), Fail> {
-    let mut values = one(alloc, zip)?;
+    let mut values: Texts = List::new(alloc);
+    values.push(Text::new(alloc, zip)?)?;
     values.push(Text::new(alloc, street)?)?;
     let edit = Edit::Insert {
         table: Text::new(alloc, "cust")?,
