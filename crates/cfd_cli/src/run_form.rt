@@ -15,7 +15,7 @@ use session::{ServeFault, serve};
 use shelf_io::{Shelf, Sink};
 use std::alloc::{AllocError, Global};
 use std::sync::ledger::Ledger;
-use violation_report::list;
+use violation_report::count;
 
 /// Answers the script of a project.
 pub fn run_project<S: Shelf, O: Sink, L: Ledger>(
@@ -51,17 +51,19 @@ fn answer<O: Sink, L: Ledger>(
         commands,
     } = project;
     match serve(alloc, &mut bench, &commands, out, steps) {
-        Ok(()) => status_of(alloc, &bench, steps),
+        Ok(()) => status_of(&bench, steps),
         Err(ServeFault::WriteFault) => Status::WriteFault,
         Err(ServeFault::Memory) => Status::Memory,
     }
 }
 
-fn status_of<L: Ledger>(alloc: Global, bench: &Bench, steps: &mut Steps<L>) -> Status
+// The lines are counted, and not listed.
+#[tactic(auto, using(crate::proofs::Reports::none_counted, crate::proofs::Reports::some_counted))]
+fn status_of<L: Ledger>(bench: &Bench, steps: &mut Steps<L>) -> Status
     ensures { HasStatus (listing bench.now.rules bench.now.history.present) result }
 {
-    match list(alloc, bench, steps) {
-        Ok(lines) if lines.as_slice().is_empty() => Status::Clean,
+    match count(bench, steps) {
+        Ok(lines) if lines == 0 => Status::Clean,
         Ok(_) => Status::Findings,
         Err(AllocError) => Status::Memory,
     }
