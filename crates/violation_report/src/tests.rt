@@ -1,12 +1,14 @@
 //! The list of a small bench, and its text.
 
-ghost use Rattle.std.specs.Prelude.{◌≡◌, ◌<◌, ℕ, IfOk};
+ghost use Rattle.std.specs.Prelude.{◌≡◌, ◌<◌, ℕ, All, IfOk};
 ghost use Rattle.bench_core.specs.Loading.{AreTables};
+ghost use Rattle.violation_report.specs.Text.{IsLineOf};
 
 use super::*;
 use bench_core::Bench;
 use edit_log::Edit;
 use probe_steps::Steps;
+use rule_model::RuleBook;
 use rule_parser::parse_rules;
 use schema_core::{Limits, List, Schema, Text, Texts, parse_schema};
 use std::alloc::{AllocError, Global};
@@ -32,8 +34,8 @@ fn no_rows(alloc: Global, schema: &Schema) -> Result<List<List<Texts>>, AllocErr
 fn bench<L: Ledger>(alloc: Global, steps: &mut Steps<L>) -> Result<Bench, Fail> {
     let limits = Limits::standard();
     let schema = parse_schema(alloc, SCHEMA, &limits)?;
-    let tables = no_rows(alloc, &schema)?;
     let rules = parse_rules(alloc, schema, RULES, &limits)?;
+    let tables = no_rows(alloc, rules.schema())?;
     Ok(Bench::load(alloc, rules, tables, limits, steps)?)
 }
 
@@ -63,7 +65,37 @@ fn fill<L: Ledger>(alloc: Global, bench: &mut Bench, steps: &mut Steps<L>) -> Re
     Ok(())
 }
 
-// The text of the list of a small bench, made in one buffer and line by line. It has as many lines as are counted.
+/// The text of a list, made in one buffer and line by line.
+fn texts_of(
+    alloc: Global,
+    rules: &RuleBook,
+    lines: &[Line],
+) -> Result<(Vec<u8>, Vec<u8>), AllocError>
+    requires { All (IsLineOf rules.now) lines.now }
+{
+    let mut whole = Vec::new(alloc);
+    let mut joined = Vec::new(alloc);
+    for line in lines {
+        push_line(rules, line, &mut whole)?;
+        joined.extend_from_slice(&line_text(alloc, rules, line)?)?;
+    }
+    Ok((whole, joined))
+}
+
+/// What is listed of a bench, in both ways, and whether it has as many lines as are counted.
+fn told<L: Ledger>(
+    alloc: Global,
+    bench: &Bench,
+    steps: &mut Steps<L>,
+) -> Result<(Vec<u8>, Vec<u8>, bool), AllocError> {
+    let lines = list(alloc, bench, steps)?;
+    let lines = lines.as_slice();
+    let (whole, joined) = texts_of(alloc, bench.rules(), lines)?;
+    let counted = count(bench, steps)? == lines.len();
+    Ok((whole, joined, counted))
+}
+
+// What is told of a small bench.
 fn texts<L: Ledger>(alloc: Global, blank: Blank) -> Result<(Vec<u8>, Vec<u8>, bool), Fail>
     requires name { blank.name ≡ L.name }
     requires parts { blank.parts ≡ L.parts }
@@ -72,15 +104,7 @@ fn texts<L: Ledger>(alloc: Global, blank: Blank) -> Result<(Vec<u8>, Vec<u8>, bo
     let mut steps = Steps::<L>::open(blank);
     let mut bench = bench(alloc, &mut steps)?;
     fill(alloc, &mut bench, &mut steps)?;
-    let mut whole = Vec::new(alloc);
-    let mut joined = Vec::new(alloc);
-    let lines = list(alloc, &bench, &mut steps)?;
-    for line in lines.as_slice() {
-        push_line(bench.rules(), line, &mut whole)?;
-        joined.extend_from_slice(&line_text(alloc, bench.rules(), line)?)?;
-    }
-    let counted = count(&bench, &mut steps)? == lines.as_slice().len();
-    Ok((whole, joined, counted))
+    Ok(told(alloc, &bench, &mut steps)?)
 }
 
 #[test]
