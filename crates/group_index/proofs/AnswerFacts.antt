@@ -6,9 +6,9 @@ pub put_answer : {A E : Type 0} (r : Result A E) {P R : Type 0} → OnOk r P →
 put_answer (Ok a) p so = so p
 put_answer (Err e) p so = tt
 
-pub refused_answer : {A E : Type 0} (r : Result A E) {P Q R : Type 0} → OnErr r P → OnErr r Q → (P → Q → R) → OnErr r R
-refused_answer (Ok a) p q so = tt
-refused_answer (Err e) p q so = so p q
+pub refused_answer : {A E : Type 0} (r : Result A E) {P R : Type 0} → OnErr r P → (P → R) → OnErr r R
+refused_answer (Ok a) p so = tt
+refused_answer (Err e) p so = so p
 
 pub kept_answer : (b : Bool) (P : Type 0) → OnFalse b P → b ≡ false → P
 kept_answer true P p is = absurd (cc)

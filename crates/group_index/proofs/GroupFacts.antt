@@ -1,13 +1,13 @@
 -- The entries of the groups, place by place, and what a change of one group makes of them.
-use Rattle.std.proofs.Common.{◌≡◌, ◌≢◌, ℕ, zero, suc, ◌<◌, ◌⊎◌, Bool, true, false, not, ◌&&◌, ◌||◌, List, [], ◌∷◌, ◌++◌, map, length, slice_get, Some, refl, sym, ap, ◌∙◌, inl, inr, arith, length-append}
-use Rattle.std.specs.Prelude.{◌==◌, nat_eq}
+use Rattle.std.proofs.Common.{◌≡◌, ◌≢◌, ℕ, zero, suc, ◌<◌, ◌⊎◌, Bool, true, false, not, ◌&&◌, ◌||◌, List, [], ◌∷◌, ◌++◌, map, length, slice_get, Option, Some, None, refl, sym, ap, ◌∙◌, subst, inl, inr, arith}
+use Rattle.std.specs.Prelude.{◌==◌, nat_eq, IsSomeAnd}
 use Rattle.std.specs.List.{list_any}
 use Rattle.std.specs.Map.{keys_of, values_of}
 use Rattle.std.specs.Str.{bytes_eq}
-use Rattle.std.proofs.lemmas.Bool.{cases_lt, cases_eq}
+use Rattle.std.proofs.lemmas.Bool.{cases_eq}
 use Rattle.std.proofs.lemmas.Bool.Decides.{nat_tests}
 use Rattle.std.proofs.lemmas.List.Folds.{list_any-append}
-use Rattle.std.proofs.lemmas.Option.{none-some, same_Some, slice_get_within}
+use Rattle.std.proofs.lemmas.Option.{none-some, same_Some}
 use Rattle.std.proofs.lemmas.Slice.Eq.{bytes_eq-Decides}
 use Rattle.smallvec.specs.SmallVec.{SmallVec}
 use Rattle.marked_map.specs.Lending.{with_value}
@@ -17,7 +17,7 @@ use Rattle.group_index.specs.declared.group.Group.{Group}
 use Rattle.group_index.specs.declared.group.Group.TheVariants.{One}
 use Rattle.group_index.specs.GroupSet.{is_entry}
 use Rattle.group_index.specs.Pairs.{Pair, pairs_of, is_pair, has_pair, IsPut, IsTaken, HaveTheSame}
-use Rattle.group_index.specs.Groups.{KeyedGroup, KeyedGroups, entries_at, entries_in, is_in}
+use Rattle.group_index.specs.Groups.{KeyedGroup, KeyedGroups, entries_at, entries_in, is_in, HasKeyAt}
 
 -- the keys' own `==`
 abbrev pub same_key : SmallVec ℕ → SmallVec ℕ → Bool
@@ -124,6 +124,17 @@ module _ {K V : Type 0} where
   pair_at (p ∷ ps) zero k v key value = let one = same_Some p.0 k key in let other = same_Some p.1 v value in λ j. Some (one j, other j)
   pair_at (p ∷ ps) (suc i) k v key value = pair_at ps i k v key value
 
+  -- a value that stands at a place has a key
+  pub value_stands : (ps : List (K × V)) (i : ℕ) (v : V) → slice_get (values_of ps) i ≡ Some v → (k : K) × (slice_get ps i ≡ Some (k, v))
+  value_stands [] i v value = absurd (none-some v value)
+  value_stands (p ∷ ps) zero v value = let own = same_Some p.1 v value in (p.0, λ j. Some (p.0, own j))
+  value_stands (p ∷ ps) (suc i) v value = value_stands ps i v value
+
+  pub no_key : (ps : List (K × V)) (i : ℕ) (k : K) → slice_get ps i ≡ None → slice_get (keys_of ps) i ≡ Some k → ⊥
+  no_key [] i k none key = none-some k key
+  no_key (p ∷ ps) zero k none key = none-some p (sym none)
+  no_key (p ∷ ps) (suc i) k none key = no_key ps i k none key
+
   pub key_at : (ps : List (K × V)) (i : ℕ) (p : K × V) → slice_get ps i ≡ Some p → slice_get (keys_of ps) i ≡ Some p.0
   key_at [] i p at = absurd (none-some p at)
   key_at (q ∷ qs) zero p at = ap (λ (r : K × V). Some r.0) (same_Some q p at)
@@ -154,6 +165,10 @@ module _ {K V : Type 0} where
   pushed_before [] p i within = absurd (omega arith)
   pushed_before (q ∷ qs) p zero within = refl
   pushed_before (q ∷ qs) p (suc i) within = pushed_before qs p i (omega arith)
+
+-- the key at a place is the one that stands there
+pub key_from : (groups : KeyedGroups) (place : ℕ) (x : List ℕ) (at : KeyedGroup) → HasKeyAt groups place x → slice_get groups.pairs place ≡ Some at → at.0.items ≡ x
+key_from groups place x at has there = subst (λ o. IsSomeAnd o (λ (g : KeyedGroup). g.0.items ≡ x)) there has
 
 -- ---- an entry and a pair
 
@@ -243,85 +258,22 @@ module _ (pairs : List KeyedGroup) (place : ℕ) (key : SmallVec ℕ) (v w : Gro
                 is_in_from (set_value_at pairs place w) e place (key, w) (set_here pairs place key v w at) (ap (λ b. bytes_eq key.items e.x && b) (have (e.a, e.row)) ∙ ap (λ g. holds_at g e) group ∙ it.holds)
           ]
 
--- ---- a key is entered, and then a pair put into its group
+-- ---- a key is entered
 
-module _ (old mid : KeyedGroups) (key : SmallVec ℕ) (a row place : ℕ) (v w : Group) (enters : Enters same_key old key (One a row) place mid) (value : slice_get (values_of mid.pairs) place ≡ Some v) where
-  abbrev entry_of_key : Entry ℕ
-  entry_of_key = record { x = key.items; a = a; row = row }
-
-  -- the key stands there
-  abbrev StandsThere : Type 0
-  StandsThere = (stored : SmallVec ℕ) × (slice_get mid.pairs place ≡ Some (stored, v)) × (stored.items ≡ key.items)
-
-  from_key : (m : KeyedGroups) → m ≡ mid → HasKey same_key m key place → StandsThere
-  from_key m is (stored, at, same) = (stored, pair_at mid.pairs place stored v (ap (λ (n : KeyedGroups). slice_get (keys_of n.pairs) place) (sym is) ∙ at) value, sym (equal_ids key.items stored.items same))
-
-  last_value : place ≡ length old.pairs → mid ≡ record { pairs = old.pairs ++ (key, One a row) ∷ []; marked = old.marked } → slice_get mid.pairs place ≡ Some (key, One a row)
-  last_value at is = ap (λ (n : KeyedGroups). slice_get n.pairs place) is ∙ ap (slice_get (old.pairs ++ (key, One a row) ∷ [])) at ∙ pushed_last old.pairs (key, One a row)
-
-  there : StandsThere
-  there = elim enters [
-    | inl found ↦ from_key old (sym found.1) found.0
-    | inr new ↦ (key, pair_at mid.pairs place key v (key_at mid.pairs place (key, One a row) (last_value new.1 new.2)) value, refl)
+module _ (old : KeyedGroups) (key : SmallVec ℕ) (a row : ℕ) where
+  -- the key was there, where its place isn't behind all
+  pub key_entered : (mid : KeyedGroups) (place : ℕ) → Enters same_key old key (One a row) place mid → place ≢ length old.pairs → HasKeyAt mid place key.items × (mid ≡ old)
+  key_entered mid place enters apart = elim enters [
+    | inl found ↦ (subst (λ m. HasKeyAt m place key.items) (sym found.1) (stands place found.0), found.1)
+    | inr new ↦ absurd (apart new.1)
   ]
-
-  content_pushed : (e : Entry ℕ) → is_in (old.pairs ++ (key, One a row) ∷ []) e ≡ (is_in old.pairs e || is_entry entry_of_key e)
-  content_pushed e =
-      same_test (is_in (old.pairs ++ (key, One a row) ∷ []) e) (is_in old.pairs e || is_entry entry_of_key e) to from
     where
-      to : is_in (old.pairs ++ (key, One a row) ∷ []) e ≡ true → (is_in old.pairs e || is_entry entry_of_key e) ≡ true
-      to inside =
-          let it = found_in (old.pairs ++ (key, One a row) ∷ []) e inside in
-          elim (cases_lt it.place (length old.pairs)) [
-            | inl before ↦ left_so (is_in old.pairs e) (is_entry entry_of_key e) (is_in_from old.pairs e it.place it.group (sym (pushed_before old.pairs (key, One a row) it.place before) ∙ it.at) it.holds)
-            | inr past ↦
-                let within = slice_get_within (old.pairs ++ (key, One a row) ∷ []) it.place it.group it.at in
-                let last : it.place ≡ length old.pairs = omega (arith, within, length-append old.pairs ((key, One a row) ∷ [])) in
-                let group : (key, One a row) ≡ it.group = same_Some (key, One a row) it.group (sym (pushed_last old.pairs (key, One a row)) ∙ ap (slice_get (old.pairs ++ (key, One a row) ∷ [])) (sym last) ∙ it.at) in
-                let both = both_true (bytes_eq key.items e.x) (has_pair ((a, row) ∷ []) (e.a, e.row)) (ap (λ g. holds_at g e) group ∙ it.holds) in
-                right_so (is_in old.pairs e) (is_entry entry_of_key e) (is_entry_from entry_of_key e key.items refl both.0 (only (is_pair (e.a, e.row) (a, row)) both.1))
-          ]
+      stands : (place : ℕ) → HasKey same_key old key place → HasKeyAt old place key.items
+      stands place (stored, at, same) = of (slice_get old.pairs place) refl
         where
-          only : (b : Bool) → (b || false) ≡ true → b ≡ true
-          only true h = refl
-          only false h = absurd (cc)
-
-      from : (is_in old.pairs e || is_entry entry_of_key e) ≡ true → is_in (old.pairs ++ (key, One a row) ∷ []) e ≡ true
-      from either = elim (one_true (is_in old.pairs e) (is_entry entry_of_key e) either) [
-        | inl in_old ↦
-            let it = found_in old.pairs e in_old in
-            is_in_from (old.pairs ++ (key, One a row) ∷ []) e it.place it.group (pushed_before old.pairs (key, One a row) it.place (slice_get_within old.pairs it.place it.group it.at) ∙ it.at) it.holds
-        | inr new ↦
-            let parts = is_entry_parts entry_of_key e new in
-            is_in_from (old.pairs ++ (key, One a row) ∷ []) e (length old.pairs) (key, One a row) (pushed_last old.pairs (key, One a row))
-            (both_so (bytes_eq key.items e.x) (has_pair ((a, row) ∷ []) (e.a, e.row)) (same_ids key.items e.x parts.x) (left_so (is_pair (e.a, e.row) (a, row)) false parts.pair))
-      ]
-
-  pub entered_then_put : IsPut (pairs_of v) (pairs_of w) (a, row) → (e : Entry ℕ) → is_in (set_value_at mid.pairs place w) e ≡ (is_in old.pairs e || is_entry entry_of_key e)
-  entered_then_put put e =
-      let it = there in
-      content_put mid.pairs place it.0 v w entry_of_key it.1 it.2 put e ∙ elim enters [
-        | inl found ↦ ap (λ (n : KeyedGroups). is_in n.pairs e || is_entry entry_of_key e) found.1
-        | inr new ↦ ap (λ (n : KeyedGroups). is_in n.pairs e || is_entry entry_of_key e) new.2 ∙ ap (λ b. b || is_entry entry_of_key e) (content_pushed e) ∙ twice (is_in old.pairs e) (is_entry entry_of_key e)
-      ]
-    where
-      twice : (b c : Bool) → ((b || c) || c) ≡ (b || c)
-      twice true c = refl
-      twice false true = refl
-      twice false false = refl
-
-  pub entered_then_refused : HaveTheSame (pairs_of v) (pairs_of w) → has_pair (pairs_of v) (a, row) ≡ false → (e : Entry ℕ) → is_in (set_value_at mid.pairs place w) e ≡ is_in old.pairs e
-  entered_then_refused have absent e =
-      let it = there in
-      content_same mid.pairs place it.0 v w entry_of_key it.1 it.2 have e ∙ elim enters [
-        | inl found ↦ ap (λ (n : KeyedGroups). is_in n.pairs e) found.1
-        | inr new ↦
-            let group : (key, One a row) ≡ (it.0, v) = same_Some (key, One a row) (it.0, v) (sym (last_value new.1 new.2) ∙ it.1) in
-            let one : One a row ≡ v = ap (λ (g : KeyedGroup). g.1) group in
-            let none : has_pair ((a, row) ∷ []) (a, row) ≡ false = ap (λ g. has_pair (pairs_of g) (a, row)) one ∙ absent in
-            let some : has_pair ((a, row) ∷ []) (a, row) ≡ true = grind (arith, nat_tests) in
-            absurd (clash (has_pair ((a, row) ∷ []) (a, row)) some none)
-      ]
+          of : (o : Option KeyedGroup) → slice_get old.pairs place ≡ o → IsSomeAnd o (λ (g : KeyedGroup). g.0.items ≡ key.items)
+          of None is = absurd (no_key old.pairs place stored is at)
+          of (Some g) is = ap (λ (k : SmallVec ℕ). k.items) (same_Some g.0 stored (sym (key_at old.pairs place g is) ∙ at)) ∙ sym (equal_ids key.items stored.items same)
 
 -- ---- a pair is taken from the group at a place
 

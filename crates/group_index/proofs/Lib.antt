@@ -3,6 +3,7 @@ pub mod PairFacts
 pub mod GroupFacts
 pub mod MarkFacts
 pub mod RemovedFacts
+pub mod SpreadFacts
 pub mod AnswerFacts
 pub mod WatchFacts
 pub mod LeadFacts

@@ -1,16 +1,14 @@
 -- The marked groups are the dirty ones: what a change of one group, a mark and a removal leave of that.
-use Rattle.std.proofs.Common.{◌≡◌, ◌≢◌, ℕ, ◌-◌, ◌<◌, ◌≤◌, true, false, List, [], ◌∷◌, ◌++◌, length, slice_get, swap, Some, sym, ap, ◌∙◌, subst, inl, inr, arith, length-append}
+use Rattle.std.proofs.Common.{◌≡◌, ◌≢◌, ℕ, ◌-◌, ◌<◌, ◌≤◌, true, false, List, length, slice_get, swap, Some, sym, ap, ◌∙◌, subst, inl, inr, arith}
 use Rattle.std.proofs.lemmas.Bool.{cases_lt, cases_eq}
 use Rattle.std.proofs.lemmas.Option.{same_Some, slice_get_within}
-use Rattle.smallvec.specs.SmallVec.{SmallVec}
-use Rattle.marked_map.specs.MarkedMap.{with_mark, without_mark, Enters}
+use Rattle.marked_map.specs.MarkedMap.{with_mark, without_mark}
 use Rattle.marked_map.proofs.MarkedMapLemmas.{slice_get-swap_to, slice_get-swap_from, slice_get-swap_else}
 use Rattle.cfd_semantics.specs.declared.dependency.TableauRow.{TableauRow}
 use Rattle.cfd_semantics.specs.Violation.{Entry}
 use Rattle.group_index.specs.declared.group.Group.{Group}
-use Rattle.group_index.specs.declared.group.Group.TheVariants.{One}
 use Rattle.group_index.specs.Groups.{KeyedGroup, KeyedGroups, is_in, is_dirty_at, AreMarked, AreMarkedBut}
-use Rattle.group_index.proofs.GroupFacts.{same_key, same_test, found_in, is_in_from, set_value_at, set_elsewhere, pushed_before}
+use Rattle.group_index.proofs.GroupFacts.{same_test, found_in, is_in_from, set_value_at, set_elsewhere}
 
 module _ (rows : List (TableauRow ℕ)) where
   -- ---- a mark is put, or taken off
@@ -77,27 +75,7 @@ module _ (rows : List (TableauRow ℕ)) where
           })
     ]
 
-  -- ---- one group is entered, or gets other pairs
-
-  pub marked_but_entered : (old mid : KeyedGroups) (key : SmallVec ℕ) (a row place : ℕ) (w : Group) → Enters same_key old key (One a row) place mid → AreMarked rows old → AreMarkedBut rows (record { pairs = set_value_at mid.pairs place w; marked = mid.marked }) place
-  marked_but_entered old mid key a row place w enters are = (
-    (λ i g apart below stands. let own = kept i g apart (sym (set_elsewhere mid.pairs place i w apart) ∙ stands) in are.marked i g (omega (arith, below, same_marked)) own),
-    (λ i g apart past stands. let own = kept i g apart (sym (set_elsewhere mid.pairs place i w apart) ∙ stands) in are.unmarked i g (omega (arith, past, same_marked)) own),
-  )
-    where
-      same_marked : mid.marked ≡ old.marked
-      same_marked = elim enters [ inl found ↦ ap (λ (m : KeyedGroups). m.marked) found.1 | inr new ↦ ap (λ (m : KeyedGroups). m.marked) new.2 ]
-
-      kept : (i : ℕ) (g : KeyedGroup) → i ≢ place → slice_get mid.pairs i ≡ Some g → slice_get old.pairs i ≡ Some g
-      kept i g apart stands = elim enters [
-        | inl found ↦ ap (λ (m : KeyedGroups). slice_get m.pairs i) (sym found.1) ∙ stands
-        | inr new ↦
-            let pushed : mid.pairs ≡ old.pairs ++ (key, One a row) ∷ [] = ap (λ (m : KeyedGroups). m.pairs) new.2 in
-            let among : slice_get (old.pairs ++ (key, One a row) ∷ []) i ≡ Some g = ap (λ ps. slice_get ps i) (sym pushed) ∙ stands in
-            let short = slice_get_within (old.pairs ++ (key, One a row) ∷ []) i g among in
-            let before : i < length old.pairs = omega (arith, short, length-append old.pairs ((key, One a row) ∷ []), apart, new.1) in
-            sym (pushed_before old.pairs (key, One a row) i before) ∙ among
-      ]
+  -- ---- one group gets other pairs
 
   pub marked_but_written : (old : KeyedGroups) (place : ℕ) (w : Group) → AreMarked rows old → AreMarkedBut rows (record { pairs = set_value_at old.pairs place w; marked = old.marked }) place
   marked_but_written old place w are = (

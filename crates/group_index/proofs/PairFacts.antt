@@ -1,6 +1,6 @@
 -- The pairs of a group, in an ordered set and by themselves.
 use Rattle.std.proofs.Common.{◌≡◌, ℕ, ◌<◌, ◌≤◌, Bool, true, false, cond, not, ◌&&◌, ◌||◌, List, [], ◌∷◌, length, slice_get, Option, Some, None, IfSome, refl, sym, ap, ◌∙◌, subst, inl, inr, arith}
-use Rattle.std.specs.Prelude.{nat_eq, is_some, Contains, MatchOption, option_copied}
+use Rattle.std.specs.Prelude.{Contains, MatchOption, option_copied}
 use Rattle.std.specs.Borrow.{Bor}
 use Rattle.std.specs.Bool.{OnFalse}
 use Rattle.std.specs.declared.cmp.Ordering.{Ordering}
@@ -12,12 +12,9 @@ use Rattle.std.specs.BTreeSet.{BTreeSet, contains, IsKeyInRange, IsKeyRangeOf}
 use Rattle.std.specs.BTreeMap.{is_at}
 use Rattle.std.proofs.lemmas.Bool.{cases_lt}
 use Rattle.std.proofs.lemmas.Bool.Decides.{nat_tests}
-use Rattle.cfd_semantics.specs.declared.pattern.Pattern.{Pattern}
-use Rattle.cfd_semantics.specs.declared.dependency.TableauRow.{TableauRow}
-use Rattle.cfd_semantics.specs.Pattern.{matches, all_match}
 use Rattle.cfd_semantics.proofs.Members.{contains-here, contains-there}
 use Rattle.cfd_semantics.proofs.InclusionLaw.{found_by_any, any_from_found}
-use Rattle.group_index.specs.Pairs.{Pair, is_pair, has_pair, IsPut, IsTaken, IsAlone, ComesBefore, IsNextHead, is_mixed, disagree, is_dirty}
+use Rattle.group_index.specs.Pairs.{Pair, is_pair, has_pair, IsPut, IsTaken, IsAlone, ComesBefore, IsNextHead}
 
 -- the order of the set
 abbrev pub pair_cmp : Pair → Pair → Ordering
@@ -26,7 +23,7 @@ pair_cmp p q = ordering_then (nat_cmp p.0 q.0) (nat_cmp p.1 q.1)
 pub tied : (p q : Pair) → is_at (pair_cmp p) q ≡ is_pair p q
 tied p q = grind (arith, nat_tests)
 
-any_same : {X : Type 0} (f g : X → Bool) → ((x : X) → f x ≡ g x) → (xs : List X) → list_any f xs ≡ list_any g xs
+pub any_same : {X : Type 0} (f g : X → Bool) → ((x : X) → f x ≡ g x) → (xs : List X) → list_any f xs ≡ list_any g xs
 any_same f g same [] = refl
 any_same f g same (x ∷ xs) = ap (λ b. b || list_any f xs) (same x) ∙ ap (λ b. g x || b) (any_same f g same xs)
 
@@ -128,40 +125,11 @@ first_above s low most found rest p are is fits =
       λ q inside after. before p q (subst (λ r. IfSome (slice_get r 0) (λ k. is_gt (pair_cmp k q) ≡ false)) is (are.2 q (above low most q after, tt) (set_has s q ∙ has_from s.keys q inside))),
     )
 
--- ---- dirty groups
+-- ---- a test that no member passes
 
-none_pass : {X : Type 0} (p : X → Bool) (xs : List X) → ((x : X) → Contains xs x → p x ≡ false) → list_any p xs ≡ false
+pub none_pass : {X : Type 0} (p : X → Bool) (xs : List X) → ((x : X) → Contains xs x → p x ≡ false) → list_any p xs ≡ false
 none_pass p [] none = refl
 none_pass p (x ∷ xs) none = rw (none x (contains-here x xs)) (none_pass p xs (λ y inside. none y (contains-there y x xs inside)))
-
-pub clean_without_pairs : (rows : List (TableauRow ℕ)) (x : List ℕ) (pairs : List Pair) → IsNextHead pairs None None → is_dirty rows x pairs ≡ false
-clean_without_pairs rows x pairs none =
-    none_pass (λ t. all_match nat_eq t.x x && disagree t.a pairs) rows (λ t inside. ap (λ b. all_match nat_eq t.x x && b) (agrees t.a) ∙ never (all_match nat_eq t.x x))
-  where
-    never : (b : Bool) → (b && false) ≡ false
-    never true = refl
-    never false = refl
-
-    agrees : (cell : Pattern ℕ) → disagree cell pairs ≡ false
-    agrees cell =
-        rw (none_pass (λ p. list_any (λ q. not (nat_eq p.0 q.0)) pairs) pairs (λ p inside. absurd (none p inside tt)), none_pass (λ p. not (matches nat_eq cell p.0)) pairs (λ p inside. absurd (none p inside tt))) refl
-
--- one A id, or two, tell whether a cell is disagreed with
-pub disagree_by_heads : (pairs : List Pair) (head : Pair) (next : Option Pair) → IsNextHead pairs None (Some head) → IsNextHead pairs (Some head.0) next → (cell : Pattern ℕ)
-    → disagree cell pairs ≡ (is_some next || not (matches nat_eq cell head.0))
-disagree_by_heads pairs head None first alone cell =
-    let same : (q : Pair) → Contains pairs q → q.0 ≡ head.0 = λ q inside. elim (first.2 q inside tt) [ inl past ↦ absurd (alone q inside past) | inr is ↦ sym is.0 ] in
-    let unmixed : is_mixed pairs ≡ false = none_pass (λ p. list_any (λ q. not (nat_eq p.0 q.0)) pairs) pairs (λ p inside. none_pass (λ q. not (nat_eq p.0 q.0)) pairs (λ q beside. let one = same p inside in let other = same q beside in grind (arith, nat_tests))) in
-    ap (λ b. b || list_any (λ p. not (matches nat_eq cell p.0)) pairs) unmixed ∙ by (matches nat_eq cell head.0) refl same
-  where
-    by : (b : Bool) → matches nat_eq cell head.0 ≡ b → ((q : Pair) → Contains pairs q → q.0 ≡ head.0) → list_any (λ p. not (matches nat_eq cell p.0)) pairs ≡ not b
-    by true is same = none_pass (λ p. not (matches nat_eq cell p.0)) pairs (λ p inside. ap (λ a. not (matches nat_eq cell a)) (same p inside) ∙ ap not is)
-    by false is same = any_from_found (λ p. not (matches nat_eq cell p.0)) pairs head first.0 (ap not is)
-disagree_by_heads pairs head (Some other) first next cell =
-    let less : head.0 < other.0 = next.1 in
-    let differ : not (nat_eq head.0 other.0) ≡ true = grind (arith, nat_tests) in
-    let mixed : is_mixed pairs ≡ true = any_from_found (λ p. list_any (λ q. not (nat_eq p.0 q.0)) pairs) pairs head first.0 (any_from_found (λ q. not (nat_eq head.0 q.0)) pairs other next.0 differ) in
-    ap (λ b. b || list_any (λ p. not (matches nat_eq cell p.0)) pairs) mixed
 
 -- the same of what a walk over the range gives first
 pub none_above_next : (s : BTreeSet Pair) (low most : ℕ) (found rest : List Pair) (first : Option (Bor Pair)) → IsKeyRangeOf pair_cmp (Excluded (low, most)) Unbounded s found
@@ -173,9 +141,3 @@ pub first_above_next : (s : BTreeSet Pair) (low most : ℕ) (found rest : List P
     → MatchOption first ((found ≡ []) × (rest ≡ [])) (λ p. found ≡ p.now ∷ rest) → option_copied first ≡ Some p → p.1 ≤ most → IsNextHead s.keys (Some low) (Some p)
 first_above_next s low most found rest None p are steps some fits = absurd (cc)
 first_above_next s low most found rest (Some b) p are steps some fits = let same : b.now ≡ p = cc in first_above s low most found rest p are (steps ∙ ap (λ q. q ∷ rest) same) fits
-
-pub dirty_by_heads : (rows : List (TableauRow ℕ)) (x : List ℕ) (pairs : List Pair) (head : Pair) (next : Option Pair) (mixed : Bool) → IsNextHead pairs None (Some head) → IsNextHead pairs (Some head.0) next → mixed ≡ is_some next
-    → list_any (λ t. all_match nat_eq t.x x && (mixed || not (matches nat_eq t.a head.0))) rows ≡ is_dirty rows x pairs
-dirty_by_heads rows x pairs head next mixed first then is =
-    any_same (λ t. all_match nat_eq t.x x && (mixed || not (matches nat_eq t.a head.0))) (λ t. all_match nat_eq t.x x && disagree t.a pairs)
-    (λ t. ap (λ b. all_match nat_eq t.x x && b) (ap (λ b. b || not (matches nat_eq t.a head.0)) is ∙ sym (disagree_by_heads pairs head next first then t.a))) rows

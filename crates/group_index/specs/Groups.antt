@@ -1,5 +1,5 @@
 -- How an index keeps its groups: a map from the ids on X to a group, in which the dirty groups are marked.
-use Rattle.std.specs.Prelude.{◌≡◌, ◌≢◌, ℕ, ◌<◌, ◌≤◌, Bool, false, ◌&&◌, ◌||◌, not, List, map, length, Option, Some, slice_get, IsTrue}
+use Rattle.std.specs.Prelude.{◌≡◌, ◌≢◌, ℕ, ◌<◌, ◌≤◌, Bool, false, ◌&&◌, ◌||◌, not, List, map, length, Option, Some, slice_get, IsTrue, IsSomeAnd}
 use Rattle.std.specs.List.{flat_map, list_any}
 use Rattle.smallvec.specs.SmallVec.{SmallVec}
 use Rattle.marked_map.specs.MarkedMap.{MarkedPairs}
@@ -7,9 +7,10 @@ use Rattle.cfd_semantics.specs.declared.dependency.TableauRow.{TableauRow}
 use Rattle.cfd_semantics.specs.declared.dependency.Dependency.{Dependency}
 use Rattle.cfd_semantics.specs.Violation.{Entry}
 use Rattle.group_index.specs.declared.group.Group.{Group}
+use Rattle.group_index.specs.declared.spread.Spread.{Spread}
 use Rattle.group_index.specs.GroupSet.{GroupsMade, GroupSet, is_entry}
 use Rattle.group_index.specs.Answers.{IsPartnerOf}
-use Rattle.group_index.specs.Pairs.{pairs_of, is_dirty}
+use Rattle.group_index.specs.Pairs.{pairs_of, is_dirty, is_dirty_by}
 
 -- a key with its group, and all of them
 abbrev pub KeyedGroup : Type 0
@@ -60,6 +61,15 @@ abbrev pub AreMarkedBut : List (TableauRow ℕ) → KeyedGroups → ℕ → Type
 AreMarkedBut rows groups but =
     ((place : ℕ) (at : KeyedGroup) → place ≢ but → place < groups.marked → slice_get groups.pairs place ≡ Some at → IsTrue (is_dirty_at rows at))
     × ((place : ℕ) (at : KeyedGroup) → place ≢ but → groups.marked ≤ place → slice_get groups.pairs place ≡ Some at → is_dirty_at rows at ≡ false)
+
+-- the group at a place is marked where, with such A ids, it is dirty
+abbrev pub IsMarkedBy : List (TableauRow ℕ) → KeyedGroups → ℕ → Spread → Type 0
+IsMarkedBy rows groups place spread = (at : KeyedGroup) → slice_get groups.pairs place ≡ Some at
+    → (place < groups.marked → IsTrue (is_dirty_by rows at.0.items spread)) × (groups.marked ≤ place → is_dirty_by rows at.0.items spread ≡ false)
+
+-- the key stands at the place
+abbrev pub HasKeyAt : KeyedGroups → ℕ → List ℕ → Type 0
+HasKeyAt groups place x = IsSomeAnd (slice_get groups.pairs place) (λ at. at.0.items ≡ x)
 
 -- the set of the groups of an index
 abbrev pub set_of : GroupsMade → KeyedGroups → GroupSet

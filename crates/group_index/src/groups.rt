@@ -1,14 +1,12 @@
 //! The groups by their keys, with the dirty ones marked.
-ghost use Rattle.std.specs.Prelude.{◌≡◌, ◌+◌, ◌<◌, ◌≤◌, ◌&&◌, ◌||◌, not, nat_eq, length, OnOk, OnErr};
-ghost use Rattle.std.specs.List.{list_any};
-ghost use Rattle.cfd_semantics.specs.Pattern.{matches, all_match};
-ghost use Rattle.group_index.specs.Pairs.{pairs_of, is_dirty};
-ghost use Rattle.group_index.specs.Groups.{AreMarked, AreMarkedBut, IsEntered, IsLeft, HoldTheSame, IsPartnerIn};
+ghost use Rattle.std.specs.Prelude.{◌≡◌, ◌+◌, ◌<◌, ◌≤◌, ℕ, List, length, OnOk, OnErr};
+ghost use Rattle.group_index.specs.Groups.{AreMarked, AreMarkedBut, IsMarkedBy, HasKeyAt, IsEntered, IsLeft, HoldTheSame, IsPartnerIn};
 
 use crate::group::Group;
 use crate::index::IdRow;
 use crate::key::{Key, matches_all};
 use crate::leads::Leads;
+use crate::spread::Spread;
 use marked_map::MarkedMap;
 use probe_steps::Steps;
 use row_store::RowId;
@@ -34,9 +32,33 @@ pub(crate) fn put_entry<L: Ledger>(
     ensures probes { steps.new ≡ steps.old + 1 }
 {
     let alloc = *key.allocator();
+    let before = groups.len();
     let place = groups.enter(key, Group::One(a, row), steps)?;
+    if place == before {
+        settle(groups, rows, place);
+        return Ok(());
+    }
+    put_at(groups, rows, place, alloc, a, row)
+}
+
+// Puts a row into the group at a place.
+fn put_at(
+    groups: &mut Groups,
+    rows: &[IdRow],
+    place: usize,
+    alloc: Global,
+    a: ValueId,
+    row: RowId,
+) -> Result<(), AllocError>
+    requires within { place < length groups.old.pairs }
+    requires marks { AreMarked rows.now groups.old }
+    ensures marks { AreMarked rows.now groups.new }
+    ensures ok { OnOk result ((x : List ℕ) → HasKeyAt groups.old place x → IsEntered groups.old groups.new (record { x = x; a = a; row = row })) }
+    ensures err { OnErr result (HoldTheSame groups.old groups.new) }
+{
+    let before = Spread::of(groups.value_at(place));
     let put = groups.value_at_mut(place).put(alloc, a, row);
-    settle(groups, rows, place);
+    settle_again(groups, rows, place, before);
     put
 }
 
@@ -55,10 +77,11 @@ pub(crate) fn take_entry<L: Ledger>(
     ensures probes { steps.new ≡ steps.old + 1 }
 {
     if let Some(place) = groups.find(key, steps) {
+        let before = Spread::of(groups.value_at(place));
         if groups.value_at_mut(place).take(a, row) {
             groups.remove_at(place);
         } else {
-            settle(groups, rows, place);
+            settle_again(groups, rows, place, before);
         }
     }
 }
@@ -91,32 +114,24 @@ fn settle(groups: &mut Groups, rows: &[IdRow], place: usize)
     ensures marks { AreMarked rows.now groups.new }
     ensures same { HoldTheSame groups.old groups.new }
 {
-    if is_dirty(
-        rows,
-        groups.key_at(place).as_slice(),
-        groups.value_at(place),
-    ) {
+    let spread = Spread::of(groups.value_at(place));
+    if spread.is_dirty(rows, groups.key_at(place).as_slice()) {
         groups.mark_at(place);
     } else {
         groups.unmark_at(place);
     }
 }
 
-// Whether a row of the group violates some tableau row: it matches it on X, and has an A id that doesn't match, or two
-// A ids, of which one doesn't match or both differ.
-fn is_dirty(rows: &[IdRow], x: &[ValueId], group: &Group) -> bool
-    ensures { result ≡ is_dirty rows.now x.now (pairs_of group.now) }
+// The same for a group that was marked rightly as long as its A ids were spread like that: no tableau row is looked at where
+// they still are.
+fn settle_again(groups: &mut Groups, rows: &[IdRow], place: usize, before: Spread)
+    requires within { place < length groups.old.pairs }
+    requires others { AreMarkedBut rows.now groups.old place }
+    requires mark { IsMarkedBy rows.now groups.old place before }
+    ensures marks { AreMarked rows.now groups.new }
+    ensures same { HoldTheSame groups.old groups.new }
 {
-    let Some((a, _)) = group.next_head(None) else {
-        return false;
-    };
-    let mixed = group.next_head(Some(a)).is_some();
-    some_disagrees(rows, x, a, mixed)
-}
-
-// Whether some tableau row that the key matches asks for another A id, or there are two.
-fn some_disagrees(rows: &[IdRow], x: &[ValueId], a: ValueId, mixed: bool) -> bool
-    ensures { result ≡ list_any (λ t. all_match nat_eq t.x x.now && (mixed || not (matches nat_eq t.a a))) rows.now }
-{
-    rows.iter().any(|row| matches_all(row.x.as_slice(), x) && (mixed || !row.a.matches(&a)))
+    if Spread::of(groups.value_at(place)) != before {
+        settle(groups, rows, place);
+    }
 }

@@ -1,0 +1,141 @@
+-- How the A ids of a group spread tells whether it is dirty.
+use Rattle.std.proofs.Common.{◌≡◌, ◌≢◌, ℕ, ◌<◌, ◌≤◌, Bool, true, false, not, ◌&&◌, ◌||◌, List, [], ◌∷◌, length, slice_get, Some, refl, sym, ap, ◌∙◌, subst, inl, inr, arith}
+use Rattle.std.specs.Prelude.{nat_eq, Contains}
+use Rattle.std.specs.List.{list_any}
+use Rattle.std.specs.Ordering.{is_lt, is_gt}
+use Rattle.std.specs.BTreeSet.{BTreeSet, contains, IsUpperBound, IsLowerBound}
+use Rattle.std.proofs.lemmas.Bool.{cases_lt, cases_eq}
+use Rattle.std.proofs.lemmas.Bool.Decides.{nat_tests}
+use Rattle.std.proofs.lemmas.Option.{same_Some}
+use Rattle.cfd_semantics.specs.declared.pattern.Pattern.{Pattern}
+use Rattle.cfd_semantics.specs.declared.dependency.TableauRow.{TableauRow}
+use Rattle.cfd_semantics.specs.Pattern.{matches, all_match}
+use Rattle.cfd_semantics.proofs.InclusionLaw.{any_from_found}
+use Rattle.group_index.specs.declared.group.Group.{Group}
+use Rattle.group_index.specs.contracts.spread.SpreadPartialEq.TheImpl.{ghosts}
+use Rattle.group_index.specs.declared.spread.Spread.{Spread}
+use Rattle.group_index.specs.declared.spread.Spread.TheVariants.{Nothing, Alike, Mixed}
+use Rattle.group_index.specs.Pairs.{Pair, pairs_of, IsSpread, is_mixed, disagree, is_dirty, is_dirty_by}
+use Rattle.group_index.specs.Groups.{KeyedGroup, KeyedGroups, is_dirty_at, AreMarked, AreMarkedBut, IsMarkedBy}
+use Rattle.group_index.proofs.GroupFacts.{set_value_at, set_here}
+use Rattle.group_index.proofs.PairFacts.{pair_cmp, set_has, has_from, member_from, any_same, none_pass}
+
+-- ---- equal spreads are one
+
+pub unflip : (b : Bool) → not b ≡ false → b ≡ true
+unflip true is = refl
+unflip false is = absurd (cc)
+
+pub same_spread : (one other : Spread) → ghosts.eq one other ≡ true → one ≡ other
+same_spread Nothing Nothing is = refl
+same_spread Nothing (Alike b) is = absurd (cc)
+same_spread Nothing Mixed is = absurd (cc)
+same_spread (Alike a) Nothing is = absurd (cc)
+same_spread (Alike a) (Alike b) is = let same : a ≡ b = grind (arith, nat_tests, is) in ap Alike same
+same_spread (Alike a) Mixed is = absurd (cc)
+same_spread Mixed Nothing is = absurd (cc)
+same_spread Mixed (Alike b) is = absurd (cc)
+same_spread Mixed Mixed is = refl
+
+-- ---- the least and the greatest pair of a set
+
+pub nothing_there : (pairs : List Pair) → length pairs ≡ 0 → IsSpread pairs Nothing
+nothing_there pairs none q inside = absurd (empty pairs none inside)
+  where
+    empty : (ps : List Pair) → length ps ≡ 0 → Contains ps q → ⊥
+    empty [] none (place, within, is) = omega (arith, within)
+    empty (p ∷ ps) none inside = omega arith
+
+module _ (s : BTreeSet Pair) (least greatest : Pair) (has_least : contains pair_cmp s least ≡ true) (has_greatest : contains pair_cmp s greatest ≡ true) where
+  pub alike_between : IsLowerBound pair_cmp s least → IsUpperBound pair_cmp s greatest → least.0 ≡ greatest.0 → IsSpread s.keys (Alike least.0)
+  alike_between low high same = (
+    (least.1, member_from s.keys least (sym (set_has s least) ∙ has_least)),
+    λ q inside.
+        let there : contains pair_cmp s q ≡ true = set_has s q ∙ has_from s.keys q inside in
+        let above = low q there in
+        let below = high q there in
+        within q above below,
+  )
+    where
+      within : (q : Pair) → is_gt (pair_cmp least q) ≡ false → is_lt (pair_cmp greatest q) ≡ false → q.0 ≡ least.0
+      within q above below = elim (cases_lt q.0 least.0) [
+        | inl h ↦ absurd (grind (arith, nat_tests))
+        | inr from ↦ elim (cases_lt greatest.0 q.0) [
+          | inl h ↦ absurd (grind (arith, nat_tests))
+          | inr to ↦ omega (arith, from, to, same)
+        ]
+      ]
+
+  pub mixed_between : least.0 ≢ greatest.0 → IsSpread s.keys Mixed
+  mixed_between apart = (least, greatest, member_from s.keys least (sym (set_has s least) ∙ has_least), member_from s.keys greatest (sym (set_has s greatest) ∙ has_greatest), apart)
+
+-- ---- dirty groups
+
+never : (b : Bool) → (b && false) ≡ false
+never true = refl
+never false = refl
+
+unmixed : (pairs : List Pair) (a : ℕ) → ((q : Pair) → Contains pairs q → q.0 ≡ a) → is_mixed pairs ≡ false
+unmixed pairs a same =
+    none_pass (λ p. list_any (λ q. not (nat_eq p.0 q.0)) pairs) pairs (λ p inside. none_pass (λ q. not (nat_eq p.0 q.0)) pairs (λ q beside. let one = same p inside in let other = same q beside in grind (arith, nat_tests)))
+
+module _ (rows : List (TableauRow ℕ)) (x : List ℕ) (pairs : List Pair) where
+  pub dirty_by_spread : (spread : Spread) → IsSpread pairs spread → is_dirty rows x pairs ≡ is_dirty_by rows x spread
+  dirty_by_spread Nothing none =
+      none_pass (λ t. all_match nat_eq t.x x && disagree t.a pairs) rows (λ t inside. ap (λ b. all_match nat_eq t.x x && b) (agrees t.a) ∙ never (all_match nat_eq t.x x))
+    where
+      agrees : (cell : Pattern ℕ) → disagree cell pairs ≡ false
+      agrees cell =
+          rw (none_pass (λ p. list_any (λ q. not (nat_eq p.0 q.0)) pairs) pairs (λ p inside. absurd (none p inside)), none_pass (λ p. not (matches nat_eq cell p.0)) pairs (λ p inside. absurd (none p inside))) refl
+  dirty_by_spread (Alike a) (some, same) =
+      any_same (λ t. all_match nat_eq t.x x && disagree t.a pairs) (λ t. all_match nat_eq t.x x && not (matches nat_eq t.a a)) (λ t. ap (λ b. all_match nat_eq t.x x && b) (differs t.a)) rows
+    where
+      by : (cell : Pattern ℕ) (b : Bool) → matches nat_eq cell a ≡ b → list_any (λ p. not (matches nat_eq cell p.0)) pairs ≡ not b
+      by cell true is = none_pass (λ p. not (matches nat_eq cell p.0)) pairs (λ p inside. ap (λ c. not (matches nat_eq cell c)) (same p inside) ∙ ap not is)
+      by cell false is = any_from_found (λ p. not (matches nat_eq cell p.0)) pairs (a, some.0) some.1 (ap not is)
+
+      differs : (cell : Pattern ℕ) → disagree cell pairs ≡ not (matches nat_eq cell a)
+      differs cell = ap (λ b. b || list_any (λ p. not (matches nat_eq cell p.0)) pairs) (unmixed pairs a same) ∙ by cell (matches nat_eq cell a) refl
+  dirty_by_spread Mixed (p, q, has_p, has_q, apart) =
+      any_same (λ t. all_match nat_eq t.x x && disagree t.a pairs) (λ t. all_match nat_eq t.x x) (λ t. ap (λ b. all_match nat_eq t.x x && b) (differs t.a) ∙ always (all_match nat_eq t.x x)) rows
+    where
+      always : (b : Bool) → (b && true) ≡ b
+      always true = refl
+      always false = refl
+
+      differ : not (nat_eq p.0 q.0) ≡ true
+      differ = grind (arith, nat_tests, apart)
+
+      differs : (cell : Pattern ℕ) → disagree cell pairs ≡ true
+      differs cell =
+          ap (λ b. b || list_any (λ r. not (matches nat_eq cell r.0)) pairs) (any_from_found (λ r. list_any (λ o. not (nat_eq r.0 o.0)) pairs) pairs p has_p (any_from_found (λ o. not (nat_eq p.0 o.0)) pairs q has_q differ))
+
+-- ---- marks
+
+module _ (rows : List (TableauRow ℕ)) (groups : KeyedGroups) (place : ℕ) where
+  -- a mark that is right for how A ids are spread
+  pub marked_by_spread : (at : KeyedGroup) (spread : Spread) → slice_get groups.pairs place ≡ Some at → IsSpread (pairs_of at.1) spread → IsMarkedBy rows groups place spread → AreMarkedBut rows groups place → AreMarked rows groups
+  marked_by_spread at spread there is by others = record {
+    marked = λ i g below stands. elim (cases_eq i place) [
+      | inl same ↦
+          let own : at ≡ g = same_Some at g (sym there ∙ ap (slice_get groups.pairs) (sym same) ∙ stands) in
+          ap (is_dirty_at rows) (sym own) ∙ dirty_by_spread rows at.0.items (pairs_of at.1) spread is ∙ (by at there).0 (subst (λ n. n < groups.marked) same below)
+      | inr apart ↦ others.0 i g apart below stands
+    ];
+    unmarked = λ i g past stands. elim (cases_eq i place) [
+      | inl same ↦
+          let own : at ≡ g = same_Some at g (sym there ∙ ap (slice_get groups.pairs) (sym same) ∙ stands) in
+          ap (is_dirty_at rows) (sym own) ∙ dirty_by_spread rows at.0.items (pairs_of at.1) spread is ∙ (by at there).1 (subst (λ n. groups.marked ≤ n) same past)
+      | inr apart ↦ others.1 i g apart past stands
+    ];
+  }
+
+-- a mark that was right stays right for how A ids were spread, whatever group stands there now
+pub marked_as_before : (rows : List (TableauRow ℕ)) (groups : KeyedGroups) (place : ℕ) (at : KeyedGroup) (w : Group) (spread : Spread) → slice_get groups.pairs place ≡ Some at → IsSpread (pairs_of at.1) spread → AreMarked rows groups
+    → IsMarkedBy rows (record { pairs = set_value_at groups.pairs place w; marked = groups.marked }) place spread
+marked_as_before rows groups place at w spread there is are now stands =
+    let own : ◌≡◌ {A = KeyedGroup} (at.0, w) now = same_Some (at.0, w) now (sym (set_here groups.pairs place at.0 at.1 w there) ∙ stands) in
+    let by = dirty_by_spread rows at.0.items (pairs_of at.1) spread is in (
+      (λ below. ap (λ (g : KeyedGroup). is_dirty_by rows g.0.items spread) (sym own) ∙ sym by ∙ are.marked place at below there),
+      (λ past. ap (λ (g : KeyedGroup). is_dirty_by rows g.0.items spread) (sym own) ∙ sym by ∙ are.unmarked place at past there),
+    )

@@ -1,0 +1,74 @@
+//! How the A ids of a group spread: all that it takes, beside the key, to tell whether the group is dirty.
+ghost use Rattle.std.specs.Prelude.{◌≡◌, ◌&&◌, not, nat_eq};
+ghost use Rattle.std.specs.List.{list_any};
+ghost use Rattle.cfd_semantics.specs.Pattern.{matches, all_match};
+ghost use Rattle.group_index.specs.Pairs.{pairs_of, IsSpread, is_dirty_by};
+
+use crate::group::Group;
+use crate::index::IdRow;
+use crate::key::matches_all;
+use row_store::RowId;
+use std::collections::BTreeSet;
+use value_pool::ValueId;
+
+/// No A id at all, one that all rows have, or several.
+#[derive(Clone, Copy, PartialEq, Eq)]
+pub(crate) enum Spread {
+    Nothing,
+    Alike(ValueId),
+    Mixed,
+}
+
+impl Spread {
+    /// The spread of a group, told from its least and its greatest A id.
+    pub(crate) fn of(group: &Group) -> Spread
+        ensures { IsSpread (pairs_of group.now) result }
+    {
+        match group {
+            Group::One(a, _) => Spread::Alike(*a),
+            Group::Many(pairs) => spread_of(pairs),
+        }
+    }
+
+    /// Whether a row of such a group violates some tableau row: it matches it on X, and has an A id that doesn't match, or
+    /// two A ids, of which one doesn't match or both differ.
+    pub(crate) fn is_dirty(self, rows: &[IdRow], x: &[ValueId]) -> bool
+        ensures { result ≡ is_dirty_by rows.now x.now self }
+    {
+        match self {
+            Spread::Nothing => false,
+            Spread::Alike(a) => some_differs(rows, x, a),
+            Spread::Mixed => some_matches(rows, x),
+        }
+    }
+}
+
+fn spread_of(pairs: &BTreeSet<(ValueId, RowId)>) -> Spread
+    ensures { IsSpread pairs.now.keys result }
+{
+    let Some((least, _)) = pairs.first() else {
+        return Spread::Nothing;
+    };
+    let Some((greatest, _)) = pairs.last() else {
+        return Spread::Nothing;
+    };
+    if *least == *greatest {
+        Spread::Alike(*least)
+    } else {
+        Spread::Mixed
+    }
+}
+
+// Whether the key matches some tableau row.
+fn some_matches(rows: &[IdRow], x: &[ValueId]) -> bool
+    ensures { result ≡ list_any (λ t. all_match nat_eq t.x x.now) rows.now }
+{
+    rows.iter().any(|row| matches_all(row.x.as_slice(), x))
+}
+
+// Whether the key matches some tableau row that asks for another A id.
+fn some_differs(rows: &[IdRow], x: &[ValueId], a: ValueId) -> bool
+    ensures { result ≡ list_any (λ t. all_match nat_eq t.x x.now && not (matches nat_eq t.a a)) rows.now }
+{
+    rows.iter().any(|row| matches_all(row.x.as_slice(), x) && !row.a.matches(&a))
+}
