@@ -1,4 +1,5 @@
 pub mod ColumnRows
 pub mod ColumnWatch
 pub mod Masters
+pub mod Tables
 pub mod InStep

@@ -4,7 +4,6 @@ use Rattle.std.specs.Ordering.{nat_cmp, on, then_cmp}
 use Rattle.std.specs.declared.cmp.Ordering.{Ordering}
 use Rattle.std.specs.FinMap as finite
 use Rattle.std.specs.Coded.{Coded, code_by, coded×, coded_list, coded_ℕ}
-use Rattle.row_store.specs.Tuple.{Tuple, ids_of}
 use Rattle.master_index.specs.declared.column_list.ColumnList.{ColumnList}
 
 -- a row is named by its table and its id
@@ -50,7 +49,3 @@ masters_code =
     (λ m. (m.lists, m.rows))
     (λ p. record { lists = p.0; rows = p.1 })
     (λ _. refl)
-
--- the rows in a hashed map's entries
-abbrev pub rows_of_entries : List (RowName × Tuple) → MasterRows
-rows_of_entries entries = finite.from_entries (map (λ entry. (entry.0, ids_of entry.1)) entries)

@@ -7,24 +7,29 @@ ghost use Rattle.master_index.specs.Masters.{IsRowWith, IsWideFor, lists_of};
 
 use crate::column_index::ColumnIndex;
 use crate::column_list::ColumnList;
+use crate::tables::Tables;
 use probe_steps::Steps;
 use row_store::{RowId, Tuple, add_to_all, remove_from_all};
 use std::alloc::{AllocError, Global};
-use std::collections::HashMap;
 use std::marker::Model;
 use std::sync::ledger::Ledger;
 use value_pool::ValueId;
 
 /// Rows of master tables, looked up by their ids and by the values in the columns that were handed in.
+///
+/// The rows of a table take memory by the greatest row id that was added to it, and the tables by the greatest of their
+/// numbers: both are dense, since whoever holds the tables gives them out one after the other. What was passed over takes
+/// the place of a reference for a row, and of an empty store for a table.
 #[derive(Drop)]
 pub struct MasterIndex {
     columns: Vec<ColumnIndex>,
-    tuples: HashMap<(usize, RowId), Tuple>,
+    tables: Tables,
 }
 
 impl Model for MasterIndex {
     ghost use Rattle.std.specs.Prelude.{map};
-    ghost use Rattle.master_index.specs.Masters.{Masters, masters_code, rows_of_entries};
+    ghost use Rattle.master_index.specs.Masters.{Masters, masters_code};
+    ghost use Rattle.master_index.specs.Tables.{rows_of_tables};
 
     ghost Value = { Masters };
 
@@ -32,9 +37,9 @@ impl Model for MasterIndex {
 
     ghost use Rattle.master_index.specs.InStep.{IsMasterIndex};
 
-    ghost view = { λ m. record { lists = map (λ index. index.list) m.columns.items; rows = rows_of_entries m.tuples.entries } };
+    ghost view = { λ m. record { lists = map (λ index. index.list) m.columns.items; rows = rows_of_tables m.tables.stores.items } };
 
-    ghost invariant = { λ m. IsMasterIndex m.columns.items (rows_of_entries m.tuples.entries) };
+    ghost invariant = { λ m. IsMasterIndex m.columns.items (rows_of_tables m.tables.stores.items) };
 }
 
 impl MasterIndex {
@@ -49,7 +54,7 @@ impl MasterIndex {
         }
         Ok(MasterIndex {
             columns,
-            tuples: HashMap::new(alloc),
+            tables: Tables::new(alloc),
         })
     }
 
@@ -57,7 +62,7 @@ impl MasterIndex {
     pub fn tuple(&self, master: usize, row: RowId) -> Option<&Tuple>
         ensures { ids_behind result ≡ finite.get self.now.rows (master, row) }
     {
-        self.tuples.get(&(master, row))
+        self.tables.get(master, row)
     }
 
     /// The rows with these ids in these columns, by rising ids. It takes no memory.
@@ -74,7 +79,8 @@ impl MasterIndex {
         &[]
     }
 
-    /// Adds a row that isn't there. After a refusal the rows are as before.
+    /// Adds a row that isn't there. After a refusal the rows are as before. The first row of an id makes room for all ids
+    /// below it in the table.
     pub fn add<L: Ledger>(
         &mut self,
         master: usize,
@@ -91,9 +97,9 @@ impl MasterIndex {
         ensures probes_twice { steps.new ≤ steps.old + 2 * lists_of self.old.lists master }
     {
         let shared = tuple.clone()?;
-        self.tuples.reserve(1)?;
+        self.tables.ready(master, row)?;
         add_to_all(&mut self.columns, master, row, None, tuple, steps)?;
-        self.tuples.insert((master, row), shared)?;
+        self.tables.put(master, row, shared);
         Ok(())
     }
 
@@ -104,9 +110,8 @@ impl MasterIndex {
         ensures lists { self.new.lists ≡ self.old.lists }
         ensures probes { steps.new ≤ steps.old + lists_of self.old.lists master }
     {
-        if let Some(tuple) = self.tuples.remove(&(master, row)) {
-            remove_from_all(&mut self.columns, master, row, &tuple, None, steps);
-        }
+        let tuple = self.tables.take(master, row);
+        remove_from_all(&mut self.columns, master, row, &tuple, None, steps);
     }
 
     /// Puts the tuple in place of the row's. After a refusal the rows are as before.
@@ -125,11 +130,11 @@ impl MasterIndex {
         ensures probes { steps.new ≤ steps.old + 2 * lists_of self.old.lists master }
     {
         let shared = tuple.clone()?;
-        let old = self.tuples[&(master, row)].clone()?;
+        let old = self.tables.get(master, row).unwrap().clone()?;
         let columns = self.columns.as_mut_slice();
         add_to_all(columns, master, row, Some(&old), tuple, steps)?;
         remove_from_all(columns, master, row, &old, Some(tuple), steps);
-        self.tuples.insert((master, row), shared)?;
+        self.tables.replace(master, row, shared);
         Ok(())
     }
 }

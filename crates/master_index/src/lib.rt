@@ -13,6 +13,7 @@ mod entry;
 mod index;
 mod key;
 mod rising;
+mod tables;
 
 pub use column_list::ColumnList;
 pub use index::MasterIndex;

@@ -8,8 +8,8 @@ use Rattle.row_store.specs.Watch.{IsWide}
 use Rattle.row_store.specs.Watches.{HasAdded, HoldsTheSame}
 use Rattle.master_index.specs.declared.column_index.ColumnIndex.{ColumnIndex}
 use Rattle.master_index.specs.ColumnWatch.{attributes_of}
-use Rattle.master_index.specs.Masters.{IsWideFor, rows_of_entries}
-use Rattle.master_index.proofs.MasterRowFacts.{rows_alike, rows_inserted}
+use Rattle.master_index.specs.Masters.{IsWideFor}
+use Rattle.master_index.specs.Tables.{rows_of_tables}
 use Rattle.master_index.proofs.MasterSteps.{watch, wide_each, written_whole, lists_kept, kept_after_add, kept_after_refusal, on_err}
 use Rattle.master_index.proofs.index.MasterIndex.add.Goals as goal
 
@@ -24,11 +24,11 @@ invariant_of-self-in_err-add_to_all g c =
     let new = c.add_to_all.new.watches in
     let same = subst (λ xs. AllZip (HoldsTheSame watch) xs new) c.deref_mut.ensures.value c.in_err-add_to_all.ensures.err in
     let whole = written_whole c.self.inside.columns.len was new (omega arith) (sym (length_all_zip (HoldsTheSame watch) was new same)) in
-    rw (whole, rows_alike c.self.inside.tuples.entries c.reserve.new.self.entries c.reserve.ensures.entries.2) (kept_after_refusal was (rows_of_entries c.self.inside.tuples.entries) c.self.invariant c.args.master c.args.row new same)
+    rw (whole, c.ready.ensures.rows) (kept_after_refusal was (rows_of_tables c.self.inside.tables.stores.items) c.self.invariant c.args.master c.args.row new same)
 
 pub returns-in_err-add_to_all-clause-err : goal.returns-in_err-add_to_all-clause-err
 returns-in_err-add_to_all-clause-err g c =
-    on_err _ (rows_alike c.self.inside.tuples.entries c.reserve.new.self.entries c.reserve.ensures.entries.2 ∙ ap (λ m. m.rows) c.self.view_is)
+    on_err _ (c.ready.ensures.rows ∙ ap (λ m. m.rows) c.self.view_is)
 
 pub returns-in_err-add_to_all-clause-lists : goal.returns-in_err-add_to_all-clause-lists
 returns-in_err-add_to_all-clause-lists g c =
@@ -47,15 +47,15 @@ invariant_of-self-2 g c =
     let whole = written_whole c.self.inside.columns.len was new (omega arith) (sym (length_all_zip (HasAdded watch c.args.master c.args.row ids) was new added)) in
     let wide = subst (λ m. IsWideFor m.lists c.args.master ids) (sym c.self.view_is) c.requires.wide in
     let absent = ap (λ m. finite.get m.rows (c.args.master, c.args.row)) c.self.view_is ∙ c.requires.absent in
-    let rows = rows_inserted c.reserve.new.self.entries c.insert.new.self.entries (c.args.master, c.args.row) c.in_ok-shared.shared c.in_ok-insert.ensures.updates.0
-    ∙ ap (λ m. finite.insert m (c.args.master, c.args.row) (ids_of c.in_ok-shared.shared)) (rows_alike c.self.inside.tuples.entries c.reserve.new.self.entries c.reserve.ensures.entries.2)
-    ∙ ap (finite.insert (rows_of_entries c.self.inside.tuples.entries) (c.args.master, c.args.row)) c.in_ok-shared.ensures.cases in
-    rw (whole, rows) (kept_after_add was (rows_of_entries c.self.inside.tuples.entries) c.self.invariant c.args.master c.args.row new ids absent wide added)
+    let rows = c.put.ensures
+    ∙ ap (λ m. finite.insert m (c.args.master, c.args.row) (ids_of c.in_ok-shared.shared)) c.ready.ensures.rows
+    ∙ ap (finite.insert (rows_of_tables c.self.inside.tables.stores.items) (c.args.master, c.args.row)) c.in_ok-shared.ensures.cases in
+    rw (whole, rows) (kept_after_add was (rows_of_tables c.self.inside.tables.stores.items) c.self.invariant c.args.master c.args.row new ids absent wide added)
 
 pub returns-clause-ok : goal.returns-clause-ok
 returns-clause-ok g c =
-    rows_inserted c.reserve.new.self.entries c.insert.new.self.entries (c.args.master, c.args.row) c.in_ok-shared.shared c.in_ok-insert.ensures.updates.0
-    ∙ ap (λ m. finite.insert m (c.args.master, c.args.row) (ids_of c.in_ok-shared.shared)) (rows_alike c.self.inside.tuples.entries c.reserve.new.self.entries c.reserve.ensures.entries.2 ∙ ap (λ m. m.rows) c.self.view_is)
+    c.put.ensures
+    ∙ ap (λ m. finite.insert m (c.args.master, c.args.row) (ids_of c.in_ok-shared.shared)) (c.ready.ensures.rows ∙ ap (λ m. m.rows) c.self.view_is)
     ∙ ap (finite.insert c.args.self.now.rows (c.args.master, c.args.row)) c.in_ok-shared.ensures.cases
 
 pub returns-clause-lists : goal.returns-clause-lists

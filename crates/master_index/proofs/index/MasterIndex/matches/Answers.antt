@@ -5,7 +5,8 @@ use Rattle.std.specs.Option.{option_map_or}
 use Rattle.std.specs.Str.{bytes_eq}
 use Rattle.master_index.specs.declared.column_list.ColumnList.{ColumnList}
 use Rattle.master_index.specs.ColumnRows.{is_under, ids_in, rows_under}
-use Rattle.master_index.specs.Masters.{IsRowWith, rows_of_entries}
+use Rattle.master_index.specs.Masters.{IsRowWith}
+use Rattle.master_index.specs.Tables.{rows_of_tables}
 use Rattle.master_index.specs.InStep.{IsInStepWith}
 use Rattle.master_index.proofs.MatchFacts.{rows_rise, matched, not_handed, reaches_list}
 use Rattle.master_index.proofs.index.MasterIndex.matches.Goals as goal
@@ -18,7 +19,7 @@ returns-then-is_of-clause-exactly c row =
     let wanted : ColumnList = record { master = c.args.master; columns = c.args.columns.now } in
     let index = c.index-item.result in
     let ids = c.args.ids.now in
-    let rows = rows_of_entries c.self.inside.tuples.entries in
+    let rows = rows_of_tables c.self.inside.tables.stores.items in
     let at = c.index-item.is ∙ ap (λ xs. get_or xs c.loop-index.index-index index) c.deref-index-items.ensures.value in
     let within : c.loop-index.index-index < length c.self.inside.columns.items = omega (arith, c.loop-index-test.true, ap length c.deref-index-items.ensures.value) in
     let in_step = subst (IsInStepWith rows) (sym at) (c.self.invariant.in_step c.loop-index.index-index index within) in

@@ -4,7 +4,6 @@ use Rattle.std.specs.FinMap as finite
 use Rattle.std.proofs.lemmas.List.{map-append}
 use Rattle.std.proofs.lemmas.List.Elements.{All-push}
 use Rattle.master_index.specs.declared.column_index.ColumnIndex.{ColumnIndex}
-use Rattle.master_index.specs.Masters.{rows_of_entries}
 use Rattle.master_index.specs.InStep.{IsInStepWith, IsMasterIndex}
 use Rattle.master_index.proofs.MasterSteps.{empty_in_step, kept_without_rows}
 use Rattle.master_index.proofs.index.MasterIndex.new.Goals as goal
@@ -20,4 +19,4 @@ loop-list-preserved c =
     }
 
 pub invariant_of-result : goal.invariant_of-result
-invariant_of-result c = subst (λ entries. IsMasterIndex c.loop-list.columns.items (rows_of_entries entries)) (sym c.new-2.ensures.empty) (kept_without_rows c.loop-list.columns.items c.loop-list.invariant.empty)
+invariant_of-result c = subst (IsMasterIndex c.loop-list.columns.items) (sym c.new-2.ensures) (kept_without_rows c.loop-list.columns.items c.loop-list.invariant.empty)
