@@ -106,7 +106,12 @@ impl SideRows {
     }
 }
 
-fn push_lone(own: RowId, pattern: &[ValueId], found: &mut Vec<RowId>) -> Result<(), AllocError>
+/// Appends a lone row where these are its pattern values: none.
+pub(crate) fn push_lone(
+    own: RowId,
+    pattern: &[ValueId],
+    found: &mut Vec<RowId>,
+) -> Result<(), AllocError>
     ensures { OnOk result ((row : ℕ) → Contains found.new.items row ↔ (Contains found.old.items row ⊎ IsTrue (bytes_eq pattern.now [] && row == own))) }
 {
     if pattern.is_empty() {
