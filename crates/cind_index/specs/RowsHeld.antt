@@ -96,7 +96,7 @@ HasNothing rows = (ids : List ℕ) (row : ℕ) → has rows ids row ≡ false
 
 -- ---- both sides
 
--- the rows of a side
+-- the rows of one of two sides
 abbrev pub side_of : BothSides → Side → SideRows
 side_of sides Left = sides.lefts
 side_of sides Right = sides.rights
@@ -109,6 +109,7 @@ both_sides (LoneRight right) = record { lefts = Empty; rights = Lone right }
 both_sides (OneEach left right) = record { lefts = Lone left; rights = Lone right }
 both_sides (Boxed sides) = sides.value
 
+-- whether they stand in a box, and not in place
 abbrev pub is_boxed : KeyRows → Bool
 is_boxed (Boxed sides) = true
 is_boxed rows = false
