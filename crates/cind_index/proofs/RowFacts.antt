@@ -15,7 +15,7 @@ use Rattle.cind_index.specs.declared.side.Side.TheVariants.{Left, Right}
 use Rattle.cind_index.specs.declared.row_set.RowSet.{RowSet}
 use Rattle.cind_index.specs.declared.row_set.RowSet.TheVariants.{One, More}
 use Rattle.cind_index.specs.declared.side_rows.SideRows.{SideRows}
-use Rattle.cind_index.specs.declared.side_rows.SideRows.TheVariants.{Empty, Lone, Rows}
+use Rattle.cind_index.specs.declared.side_rows.SideRows.TheVariants.{Empty, Lone, LoneWith, Rows}
 use Rattle.cind_index.specs.declared.pattern_rows.PatternRows.{PatternRows}
 use Rattle.cind_index.specs.declared.pattern_rows.PatternRows.TheVariants.{Nothing, Single, Several}
 use Rattle.cind_index.specs.declared.key_rows.KeyRows.{KeyRows}
@@ -94,6 +94,10 @@ some_row Empty pattern = ((λ some. absurd (cc)), (λ one. absurd (let no = one.
 some_row (Lone own) pattern = (
   (λ some. (own, ap (λ b. b && own == own) some ∙ number_itself own)),
   (λ one. (both_true (bytes_eq pattern []) (one.0 == own) one.1).0),
+)
+some_row (LoneWith value own) pattern = (
+  (λ some. (own, ap (λ b. b && own == own) some ∙ number_itself own)),
+  (λ one. (both_true (bytes_eq pattern (value ∷ [])) (one.0 == own) one.1).0),
 )
 some_row (Rows rows) pattern = some_by rows.value pattern
 

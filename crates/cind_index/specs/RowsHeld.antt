@@ -1,5 +1,5 @@
 -- The rows of one side with one key, by their pattern values; and the rows of both sides with one key.
-use Rattle.std.specs.Prelude.{◌≡◌, ℕ, ◌==◌, ◌&&◌, ◌||◌, not, nat_lt, Bool, true, false, List, [], Option, length}
+use Rattle.std.specs.Prelude.{◌≡◌, ℕ, ◌==◌, ◌&&◌, ◌||◌, not, nat_lt, Bool, true, false, List, [], ◌∷◌, Option, length}
 use Rattle.std.specs.List.{list_any}
 use Rattle.std.specs.Option.{option_map_or}
 use Rattle.std.specs.Ordering.{nat_cmp}
@@ -15,12 +15,12 @@ use Rattle.cind_index.specs.declared.side.Side.TheVariants.{Left, Right}
 use Rattle.cind_index.specs.declared.row_set.RowSet.{RowSet}
 use Rattle.cind_index.specs.declared.row_set.RowSet.TheVariants.{One, More}
 use Rattle.cind_index.specs.declared.side_rows.SideRows.{SideRows}
-use Rattle.cind_index.specs.declared.side_rows.SideRows.TheVariants.{Empty, Lone, Rows}
+use Rattle.cind_index.specs.declared.side_rows.SideRows.TheVariants.{Empty, Lone, LoneWith, Rows}
 use Rattle.cind_index.specs.declared.pattern_rows.PatternRows.{PatternRows}
 use Rattle.cind_index.specs.declared.pattern_rows.PatternRows.TheVariants.{Nothing, Single, Several}
 use Rattle.cind_index.specs.declared.both_sides.BothSides.{BothSides}
 use Rattle.cind_index.specs.declared.key_rows.KeyRows.{KeyRows}
-use Rattle.cind_index.specs.declared.key_rows.KeyRows.TheVariants.{NoRows, LoneLeft, LoneRight, OneEach, Boxed}
+use Rattle.cind_index.specs.declared.key_rows.KeyRows.TheVariants.{NoRows, LoneLeft, LoneRight, LeftWith, RightWith, OneEach, Boxed}
 
 -- rows by their pattern values, as the code keeps them
 abbrev pub Patterns : Type 0
@@ -53,15 +53,17 @@ has_some_by Nothing pattern = false
 has_some_by (Single held rows) pattern = bytes_eq pattern held.items && is_filled rows
 has_some_by (Several patterns) pattern = option_map_or is_filled (rows_for patterns pattern) false
 
--- the same of a side, where a lone row has no pattern values
+-- the same of a side, where a lone row has no pattern value or one
 abbrev pub has : SideRows → List ℕ → ℕ → Bool
 has Empty pattern row = false
 has (Lone own) pattern row = bytes_eq pattern [] && row == own
+has (LoneWith value own) pattern row = bytes_eq pattern (value ∷ []) && row == own
 has (Rows rows) pattern row = has_by rows.value pattern row
 
 abbrev pub has_some : SideRows → List ℕ → Bool
 has_some Empty pattern = false
 has_some (Lone own) pattern = bytes_eq pattern []
+has_some (LoneWith value own) pattern = bytes_eq pattern (value ∷ [])
 has_some (Rows rows) pattern = has_some_by rows.value pattern
 
 -- ---- changes
@@ -106,6 +108,8 @@ abbrev pub both_sides : KeyRows → BothSides
 both_sides NoRows = record { lefts = Empty; rights = Empty }
 both_sides (LoneLeft left) = record { lefts = Lone left; rights = Empty }
 both_sides (LoneRight right) = record { lefts = Empty; rights = Lone right }
+both_sides (LeftWith value left) = record { lefts = LoneWith value left; rights = Empty }
+both_sides (RightWith value right) = record { lefts = Empty; rights = LoneWith value right }
 both_sides (OneEach left right) = record { lefts = Lone left; rights = Lone right }
 both_sides (Boxed sides) = sides.value
 

@@ -1,5 +1,5 @@
-//! The rows of both sides with one key. A lone row without pattern values on a side, or one on each, stands in place, without
-//! memory; others stand in a box of their own.
+//! The rows of both sides with one key. A lone row with at most one pattern value, or one without pattern values on each side,
+//! stands in place, without memory; others stand in a box of their own.
 ghost use Rattle.std.specs.Prelude.{◌≡◌, ◌⊎◌, false, ◌==◌, ◌&&◌, [], ℕ, List, not, ◌↔◌, IsTrue, IfOk, IfSome, OnOk, OnErr, Contains};
 ghost use Rattle.std.specs.Str.{bytes_eq};
 ghost use Rattle.cind_index.specs.RowsHeld.{has, has_some, both_sides, is_boxed, rows_on, across, lacks_answer, is_dirty, HasRowMore, HasRowLess, HaveTheSame, HasNothing, ChangesOn};
@@ -7,7 +7,7 @@ ghost use Rattle.cind_index.specs.declared.side.Side.TheVariants.{Left, Right};
 
 use crate::both_sides::BothSides;
 use crate::side::Side;
-use crate::side_rows::{SideRows, push_lone};
+use crate::side_rows::{SideRows, is_it_with, is_one, push_lone};
 use cfd_semantics::InclusionRow;
 use row_store::RowId;
 use std::alloc::{AllocError, Global};
@@ -18,6 +18,8 @@ pub(crate) enum KeyRows {
     NoRows,
     LoneLeft(RowId),
     LoneRight(RowId),
+    LeftWith(ValueId, RowId),
+    RightWith(ValueId, RowId),
     OneEach(RowId, RowId),
     Boxed(Box<BothSides>),
 }
@@ -77,6 +79,14 @@ impl KeyRows {
                 lefts: SideRows::Empty,
                 rights: SideRows::Lone(*right),
             },
+            KeyRows::LeftWith(value, left) => BothSides {
+                lefts: SideRows::LoneWith(*value, *left),
+                rights: SideRows::Empty,
+            },
+            KeyRows::RightWith(value, right) => BothSides {
+                lefts: SideRows::Empty,
+                rights: SideRows::LoneWith(*value, *right),
+            },
             KeyRows::OneEach(left, right) => BothSides {
                 lefts: SideRows::Lone(*left),
                 rights: SideRows::Lone(*right),
@@ -93,6 +103,12 @@ impl KeyRows {
             KeyRows::NoRows => {}
             KeyRows::LoneLeft(left) => *self = left_without(*left, side, pattern, row),
             KeyRows::LoneRight(right) => *self = right_without(*right, side, pattern, row),
+            KeyRows::LeftWith(value, left) => {
+                *self = left_with_without(*value, *left, side, pattern, row)
+            }
+            KeyRows::RightWith(value, right) => {
+                *self = right_with_without(*value, *right, side, pattern, row)
+            }
             KeyRows::OneEach(left, right) => {
                 *self = each_without(*left, *right, side, pattern, row)
             }
@@ -124,6 +140,8 @@ impl KeyRows {
             (KeyRows::Boxed(sides), _) => sides.on(side).has_some(pattern),
             (KeyRows::LoneLeft(_) | KeyRows::OneEach(_, _), Side::Left) => pattern.is_empty(),
             (KeyRows::LoneRight(_) | KeyRows::OneEach(_, _), Side::Right) => pattern.is_empty(),
+            (KeyRows::LeftWith(value, _), Side::Left) => is_one(pattern, *value),
+            (KeyRows::RightWith(value, _), Side::Right) => is_one(pattern, *value),
             _ => false,
         }
     }
@@ -170,8 +188,9 @@ impl KeyRows {
         ensures { OnOk result ((row : ℕ) → Contains found.new.items row ↔ (Contains found.old.items row ⊎ IsTrue (has (rows_on self.now Left) pattern.now row))) }
     {
         match self {
-            KeyRows::LoneLeft(own) => push_lone(*own, pattern, found),
-            KeyRows::OneEach(own, _) => push_lone(*own, pattern, found),
+            KeyRows::LoneLeft(own) => push_lone(&[], *own, pattern, found),
+            KeyRows::OneEach(own, _) => push_lone(&[], *own, pattern, found),
+            KeyRows::LeftWith(value, own) => push_lone(&[*value], *own, pattern, found),
             KeyRows::Boxed(sides) => sides.lefts.push_rows(pattern, found),
             _ => Ok(()),
         }
@@ -196,6 +215,12 @@ fn unboxed(sides: &BothSides) -> Option<KeyRows>
         (SideRows::Empty, SideRows::Empty) => Some(KeyRows::NoRows),
         (SideRows::Lone(left), SideRows::Empty) => Some(KeyRows::LoneLeft(*left)),
         (SideRows::Empty, SideRows::Lone(right)) => Some(KeyRows::LoneRight(*right)),
+        (SideRows::LoneWith(value, left), SideRows::Empty) => {
+            Some(KeyRows::LeftWith(*value, *left))
+        }
+        (SideRows::Empty, SideRows::LoneWith(value, right)) => {
+            Some(KeyRows::RightWith(*value, *right))
+        }
         (SideRows::Lone(left), SideRows::Lone(right)) => Some(KeyRows::OneEach(*left, *right)),
         _ => None,
     }
@@ -218,6 +243,38 @@ fn right_without(right: RowId, side: Side, pattern: &[ValueId], row: RowId) -> K
     match side {
         Side::Right if is_it(right, pattern, row) => KeyRows::NoRows,
         _ => KeyRows::LoneRight(right),
+    }
+}
+
+// What stays of a lone left row with one pattern value after a row was taken away.
+fn left_with_without(
+    value: ValueId,
+    left: RowId,
+    side: Side,
+    pattern: &[ValueId],
+    row: RowId,
+) -> KeyRows
+    ensures { ChangesOn side (HasRowLess pattern.now row) (KeyRows.LeftWith value left) result }
+{
+    match side {
+        Side::Left if is_it_with(value, left, pattern, row) => KeyRows::NoRows,
+        _ => KeyRows::LeftWith(value, left),
+    }
+}
+
+// What stays of a lone right row with one pattern value after a row was taken away.
+fn right_with_without(
+    value: ValueId,
+    right: RowId,
+    side: Side,
+    pattern: &[ValueId],
+    row: RowId,
+) -> KeyRows
+    ensures { ChangesOn side (HasRowLess pattern.now row) (KeyRows.RightWith value right) result }
+{
+    match side {
+        Side::Right if is_it_with(value, right, pattern, row) => KeyRows::NoRows,
+        _ => KeyRows::RightWith(value, right),
     }
 }
 

@@ -18,6 +18,11 @@ returns-in-OneEach c =
     on_ok c.push_lone-in-OneEach.result (λ step row.
     subst (λ (rows : KeyRows). Contains c.push_lone-in-OneEach.new.found.items row ↔ (Contains c.args.found.now.items row ⊎ IsTrue (has (rows_on rows Left) c.args.pattern.now row))) (sym c.in-OneEach.is) (step row)) c.push_lone-in-OneEach.ensures
 
+pub returns-in-LeftWith : goal.returns-in-LeftWith
+returns-in-LeftWith c =
+    on_ok c.push_lone-in-LeftWith.result (λ step row.
+    subst (λ (rows : KeyRows). Contains c.push_lone-in-LeftWith.new.found.items row ↔ (Contains c.args.found.now.items row ⊎ IsTrue (has (rows_on rows Left) c.args.pattern.now row))) (sym c.in-LeftWith.is) (step row)) c.push_lone-in-LeftWith.ensures
+
 pub returns-in-Boxed : goal.returns-in-Boxed
 returns-in-Boxed c =
     let same : c.deref.result.now ≡ c.in-Boxed.sides.value = cc in
