@@ -324,3 +324,12 @@ fn few_rows_with_each_key(rt: HostRuntime) -> Result<(), Fail> {
     assert!(rt; walks::<Brand>(alloc, 0, 0, rule, Blank::new(1))?);
     Ok(())
 }
+
+// The same of lone rows with one pattern value on a side.
+#[test]
+fn few_rows_with_one_pattern_value(rt: HostRuntime) -> Result<(), Fail> {
+    let alloc = rt.alloc();
+    let rule = rule(alloc, [b"01", b"2", b"02", b"3"], 9)?;
+    assert!(rt; walks::<Brand>(alloc, 0, 0, rule, Blank::new(1))?);
+    Ok(())
+}
