@@ -1,14 +1,15 @@
 -- What a change at one list of pattern values makes of the rows with each.
-use Rattle.std.proofs.Common.{◌≡◌, ℕ, Bool, true, false, cond, not, ◌&&◌, ◌||◌, List, Option, Some, None, Result, Ok, Err, refl, sym, ap, ◌∙◌, OnOk, OnErr, IfOk}
+use Rattle.std.proofs.Common.{◌≡◌, ℕ, Bool, true, false, cond, not, ◌&&◌, ◌||◌, List, [], ◌∷◌, length, slice_get, Option, Some, None, Result, Ok, Err, refl, sym, ap, ◌∙◌, OnOk, OnErr, IfOk}
 use Rattle.std.specs.Prelude.{◌==◌}
 use Rattle.std.specs.declared.vec.Vec.{Vec}
 use Rattle.std.specs.declared.alloc.Global.{Global}
 use Rattle.std.specs.Option.{option_map_or}
 use Rattle.std.specs.Ordering.{nat_cmp, is_eq}
 use Rattle.std.specs.Cmp.Lexicographic.{slice_cmp}
-use Rattle.std.specs.Map.{KeepsOthers}
+use Rattle.std.specs.Map.{KeepsOthers, lookup}
 use Rattle.std.specs.Str.{bytes_eq}
 use Rattle.std.proofs.lemmas.Map.Text.{is_eq-slice_cmp}
+use Rattle.std.proofs.lemmas.Option.{same_Some}
 use Rattle.std.proofs.lemmas.Slice.Eq.{bytes_eq-Decides}
 use Rattle.cind_index.specs.declared.row_set.RowSet.{RowSet}
 use Rattle.cind_index.specs.RowsHeld.{Patterns, rows_for, in_map, is_in, IsMore, IsLess, IsSame}
@@ -99,6 +100,19 @@ beside_held old new held pattern rows row apart had updated ids other = by (byte
         let not_pattern : bytes_eq ids pattern ≡ false = ap (λ xs. bytes_eq xs pattern) (equal_lists ids held e) ∙ flip_lists held pattern ∙ apart in
         ap (λ found. among found other) (updated ids ∙ ap (λ b. cond b (Some rows) (rows_for old ids)) e) ∙ sym (ap (λ b. (b && other == row) || is_in rows other) not_pattern)
     by false e = ap (λ found. among found other) (updated ids ∙ ap (λ b. cond b (Some rows) (rows_for old ids)) e) ∙ had ids other ∙ or_false (bytes_eq ids pattern && other == row)
+
+-- a map with one list of pattern values
+pub one_held : (es : List (Vec ℕ Global × RowSet)) (patterns : Patterns) (key : Vec ℕ Global) (rows : RowSet) → patterns.entries ≡ es → length es ≡ 1 → slice_get es 0 ≡ Some (key, rows)
+    → (ids : List ℕ) (other : ℕ) → in_map patterns ids other ≡ (bytes_eq ids key.items && is_in rows other)
+one_held [] patterns key rows is one at ids other = absurd (cc)
+one_held (e ∷ f ∷ es) patterns key rows is one at ids other = absurd (cc)
+one_held (e ∷ []) patterns key rows is one at ids other =
+    ap (λ es. among (lookup (λ (k : Vec ℕ Global). is_eq (slice_cmp nat_cmp ids k.items)) es) other) (is ∙ ap (λ e. e ∷ []) (same_Some e (key, rows) at))
+    ∙ ap (λ b. among (cond b (Some rows) None) other) (is_eq-slice_cmp ids key.items) ∙ chosen (bytes_eq ids key.items)
+  where
+    chosen : (b : Bool) → among (cond b (Some rows) None) other ≡ (b && is_in rows other)
+    chosen true = refl
+    chosen false = refl
 
 -- rows of which none is left go away with their pattern values
 pub last_less : (old mid new : Patterns) (pattern : List ℕ) (row : ℕ) → ((other : ℕ) → (not (other == row) && in_map old pattern other) ≡ false) → ((ids : List ℕ) → bytes_eq ids pattern ≡ false → rows_for mid ids ≡ rows_for old ids)

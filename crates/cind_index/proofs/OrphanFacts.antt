@@ -25,7 +25,7 @@ use Rattle.cfd_semantics.proofs.Members.{contains-here, contains-there, contains
 use Rattle.cfd_semantics.proofs.InclusionLaw.{found_by_any, any_from_found, both_true}
 use Rattle.cind_index.specs.declared.side.Side.TheVariants.{Left, Right}
 use Rattle.cind_index.specs.declared.key_rows.KeyRows.{KeyRows}
-use Rattle.cind_index.specs.RowsHeld.{has, has_some, lacks_answer, is_dirty}
+use Rattle.cind_index.specs.RowsHeld.{has, has_some, rows_on, lacks_answer, is_dirty}
 use Rattle.cind_index.specs.KeysHeld.{Ids, KeyedRows, is_under, lefts, rights, AreMarkedRight}
 use Rattle.cind_index.specs.Orphans.{AreOrphans, IsDirtyCount}
 use Rattle.row_store.specs.Watch.{IsWide}
@@ -48,8 +48,8 @@ module _ (m : KeyedRows) where
   -- a left row with the constants of Xp, under a key without a right row with those of Yp
   pub record OrphanAt (t : InclusionRow ℕ) (row i : ℕ) (x : Pair) : Type 0 where
     pub at : slice_get m.pairs i ≡ Some x
-    pub left : has x.1.lefts t.xp row ≡ true
-    pub none : has_some x.1.rights t.yp ≡ false
+    pub left : has (rows_on x.1 Left) t.xp row ≡ true
+    pub none : has_some (rows_on x.1 Right) t.yp ≡ false
 
   -- under one of the first keys
   abbrev pub FoundBelow : InclusionRow ℕ → ℕ → ℕ → Type 0
@@ -60,7 +60,7 @@ module _ (m : KeyedRows) where
 
   -- one key more
   pub found_more : (t : InclusionRow ℕ) (n row : ℕ) (v : KeyRows) (old new : List ℕ) → slice_get (values_of m.pairs) n ≡ Some v → Contains old row ↔ FoundBelow t n row
-      → Contains new row ↔ (Contains old row ⊎ (IsTrue (has v.lefts t.xp row) × (has_some v.rights t.yp ≡ false))) → Contains new row ↔ FoundBelow t (n + 1) row
+      → Contains new row ↔ (Contains old row ⊎ (IsTrue (has (rows_on v Left) t.xp row) × (has_some (rows_on v Right) t.yp ≡ false))) → Contains new row ↔ FoundBelow t (n + 1) row
   found_more t n row v old new value before step = (
     (λ inside. elim (step.0 inside) [
       | inl was ↦ let found = before.0 was in (found.0, (let low = found.1 in omega (arith, low)), found.2, found.3)
@@ -71,7 +71,7 @@ module _ (m : KeyedRows) where
       | inr late ↦
           let here : i ≡ n = omega (arith, low, late) in
           let same : x.1 ≡ v = same_Some x.1 v (sym (value_there m.pairs i x it.at) ∙ ap (slice_get (values_of m.pairs)) here ∙ value) in
-          step.1 (inr (ap (λ (w : KeyRows). has w.lefts t.xp row) (sym same) ∙ it.left, ap (λ (w : KeyRows). has_some w.rights t.yp) (sym same) ∙ it.none))
+          step.1 (inr (ap (λ (w : KeyRows). has (rows_on w Left) t.xp row) (sym same) ∙ it.left, ap (λ (w : KeyRows). has_some (rows_on w Right) t.yp) (sym same) ∙ it.none))
     ]),
   )
 
@@ -83,22 +83,22 @@ module _ (m : KeyedRows) (distinct : HaveDistinctKeys same_key m) where
       let one : i ≡ j = distinct i j x.0 y.0 (key_there m.pairs i x at) (key_there m.pairs j y also) (ap (bytes_eq x.0.items) (sym same) ∙ same_list x.0.items) in
       same_Some x y (sym at ∙ ap (slice_get m.pairs) one ∙ also)
 
-  pub alone_at : (t : InclusionRow ℕ) (left : SideEntry ℕ) (i : ℕ) (x : Pair) → slice_get m.pairs i ≡ Some x → x.0.items ≡ left.key → has_some x.1.rights t.yp ≡ false
+  pub alone_at : (t : InclusionRow ℕ) (left : SideEntry ℕ) (i : ℕ) (x : Pair) → slice_get m.pairs i ≡ Some x → x.0.items ≡ left.key → has_some (rows_on x.1 Right) t.yp ≡ false
       → (right : SideEntry ℕ) → IsTrue (rights m right) → answers nat_eq t left right ≡ false
   alone_at t left i x at key none right there = never (answers nat_eq t left right) (λ answer.
       let parts = both_true (bytes_eq left.key right.key) (bytes_eq t.yp right.pattern) answer in
       let found = found_at (is_under Right right) m.pairs there in
-      let under = both_true (bytes_eq right.key found.0.0.items) (has found.0.1.rights right.pattern right.row) found.3 in
+      let under = both_true (bytes_eq right.key found.0.0.items) (has (rows_on found.0.1 Right) right.pattern right.row) found.3 in
       let same : x ≡ found.0 = same_pair i found.1 x found.0 at found.2 (key ∙ equal_lists left.key right.key parts.0 ∙ equal_lists right.key found.0.0.items under.0) in
-      let has_row : has x.1.rights t.yp right.row ≡ true = ap (λ (p : Pair). has p.1.rights t.yp right.row) same ∙ ap (λ p. has found.0.1.rights p right.row) (equal_lists t.yp right.pattern parts.1) ∙ under.1 in
-      clash (has_some x.1.rights t.yp) ((some_row x.1.rights t.yp).1 (right.row, has_row)) none)
+      let has_row : has (rows_on x.1 Right) t.yp right.row ≡ true = ap (λ (p : Pair). has (rows_on p.1 Right) t.yp right.row) same ∙ ap (λ p. has (rows_on found.0.1 Right) p right.row) (equal_lists t.yp right.pattern parts.1) ∙ under.1 in
+      clash (has_some (rows_on x.1 Right) t.yp) ((some_row (rows_on x.1 Right) t.yp).1 (right.row, has_row)) none)
 
   pub none_answers : (t : InclusionRow ℕ) (left : SideEntry ℕ) (i : ℕ) (x : Pair) → slice_get m.pairs i ≡ Some x → x.0.items ≡ left.key
-      → ((right : SideEntry ℕ) → IsTrue (rights m right) → answers nat_eq t left right ≡ false) → has_some x.1.rights t.yp ≡ false
-  none_answers t left i x at key alone = never (has_some x.1.rights t.yp) (λ some.
-      let one = (some_row x.1.rights t.yp).0 some in
+      → ((right : SideEntry ℕ) → IsTrue (rights m right) → answers nat_eq t left right ≡ false) → has_some (rows_on x.1 Right) t.yp ≡ false
+  none_answers t left i x at key alone = never (has_some (rows_on x.1 Right) t.yp) (λ some.
+      let one = (some_row (rows_on x.1 Right) t.yp).0 some in
       let right : SideEntry ℕ = record { key = x.0.items; pattern = t.yp; row = one.0 } in
-      let there = any_at (is_under Right right) m.pairs x i at (ap (λ b. b && has x.1.rights t.yp one.0) (same_list x.0.items) ∙ one.1) in
+      let there = any_at (is_under Right right) m.pairs x i at (ap (λ b. b && has (rows_on x.1 Right) t.yp one.0) (same_list x.0.items) ∙ one.1) in
       clash (answers nat_eq t left right) (ap (λ b. b && bytes_eq t.yp t.yp) (ap (bytes_eq left.key) key ∙ same_list left.key) ∙ same_list t.yp) (alone right there))
 
   -- ---- orphans stand under marked keys
@@ -106,7 +106,7 @@ module _ (m : KeyedRows) (distinct : HaveDistinctKeys same_key m) where
   entry_at : (t : InclusionRow ℕ) (row i : ℕ) (x : Pair) → OrphanAt m t row i x → (left : SideEntry ℕ) × IsTrue (lefts m left) × (left.row ≡ row) × (left.key ≡ x.0.items) × IsUnanswered nat_eq t (rights m) left
   entry_at t row i x it = (
     record { key = x.0.items; pattern = t.xp; row = row },
-    any_at (is_under Left (record { key = x.0.items; pattern = t.xp; row = row })) m.pairs x i it.at (ap (λ b. b && has x.1.lefts t.xp row) (same_list x.0.items) ∙ it.left),
+    any_at (is_under Left (record { key = x.0.items; pattern = t.xp; row = row })) m.pairs x i it.at (ap (λ b. b && has (rows_on x.1 Left) t.xp row) (same_list x.0.items) ∙ it.left),
     refl,
     refl,
     record { constants = same_list t.xp; alone = alone_at t (record { key = x.0.items; pattern = t.xp; row = row }) i x it.at refl it.none },
@@ -115,14 +115,14 @@ module _ (m : KeyedRows) (distinct : HaveDistinctKeys same_key m) where
   at_entry : (t : InclusionRow ℕ) (left : SideEntry ℕ) → IsTrue (lefts m left) → IsUnanswered nat_eq t (rights m) left → (i : ℕ) × (x : Pair) × (left.key ≡ x.0.items) × OrphanAt m t left.row i x
   at_entry t left there unanswered =
       let found = found_at (is_under Left left) m.pairs there in
-      let under = both_true (bytes_eq left.key found.0.0.items) (has found.0.1.lefts left.pattern left.row) found.3 in
+      let under = both_true (bytes_eq left.key found.0.0.items) (has (rows_on found.0.1 Left) left.pattern left.row) found.3 in
       let key = equal_lists left.key found.0.0.items under.0 in (
         found.1,
         found.0,
         key,
         record {
           at = found.2;
-          left = ap (λ p. has found.0.1.lefts p left.row) (equal_lists t.xp left.pattern unanswered.constants) ∙ under.1;
+          left = ap (λ p. has (rows_on found.0.1 Left) p left.row) (equal_lists t.xp left.pattern unanswered.constants) ∙ under.1;
           none = none_answers t left found.1 found.0 found.2 (sym key) unanswered.alone;
         },
       )
@@ -130,7 +130,7 @@ module _ (m : KeyedRows) (distinct : HaveDistinctKeys same_key m) where
   module _ (tableau : List (InclusionRow ℕ)) (right : AreMarkedRight tableau m) where
     is_marked : (t : InclusionRow ℕ) (row i : ℕ) (x : Pair) → Contains tableau t → OrphanAt m t row i x → i < m.marked
     is_marked t row i x inside it =
-        let lacks : lacks_answer x.1 t ≡ true = ap (λ b. b && not (has_some x.1.rights t.yp)) ((some_row x.1.lefts t.xp).1 (row, it.left)) ∙ not_false (has_some x.1.rights t.yp) it.none in
+        let lacks : lacks_answer x.1 t ≡ true = ap (λ b. b && not (has_some (rows_on x.1 Right) t.yp)) ((some_row (rows_on x.1 Left) t.xp).1 (row, it.left)) ∙ not_false (has_some (rows_on x.1 Right) t.yp) it.none in
         let dirty = any_from_found (lacks_answer x.1) tableau t inside lacks in
         elim (cases_lt i m.marked) [ inl low ↦ low | inr high ↦ absurd (clash (is_dirty tableau x.1) dirty (right.unmarked x (i, high, it.at))) ]
 
@@ -212,9 +212,9 @@ module _ (m : KeyedRows) (distinct : HaveDistinctKeys same_key m) where
           (λ inside.
               let it = key_from m.marked m.pairs key inside in
               let dirty = found_by_any (lacks_answer it.2.1) tableau (right.marked it.2 (it.0, it.1, it.3)) in
-              let parts = both_true (has_some it.2.1.lefts dirty.0.xp) (not (has_some it.2.1.rights dirty.0.yp)) dirty.2 in
-              let row = (some_row it.2.1.lefts dirty.0.xp).0 parts.0 in
-              let e = entry_at dirty.0 row.0 it.0 it.2 (record { at = it.3; left = row.1; none = not_true (has_some it.2.1.rights dirty.0.yp) parts.1 }) in
+              let parts = both_true (has_some (rows_on it.2.1 Left) dirty.0.xp) (not (has_some (rows_on it.2.1 Right) dirty.0.yp)) dirty.2 in
+              let row = (some_row (rows_on it.2.1 Left) dirty.0.xp).0 parts.0 in
+              let e = entry_at dirty.0 row.0 it.0 it.2 (record { at = it.3; left = row.1; none = not_true (has_some (rows_on it.2.1 Right) dirty.0.yp) parts.1 }) in
               (dirty.0, subst (λ ts. Contains ts dirty.0) (sym rows) dirty.1, e.0, e.1, ap (bytes_eq key) (e.3 ∙ it.4) ∙ same_list key, e.4)),
           (λ (t, inside, left, there, same, unanswered).
               let it = at_entry t left there unanswered in
@@ -232,7 +232,7 @@ pub no_key_answers : (m : KeyedRows) (k : Ids) (t : InclusionRow ℕ) (left : Si
 no_key_answers m k t left key absent right there = never (answers nat_eq t left right) (λ answer.
     let parts = both_true (bytes_eq left.key right.key) (bytes_eq t.yp right.pattern) answer in
     let found = found_at (is_under Right right) m.pairs there in
-    let under = both_true (bytes_eq right.key found.0.0.items) (has found.0.1.rights right.pattern right.row) found.3 in
+    let under = both_true (bytes_eq right.key found.0.0.items) (has (rows_on found.0.1 Right) right.pattern right.row) found.3 in
     let same : k.items ≡ found.0.0.items = key ∙ equal_lists left.key right.key parts.0 ∙ equal_lists right.key found.0.0.items under.0 in
     clash (bytes_eq k.items found.0.0.items) (ap (bytes_eq k.items) (sym same) ∙ same_list k.items) (absent found.1 found.0.0 (key_there m.pairs found.1 found.0 found.2)))
 
@@ -258,12 +258,12 @@ other_constants m t left pattern is differ = (
 )
 
 pub key_is_found : (m : KeyedRows) → HaveDistinctKeys same_key m → (k : Ids) (place : ℕ) (v : KeyRows) (t : InclusionRow ℕ) (left : SideEntry ℕ) (pattern : List ℕ) → HasKey same_key m k place → slice_get (values_of m.pairs) place ≡ Some v
-    → k.items ≡ left.key → pattern ≡ left.pattern → bytes_eq t.xp pattern ≡ true → TellsOrphan (not (has_some v.rights t.yp)) m t left
+    → k.items ≡ left.key → pattern ≡ left.pattern → bytes_eq t.xp pattern ≡ true → TellsOrphan (not (has_some (rows_on v Right) t.yp)) m t left
 key_is_found m distinct k place v t left pattern (stored, at, same) value key is constants =
     let pair = pair_there m.pairs place stored v at value in
     let own : stored.items ≡ left.key = sym (equal_lists k.items stored.items same) ∙ key in (
-      (λ yes. record { constants = sym (ap (bytes_eq t.xp) is) ∙ constants; alone = alone_at m distinct t left place (stored, v) pair own (not_true (has_some v.rights t.yp) yes) }),
-      (λ unanswered. not_false (has_some v.rights t.yp) (none_answers m distinct t left place (stored, v) pair own unanswered.alone)),
+      (λ yes. record { constants = sym (ap (bytes_eq t.xp) is) ∙ constants; alone = alone_at m distinct t left place (stored, v) pair own (not_true (has_some (rows_on v Right) t.yp) yes) }),
+      (λ unanswered. not_false (has_some (rows_on v Right) t.yp) (none_answers m distinct t left place (stored, v) pair own unanswered.alone)),
     )
 
 pub key_is_absent : (m : KeyedRows) (k : Ids) (t : InclusionRow ℕ) (left : SideEntry ℕ) (pattern : List ℕ) → IsAbsent same_key m k → k.items ≡ left.key → pattern ≡ left.pattern → bytes_eq t.xp pattern ≡ true → TellsOrphan true m t left

@@ -15,11 +15,11 @@ use Rattle.cind_index.specs.declared.side.Side.TheVariants.{Left, Right}
 use Rattle.cind_index.specs.declared.row_set.RowSet.{RowSet}
 use Rattle.cind_index.specs.declared.row_set.RowSet.TheVariants.{One, More}
 use Rattle.cind_index.specs.declared.side_rows.SideRows.{SideRows}
-use Rattle.cind_index.specs.declared.side_rows.SideRows.TheVariants.{Empty, Lone, Rows}
+use Rattle.cind_index.specs.declared.side_rows.SideRows.TheVariants.{Empty, Lone, LoneWith, Rows}
 use Rattle.cind_index.specs.declared.pattern_rows.PatternRows.{PatternRows}
 use Rattle.cind_index.specs.declared.pattern_rows.PatternRows.TheVariants.{Nothing, Single, Several}
 use Rattle.cind_index.specs.declared.key_rows.KeyRows.{KeyRows}
-use Rattle.cind_index.specs.RowsHeld.{is_in, is_filled, rows_for, has_by, has_some_by, has, has_some, lacks_answer, is_dirty, HaveTheSame, ChangesOn}
+use Rattle.cind_index.specs.RowsHeld.{is_in, is_filled, rows_for, has_by, has_some_by, has, has_some, rows_on, lacks_answer, is_dirty, HaveTheSame, ChangesOn}
 use Rattle.cind_index.proofs.PairFacts.{same_truth}
 
 -- ---- lists of row ids
@@ -95,6 +95,10 @@ some_row (Lone own) pattern = (
   (λ some. (own, ap (λ b. b && own == own) some ∙ number_itself own)),
   (λ one. (both_true (bytes_eq pattern []) (one.0 == own) one.1).0),
 )
+some_row (LoneWith value own) pattern = (
+  (λ some. (own, ap (λ b. b && own == own) some ∙ number_itself own)),
+  (λ one. (both_true (bytes_eq pattern (value ∷ [])) (one.0 == own) one.1).0),
+)
 some_row (Rows rows) pattern = some_by rows.value pattern
 
 pub same_some : (old new : SideRows) → HaveTheSame old new → (pattern : List ℕ) → has_some new pattern ≡ has_some old pattern
@@ -105,10 +109,10 @@ same_some old new same pattern =
 
 -- ---- dirty keys
 
-same_dirty : (tableau : List (InclusionRow ℕ)) (old new : KeyRows) → HaveTheSame old.lefts new.lefts → HaveTheSame old.rights new.rights → is_dirty tableau new ≡ is_dirty tableau old
+same_dirty : (tableau : List (InclusionRow ℕ)) (old new : KeyRows) → HaveTheSame (rows_on old Left) (rows_on new Left) → HaveTheSame (rows_on old Right) (rows_on new Right) → is_dirty tableau new ≡ is_dirty tableau old
 same_dirty [] old new lefts rights = refl
 same_dirty (t ∷ ts) old new lefts rights =
-    ap (λ b. b || is_dirty ts new) (ap (λ b. b && not (has_some new.rights t.yp)) (same_some old.lefts new.lefts lefts t.xp) ∙ ap (λ b. has_some old.lefts t.xp && not b) (same_some old.rights new.rights rights t.yp))
+    ap (λ b. b || is_dirty ts new) (ap (λ b. b && not (has_some (rows_on new Right) t.yp)) (same_some (rows_on old Left) (rows_on new Left) lefts t.xp) ∙ ap (λ b. has_some (rows_on old Left) t.xp && not b) (same_some (rows_on old Right) (rows_on new Right) rights t.yp))
     ∙ ap (λ b. lacks_answer old t || b) (same_dirty ts old new lefts rights)
 
 pub same_sides_dirty : (tableau : List (InclusionRow ℕ)) (side : Side) (old new : KeyRows) → ChangesOn side HaveTheSame old new → is_dirty tableau new ≡ is_dirty tableau old

@@ -1,5 +1,5 @@
 -- The rows of one side with one key, by their pattern values; and the rows of both sides with one key.
-use Rattle.std.specs.Prelude.{◌≡◌, ℕ, ◌==◌, ◌&&◌, ◌||◌, not, nat_lt, Bool, true, false, List, [], Option, length}
+use Rattle.std.specs.Prelude.{◌≡◌, ℕ, ◌==◌, ◌&&◌, ◌||◌, not, nat_lt, Bool, true, false, List, [], ◌∷◌, Option, length}
 use Rattle.std.specs.List.{list_any}
 use Rattle.std.specs.Option.{option_map_or}
 use Rattle.std.specs.Ordering.{nat_cmp}
@@ -15,10 +15,12 @@ use Rattle.cind_index.specs.declared.side.Side.TheVariants.{Left, Right}
 use Rattle.cind_index.specs.declared.row_set.RowSet.{RowSet}
 use Rattle.cind_index.specs.declared.row_set.RowSet.TheVariants.{One, More}
 use Rattle.cind_index.specs.declared.side_rows.SideRows.{SideRows}
-use Rattle.cind_index.specs.declared.side_rows.SideRows.TheVariants.{Empty, Lone, Rows}
+use Rattle.cind_index.specs.declared.side_rows.SideRows.TheVariants.{Empty, Lone, LoneWith, Rows}
 use Rattle.cind_index.specs.declared.pattern_rows.PatternRows.{PatternRows}
 use Rattle.cind_index.specs.declared.pattern_rows.PatternRows.TheVariants.{Nothing, Single, Several}
+use Rattle.cind_index.specs.declared.both_sides.BothSides.{BothSides}
 use Rattle.cind_index.specs.declared.key_rows.KeyRows.{KeyRows}
+use Rattle.cind_index.specs.declared.key_rows.KeyRows.TheVariants.{NoRows, LoneLeft, LoneRight, LeftWith, RightWith, OneEach, Boxed}
 
 -- rows by their pattern values, as the code keeps them
 abbrev pub Patterns : Type 0
@@ -51,15 +53,17 @@ has_some_by Nothing pattern = false
 has_some_by (Single held rows) pattern = bytes_eq pattern held.items && is_filled rows
 has_some_by (Several patterns) pattern = option_map_or is_filled (rows_for patterns pattern) false
 
--- the same of a side, where a lone row has no pattern values
+-- the same of a side, where a lone row has no pattern value or one
 abbrev pub has : SideRows → List ℕ → ℕ → Bool
 has Empty pattern row = false
 has (Lone own) pattern row = bytes_eq pattern [] && row == own
+has (LoneWith value own) pattern row = bytes_eq pattern (value ∷ []) && row == own
 has (Rows rows) pattern row = has_by rows.value pattern row
 
 abbrev pub has_some : SideRows → List ℕ → Bool
 has_some Empty pattern = false
 has_some (Lone own) pattern = bytes_eq pattern []
+has_some (LoneWith value own) pattern = bytes_eq pattern (value ∷ [])
 has_some (Rows rows) pattern = has_some_by rows.value pattern
 
 -- ---- changes
@@ -94,10 +98,29 @@ HasNothing rows = (ids : List ℕ) (row : ℕ) → has rows ids row ≡ false
 
 -- ---- both sides
 
--- the rows of a side
+-- the rows of one of two sides
+abbrev pub side_of : BothSides → Side → SideRows
+side_of sides Left = sides.lefts
+side_of sides Right = sides.rights
+
+-- both sides of a key, where a row that stands in place is the lone one of its side
+abbrev pub both_sides : KeyRows → BothSides
+both_sides NoRows = record { lefts = Empty; rights = Empty }
+both_sides (LoneLeft left) = record { lefts = Lone left; rights = Empty }
+both_sides (LoneRight right) = record { lefts = Empty; rights = Lone right }
+both_sides (LeftWith value left) = record { lefts = LoneWith value left; rights = Empty }
+both_sides (RightWith value right) = record { lefts = Empty; rights = LoneWith value right }
+both_sides (OneEach left right) = record { lefts = Lone left; rights = Lone right }
+both_sides (Boxed sides) = sides.value
+
+-- whether they stand in a box, and not in place
+abbrev pub is_boxed : KeyRows → Bool
+is_boxed (Boxed sides) = true
+is_boxed rows = false
+
+-- the rows of a key on a side
 abbrev pub rows_on : KeyRows → Side → SideRows
-rows_on rows Left = rows.lefts
-rows_on rows Right = rows.rights
+rows_on rows side = side_of (both_sides rows) side
 
 -- the side across
 abbrev pub across : Side → Side
@@ -105,13 +128,17 @@ across Left = Right
 across Right = Left
 
 -- one side changed in a way, and the side across has what it had
-pub record ChangesOn (side : Side) (Change : SideRows → SideRows → Type 0) (old new : KeyRows) : Type 0 where
-  pub here : Change (rows_on old side) (rows_on new side)
-  pub beside : HaveTheSame (rows_on old (across side)) (rows_on new (across side))
+pub record ChangesSide (side : Side) (Change : SideRows → SideRows → Type 0) (old new : BothSides) : Type 0 where
+  pub here : Change (side_of old side) (side_of new side)
+  pub beside : HaveTheSame (side_of old (across side)) (side_of new (across side))
+
+-- the same of a key
+abbrev pub ChangesOn : Side → (SideRows → SideRows → Type 0) → KeyRows → KeyRows → Type 0
+ChangesOn side Change old new = ChangesSide side Change (both_sides old) (both_sides new)
 
 -- some left row has the constants of Xp, and no right row those of Yp
 abbrev pub lacks_answer : KeyRows → InclusionRow ℕ → Bool
-lacks_answer rows t = has_some rows.lefts t.xp && not (has_some rows.rights t.yp)
+lacks_answer rows t = has_some (rows_on rows Left) t.xp && not (has_some (rows_on rows Right) t.yp)
 
 -- for some row of the tableau
 abbrev pub is_dirty : List (InclusionRow ℕ) → KeyRows → Bool

@@ -1,19 +1,27 @@
-//! The rows of both sides with one key.
-ghost use Rattle.std.specs.Prelude.{◌≡◌, ◌⊎◌, false, ◌==◌, ◌&&◌, ℕ, List, not, ◌↔◌, IsTrue, IfOk, OnOk, OnErr, Contains};
+//! The rows of both sides with one key. A lone row with at most one pattern value, or one without pattern values on each side,
+//! stands in place, without memory; others stand in a box of their own.
+ghost use Rattle.std.specs.Prelude.{◌≡◌, ◌⊎◌, false, ◌==◌, ◌&&◌, [], ℕ, List, not, ◌↔◌, IsTrue, IfOk, IfSome, OnOk, OnErr, Contains};
 ghost use Rattle.std.specs.Str.{bytes_eq};
-ghost use Rattle.cind_index.specs.RowsHeld.{has, has_some, rows_on, across, lacks_answer, is_dirty, HasRowMore, HasRowLess, HaveTheSame, HasNothing, ChangesOn};
+ghost use Rattle.cind_index.specs.RowsHeld.{has, has_some, both_sides, is_boxed, rows_on, across, lacks_answer, is_dirty, HasRowMore, HasRowLess, HaveTheSame, HasNothing, ChangesOn};
+ghost use Rattle.cind_index.specs.declared.side.Side.TheVariants.{Left, Right};
 
+use crate::both_sides::BothSides;
 use crate::side::Side;
-use crate::side_rows::SideRows;
+use crate::side_rows::{SideRows, is_it_with, is_one, push_lone};
 use cfd_semantics::InclusionRow;
 use row_store::RowId;
 use std::alloc::{AllocError, Global};
 use value_pool::ValueId;
 
 #[derive(Drop)]
-pub(crate) struct KeyRows {
-    lefts: SideRows,
-    rights: SideRows,
+pub(crate) enum KeyRows {
+    NoRows,
+    LoneLeft(RowId),
+    LoneRight(RowId),
+    LeftWith(ValueId, RowId),
+    RightWith(ValueId, RowId),
+    OneEach(RowId, RowId),
+    Boxed(Box<BothSides>),
 }
 
 impl KeyRows {
@@ -27,10 +35,7 @@ impl KeyRows {
         ensures here { IfOk result (λ rows. (ids : List ℕ) (other : ℕ) → has (rows_on rows side) ids other ≡ (bytes_eq ids pattern.now && other == row)) }
         ensures beside { IfOk result (λ rows. HasNothing (rows_on rows (across side))) }
     {
-        let mut rows = KeyRows {
-            lefts: SideRows::Empty,
-            rights: SideRows::Empty,
-        };
+        let mut rows = KeyRows::NoRows;
         rows.put(alloc, side, pattern, row)?;
         Ok(rows)
     }
@@ -47,19 +52,72 @@ impl KeyRows {
         ensures new { IfOk result (λ added. added ≡ not (has (rows_on self.old side) pattern.now row)) }
         ensures err { OnErr result (ChangesOn side HaveTheSame self.old self.new) }
     {
-        match side {
-            Side::Left => self.lefts.put(alloc, pattern, row),
-            Side::Right => self.rights.put(alloc, pattern, row),
+        if let KeyRows::Boxed(sides) = self {
+            return sides.put(alloc, side, pattern, row);
+        }
+        let mut sides = self.in_place();
+        let added = sides.put(alloc, side, pattern, row)?;
+        *self = packed(alloc, sides)?;
+        Ok(added)
+    }
+
+    // A copy of the two sides that stand in place.
+    fn in_place(&self) -> BothSides
+        requires { is_boxed self.now ≡ false }
+        ensures { result ≡ both_sides self.now }
+    {
+        match self {
+            KeyRows::NoRows => BothSides {
+                lefts: SideRows::Empty,
+                rights: SideRows::Empty,
+            },
+            KeyRows::LoneLeft(left) => BothSides {
+                lefts: SideRows::Lone(*left),
+                rights: SideRows::Empty,
+            },
+            KeyRows::LoneRight(right) => BothSides {
+                lefts: SideRows::Empty,
+                rights: SideRows::Lone(*right),
+            },
+            KeyRows::LeftWith(value, left) => BothSides {
+                lefts: SideRows::LoneWith(*value, *left),
+                rights: SideRows::Empty,
+            },
+            KeyRows::RightWith(value, right) => BothSides {
+                lefts: SideRows::Empty,
+                rights: SideRows::LoneWith(*value, *right),
+            },
+            KeyRows::OneEach(left, right) => BothSides {
+                lefts: SideRows::Lone(*left),
+                rights: SideRows::Lone(*right),
+            },
+            KeyRows::Boxed(_) => unreachable!(),
         }
     }
 
-    /// Takes a row away from one side.
+    /// Takes a row away from one side. Takes no memory.
     pub(crate) fn take(&mut self, side: Side, pattern: &[ValueId], row: RowId)
         ensures { ChangesOn side (HasRowLess pattern.now row) self.old self.new }
     {
-        match side {
-            Side::Left => self.lefts.take(pattern, row),
-            Side::Right => self.rights.take(pattern, row),
+        match self {
+            KeyRows::NoRows => {}
+            KeyRows::LoneLeft(left) => *self = left_without(*left, side, pattern, row),
+            KeyRows::LoneRight(right) => *self = right_without(*right, side, pattern, row),
+            KeyRows::LeftWith(value, left) => {
+                *self = left_with_without(*value, *left, side, pattern, row)
+            }
+            KeyRows::RightWith(value, right) => {
+                *self = right_with_without(*value, *right, side, pattern, row)
+            }
+            KeyRows::OneEach(left, right) => {
+                *self = each_without(*left, *right, side, pattern, row)
+            }
+            KeyRows::Boxed(sides) => {
+                sides.take(side, pattern, row);
+                if let Some(rows) = unboxed(sides) {
+                    *self = rows;
+                }
+            }
         }
     }
 
@@ -67,15 +125,33 @@ impl KeyRows {
     pub(crate) fn is_empty(&self) -> bool
         ensures { IsTrue result → (side : Side) → HasNothing (rows_on self.now side) }
     {
-        self.lefts.is_empty() && self.rights.is_empty()
+        match self {
+            KeyRows::NoRows => true,
+            KeyRows::Boxed(sides) => sides.is_empty(),
+            _ => false,
+        }
+    }
+
+    // Whether some row of a side has these pattern values.
+    fn has_some(&self, side: Side, pattern: &[ValueId]) -> bool
+        ensures { result ≡ has_some (rows_on self.now side) pattern.now }
+    {
+        match (self, side) {
+            (KeyRows::Boxed(sides), _) => sides.on(side).has_some(pattern),
+            (KeyRows::LoneLeft(_) | KeyRows::OneEach(_, _), Side::Left) => pattern.is_empty(),
+            (KeyRows::LoneRight(_) | KeyRows::OneEach(_, _), Side::Right) => pattern.is_empty(),
+            (KeyRows::LeftWith(value, _), Side::Left) => is_one(pattern, *value),
+            (KeyRows::RightWith(value, _), Side::Right) => is_one(pattern, *value),
+            _ => false,
+        }
     }
 
     /// Whether some left row has the constants of Xp, and no right row those of Yp.
     pub(crate) fn lacks_answer(&self, tableau_row: &InclusionRow<ValueId>) -> bool
         ensures { result ≡ lacks_answer self.now tableau_row.now }
     {
-        self.lefts.has_some(tableau_row.xp.as_slice())
-            && !self.rights.has_some(tableau_row.yp.as_slice())
+        self.has_some(Side::Left, tableau_row.xp.as_slice())
+            && !self.has_some(Side::Right, tableau_row.yp.as_slice())
     }
 
     /// Whether there is an orphan for some row of the tableau.
@@ -87,9 +163,9 @@ impl KeyRows {
 
     /// Whether a right row has the constants of Yp.
     pub(crate) fn has_answer(&self, tableau_row: &InclusionRow<ValueId>) -> bool
-        ensures { result ≡ has_some self.now.rights tableau_row.now.yp }
+        ensures { result ≡ has_some (rows_on self.now Right) tableau_row.now.yp }
     {
-        self.rights.has_some(tableau_row.yp.as_slice())
+        self.has_some(Side::Right, tableau_row.yp.as_slice())
     }
 
     /// Appends the left rows that are orphans for a row of the tableau.
@@ -99,11 +175,123 @@ impl KeyRows {
         found: &mut Vec<RowId>,
     ) -> Result<(), AllocError>
         ensures { OnOk result ((row : ℕ) → Contains found.new.items row ↔ (Contains found.old.items row
-            ⊎ (IsTrue (has self.now.lefts tableau_row.now.xp row) × (has_some self.now.rights tableau_row.now.yp ≡ false)))) }
+            ⊎ (IsTrue (has (rows_on self.now Left) tableau_row.now.xp row) × (has_some (rows_on self.now Right) tableau_row.now.yp ≡ false)))) }
     {
         if self.has_answer(tableau_row) {
             return Ok(());
         }
-        self.lefts.push_rows(tableau_row.xp.as_slice(), found)
+        self.push_lefts(tableau_row.xp.as_slice(), found)
     }
+
+    // Appends the left rows with these pattern values.
+    fn push_lefts(&self, pattern: &[ValueId], found: &mut Vec<RowId>) -> Result<(), AllocError>
+        ensures { OnOk result ((row : ℕ) → Contains found.new.items row ↔ (Contains found.old.items row ⊎ IsTrue (has (rows_on self.now Left) pattern.now row))) }
+    {
+        match self {
+            KeyRows::LoneLeft(own) => push_lone(&[], *own, pattern, found),
+            KeyRows::OneEach(own, _) => push_lone(&[], *own, pattern, found),
+            KeyRows::LeftWith(value, own) => push_lone(&[*value], *own, pattern, found),
+            KeyRows::Boxed(sides) => sides.lefts.push_rows(pattern, found),
+            _ => Ok(()),
+        }
+    }
+}
+
+// The two sides in place, or in a box where they can't stand there.
+fn packed(alloc: Global, sides: BothSides) -> Result<KeyRows, AllocError>
+    ensures { IfOk result (λ rows. both_sides rows ≡ sides) }
+{
+    match unboxed(&sides) {
+        Some(rows) => Ok(rows),
+        None => Ok(KeyRows::Boxed(Box::new(alloc, sides)?)),
+    }
+}
+
+// The two sides in place, where they can stand there.
+fn unboxed(sides: &BothSides) -> Option<KeyRows>
+    ensures { IfSome result (λ rows. both_sides rows ≡ sides.now) }
+{
+    match (&sides.lefts, &sides.rights) {
+        (SideRows::Empty, SideRows::Empty) => Some(KeyRows::NoRows),
+        (SideRows::Lone(left), SideRows::Empty) => Some(KeyRows::LoneLeft(*left)),
+        (SideRows::Empty, SideRows::Lone(right)) => Some(KeyRows::LoneRight(*right)),
+        (SideRows::LoneWith(value, left), SideRows::Empty) => {
+            Some(KeyRows::LeftWith(*value, *left))
+        }
+        (SideRows::Empty, SideRows::LoneWith(value, right)) => {
+            Some(KeyRows::RightWith(*value, *right))
+        }
+        (SideRows::Lone(left), SideRows::Lone(right)) => Some(KeyRows::OneEach(*left, *right)),
+        _ => None,
+    }
+}
+
+// What stays of a lone left row after a row was taken away.
+fn left_without(left: RowId, side: Side, pattern: &[ValueId], row: RowId) -> KeyRows
+    ensures { ChangesOn side (HasRowLess pattern.now row) (KeyRows.LoneLeft left) result }
+{
+    match side {
+        Side::Left if is_it(left, pattern, row) => KeyRows::NoRows,
+        _ => KeyRows::LoneLeft(left),
+    }
+}
+
+// What stays of a lone right row after a row was taken away.
+fn right_without(right: RowId, side: Side, pattern: &[ValueId], row: RowId) -> KeyRows
+    ensures { ChangesOn side (HasRowLess pattern.now row) (KeyRows.LoneRight right) result }
+{
+    match side {
+        Side::Right if is_it(right, pattern, row) => KeyRows::NoRows,
+        _ => KeyRows::LoneRight(right),
+    }
+}
+
+// What stays of a lone left row with one pattern value after a row was taken away.
+fn left_with_without(
+    value: ValueId,
+    left: RowId,
+    side: Side,
+    pattern: &[ValueId],
+    row: RowId,
+) -> KeyRows
+    ensures { ChangesOn side (HasRowLess pattern.now row) (KeyRows.LeftWith value left) result }
+{
+    match side {
+        Side::Left if is_it_with(value, left, pattern, row) => KeyRows::NoRows,
+        _ => KeyRows::LeftWith(value, left),
+    }
+}
+
+// What stays of a lone right row with one pattern value after a row was taken away.
+fn right_with_without(
+    value: ValueId,
+    right: RowId,
+    side: Side,
+    pattern: &[ValueId],
+    row: RowId,
+) -> KeyRows
+    ensures { ChangesOn side (HasRowLess pattern.now row) (KeyRows.RightWith value right) result }
+{
+    match side {
+        Side::Right if is_it_with(value, right, pattern, row) => KeyRows::NoRows,
+        _ => KeyRows::RightWith(value, right),
+    }
+}
+
+// What stays of one row on each side after a row was taken away.
+fn each_without(left: RowId, right: RowId, side: Side, pattern: &[ValueId], row: RowId) -> KeyRows
+    ensures { ChangesOn side (HasRowLess pattern.now row) (KeyRows.OneEach left right) result }
+{
+    match side {
+        Side::Left if is_it(left, pattern, row) => KeyRows::LoneRight(right),
+        Side::Right if is_it(right, pattern, row) => KeyRows::LoneLeft(left),
+        _ => KeyRows::OneEach(left, right),
+    }
+}
+
+// Whether a lone row is the one with these pattern values.
+fn is_it(own: RowId, pattern: &[ValueId], row: RowId) -> bool
+    ensures { result ≡ (bytes_eq pattern.now [] && row == own) }
+{
+    pattern.is_empty() && row == own
 }

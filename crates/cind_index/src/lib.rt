@@ -6,6 +6,7 @@
 //! the key's rows, and a look at each row of the tableau.
 #![tactic(auto)]
 
+mod both_sides;
 mod ids;
 mod index;
 mod key_rows;

@@ -3,7 +3,7 @@
 ghost use Rattle.std.specs.Prelude.{◌≡◌, ◌⊎◌, true, false, option_copied, ◌==◌, ◌&&◌, ◌||◌, [], ℕ, List, not, ◌↔◌, IsTrue, IfSome, IfOk, OnOk, OnErr, Contains};
 ghost use Rattle.std.specs.Option.{option_map_or};
 ghost use Rattle.std.specs.Str.{bytes_eq};
-ghost use Rattle.cind_index.specs.RowsHeld.{is_in, is_filled, rows_for, in_map, has_by, has_some_by, IsMore, IsLess, IsSame};
+ghost use Rattle.cind_index.specs.RowsHeld.{is_in, is_filled, rows_for, in_map, has_by, has_some_by, IsMore, IsLess, IsSame, IsOnly};
 
 use crate::row_set::RowSet;
 use row_store::RowId;
@@ -123,15 +123,38 @@ impl PatternRows {
         }
     }
 
-    /// The row that is there by itself, where it has no pattern values.
-    pub(crate) fn lone(&self) -> Option<RowId>
-        ensures { IfSome result (λ own. (ids : List ℕ) (other : ℕ) → has_by self.now ids other ≡ (bytes_eq ids [] && other == own)) }
+    /// The row that is there by itself, with its pattern values.
+    pub(crate) fn lone(&self) -> Option<(&[ValueId], RowId)>
+        ensures { IfSome result (λ found. IsOnly found.0.now found.1 (has_by self.now)) }
     {
-        match self {
-            PatternRows::Single(held, RowSet::One(own)) if held.is_empty() => Some(*own),
-            _ => None,
+        let (held, rows) = self.only_pattern()?;
+        match rows {
+            RowSet::One(own) => Some((held, *own)),
+            RowSet::More(_) => None,
         }
     }
+
+    // The pattern values that all rows have, and the rows.
+    fn only_pattern(&self) -> Option<(&[ValueId], &RowSet)>
+        ensures { IfSome result (λ found. (ids : List ℕ) (row : ℕ) → has_by self.now ids row ≡ (bytes_eq ids found.0.now && is_in found.1.now row)) }
+    {
+        match self {
+            PatternRows::Nothing => None,
+            PatternRows::Single(held, rows) => Some((held.as_slice(), rows)),
+            PatternRows::Several(patterns) => only_entry(patterns),
+        }
+    }
+}
+
+// The pattern values that stand there by themselves, and their rows.
+fn only_entry(patterns: &Patterns) -> Option<(&[ValueId], &RowSet)>
+    ensures { IfSome result (λ found. (ids : List ℕ) (row : ℕ) → in_map patterns.now ids row ≡ (bytes_eq ids found.0.now && is_in found.1.now row)) }
+{
+    if patterns.len() != 1 {
+        return None;
+    }
+    let (held, rows) = patterns.first_key_value()?;
+    Some((held.as_slice(), rows))
 }
 
 // Rows that stand in place, and one with other pattern values: both in a map, or after a refusal what there was.

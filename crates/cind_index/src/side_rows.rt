@@ -1,8 +1,8 @@
-//! The rows of one side with one key. A lone row without pattern values stands in place, without memory; others stand by
-//! their pattern values, in a box of their own.
-ghost use Rattle.std.specs.Prelude.{◌≡◌, ◌⊎◌, ◌==◌, ◌&&◌, [], ℕ, List, not, ◌↔◌, IsTrue, IfOk, OnOk, OnErr, Contains};
+//! The rows of one side with one key. A lone row with at most one pattern value stands in place, without memory; others
+//! stand by their pattern values, in a box of their own.
+ghost use Rattle.std.specs.Prelude.{◌≡◌, ◌⊎◌, ◌==◌, ◌&&◌, [], ◌∷◌, ℕ, List, not, ◌↔◌, IsTrue, IfOk, IfSome, OnOk, OnErr, Contains};
 ghost use Rattle.std.specs.Str.{bytes_eq};
-ghost use Rattle.cind_index.specs.RowsHeld.{has, has_some, HasRowMore, HasRowLess, HaveTheSame, HasNothing, IsOnly, IsMore};
+ghost use Rattle.cind_index.specs.RowsHeld.{has, has_by, has_some, HasRowMore, HasRowLess, HaveTheSame, HasNothing, IsOnly, IsMore, IsSame};
 
 use crate::pattern_rows::PatternRows;
 use crate::row_set::RowSet;
@@ -14,6 +14,7 @@ use value_pool::ValueId;
 pub(crate) enum SideRows {
     Empty,
     Lone(RowId),
+    LoneWith(ValueId, RowId),
     Rows(Box<PatternRows>),
 }
 
@@ -25,6 +26,7 @@ impl SideRows {
         match self {
             SideRows::Empty => true,
             SideRows::Lone(_) => false,
+            SideRows::LoneWith(_, _) => false,
             SideRows::Rows(rows) => rows.is_empty(),
         }
     }
@@ -36,6 +38,7 @@ impl SideRows {
         match self {
             SideRows::Empty => false,
             SideRows::Lone(_) => pattern.is_empty(),
+            SideRows::LoneWith(value, _) => is_one(pattern, *value),
             SideRows::Rows(rows) => rows.has_some(pattern),
         }
     }
@@ -50,7 +53,8 @@ impl SideRows {
     {
         match self {
             SideRows::Empty => Ok(()),
-            SideRows::Lone(own) => push_lone(*own, pattern, found),
+            SideRows::Lone(own) => push_lone(&[], *own, pattern, found),
+            SideRows::LoneWith(value, own) => push_lone(&[*value], *own, pattern, found),
             SideRows::Rows(rows) => rows.push_rows(pattern, found),
         }
     }
@@ -76,14 +80,22 @@ impl SideRows {
                 if pattern.is_empty() && own == row {
                     return Ok(false);
                 }
-                *self = two_rows(alloc, own, pattern, row)?;
+                *self = two_rows(alloc, &[], own, pattern, row)?;
+                Ok(true)
+            }
+            SideRows::LoneWith(value, own) => {
+                let (value, own) = (*value, *own);
+                if is_it_with(value, own, pattern, row) {
+                    return Ok(false);
+                }
+                *self = two_rows(alloc, &[value], own, pattern, row)?;
                 Ok(true)
             }
             SideRows::Rows(rows) => rows.put(alloc, pattern, row),
         }
     }
 
-    /// Takes the row away.
+    /// Takes the row away. Takes no memory.
     pub(crate) fn take(&mut self, pattern: &[ValueId], row: RowId)
         ensures { HasRowLess pattern.now row self.old self.new }
     {
@@ -94,47 +106,96 @@ impl SideRows {
                     *self = SideRows::Empty;
                 }
             }
+            SideRows::LoneWith(value, own) => {
+                if is_it_with(*value, *own, pattern, row) {
+                    *self = SideRows::Empty;
+                }
+            }
             SideRows::Rows(rows) => {
                 rows.take(pattern, row);
-                if let Some(own) = rows.lone() {
-                    *self = SideRows::Lone(own);
-                } else if rows.is_empty() {
-                    *self = SideRows::Empty;
+                if let Some(left) = unboxed(rows) {
+                    *self = left;
                 }
             }
         }
     }
 }
 
-fn push_lone(own: RowId, pattern: &[ValueId], found: &mut Vec<RowId>) -> Result<(), AllocError>
-    ensures { OnOk result ((row : ℕ) → Contains found.new.items row ↔ (Contains found.old.items row ⊎ IsTrue (bytes_eq pattern.now [] && row == own))) }
+/// Appends a lone row where these are its pattern values.
+pub(crate) fn push_lone(
+    held: &[ValueId],
+    own: RowId,
+    pattern: &[ValueId],
+    found: &mut Vec<RowId>,
+) -> Result<(), AllocError>
+    ensures { OnOk result ((row : ℕ) → Contains found.new.items row ↔ (Contains found.old.items row ⊎ IsTrue (bytes_eq pattern.now held.now && row == own))) }
 {
-    if pattern.is_empty() {
+    if pattern == held {
         found.push(own)?;
     }
     Ok(())
 }
 
+/// Whether the pattern values are this one.
+pub(crate) fn is_one(pattern: &[ValueId], value: ValueId) -> bool
+    ensures { result ≡ bytes_eq pattern.now (value ∷ []) }
+{
+    match pattern {
+        [own] => *own == value,
+        _ => false,
+    }
+}
+
+/// Whether a lone row with one pattern value is this one with these.
+pub(crate) fn is_it_with(value: ValueId, own: RowId, pattern: &[ValueId], row: RowId) -> bool
+    ensures { result ≡ (bytes_eq pattern.now (value ∷ []) && row == own) }
+{
+    is_one(pattern, value) && row == own
+}
+
 fn first_row(alloc: Global, pattern: &[ValueId], row: RowId) -> Result<SideRows, AllocError>
     ensures { IfOk result (λ rows. IsOnly pattern.now row (has rows)) }
 {
-    if pattern.is_empty() {
-        return Ok(SideRows::Lone(row));
+    if let Some(rows) = in_place(pattern, row) {
+        return Ok(rows);
     }
     let rows = PatternRows::Single(Vec::from_slice(alloc, pattern)?, RowSet::One(row));
     Ok(SideRows::Rows(Box::new(alloc, rows)?))
 }
 
-// A row without pattern values, and one more.
+// A lone row, where it can stand in place.
+fn in_place(pattern: &[ValueId], row: RowId) -> Option<SideRows>
+    ensures { IfSome result (λ rows. IsOnly pattern.now row (has rows)) }
+{
+    match pattern {
+        [] => Some(SideRows::Lone(row)),
+        [value] => Some(SideRows::LoneWith(*value, row)),
+        _ => None,
+    }
+}
+
+// The rows in place, where none is left or one that can stand there.
+fn unboxed(rows: &PatternRows) -> Option<SideRows>
+    ensures { IfSome result (λ left. IsSame (has_by rows.now) (has left)) }
+{
+    if rows.is_empty() {
+        return Some(SideRows::Empty);
+    }
+    let (held, own) = rows.lone()?;
+    in_place(held, own)
+}
+
+// A row with pattern values, and one more.
 fn two_rows(
     alloc: Global,
+    held: &[ValueId],
     own: RowId,
     pattern: &[ValueId],
     row: RowId,
 ) -> Result<SideRows, AllocError>
-    ensures { IfOk result (λ rows. IsMore pattern.now row (has (SideRows.Lone own)) (has rows)) }
+    ensures { IfOk result (λ rows. IsMore pattern.now row (λ ids other. bytes_eq ids held.now && other == own) (has rows)) }
 {
-    let mut rows = PatternRows::Single(Vec::new(alloc), RowSet::One(own));
+    let mut rows = PatternRows::Single(Vec::from_slice(alloc, held)?, RowSet::One(own));
     rows.put(alloc, pattern, row)?;
     Ok(SideRows::Rows(Box::new(alloc, rows)?))
 }

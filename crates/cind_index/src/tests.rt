@@ -311,7 +311,25 @@ fn two_attributes_of_a_key(rt: HostRuntime) -> Result<(), Fail> {
 #[test]
 fn key_longer_than_what_stands_in_place(rt: HostRuntime) -> Result<(), Fail> {
     let alloc = rt.alloc();
-    let rule = rule(alloc, [b"012", b"3", b"123", b""], 3)?;
+    let rule = rule(alloc, [b"012", b"", b"123", b"0"], 7)?;
     assert!(rt; walks::<Brand>(alloc, 0, 1, rule, Blank::new(1))?);
+    Ok(())
+}
+
+// Lone rows on each side get others beside them, and stay behind by themselves again.
+#[test]
+fn few_rows_with_each_key(rt: HostRuntime) -> Result<(), Fail> {
+    let alloc = rt.alloc();
+    let rule = rule(alloc, [b"01", b"", b"02", b""], 1)?;
+    assert!(rt; walks::<Brand>(alloc, 0, 0, rule, Blank::new(1))?);
+    Ok(())
+}
+
+// The same of lone rows with one pattern value on a side.
+#[test]
+fn few_rows_with_one_pattern_value(rt: HostRuntime) -> Result<(), Fail> {
+    let alloc = rt.alloc();
+    let rule = rule(alloc, [b"01", b"2", b"02", b"3"], 9)?;
+    assert!(rt; walks::<Brand>(alloc, 0, 0, rule, Blank::new(1))?);
     Ok(())
 }

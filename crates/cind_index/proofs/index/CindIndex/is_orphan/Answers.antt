@@ -2,7 +2,8 @@ use Rattle.std.proofs.Common.{sym, ap, subst, ◌∙◌, get_or, not, true, fals
 use Rattle.std.specs.Str.{bytes_eq}
 use Rattle.row_store.specs.Tuple.{ids_of}
 use Rattle.row_store.specs.Watch.{IsWide}
-use Rattle.cind_index.specs.RowsHeld.{has_some}
+use Rattle.cind_index.specs.declared.side.Side.TheVariants.{Right}
+use Rattle.cind_index.specs.RowsHeld.{has_some, rows_on}
 use Rattle.cind_index.specs.Entries.{ids_in}
 use Rattle.cind_index.proofs.SideFacts.{wide_front, wide_back}
 use Rattle.cind_index.proofs.OrphanFacts.{own_left, row_at, TellsOrphan, other_constants, key_is_found, key_is_absent}
@@ -38,7 +39,7 @@ returns-in-Some-clause-orphan g c x at row left is =
     let test = ap (λ xs. bytes_eq xs (ids_in ids index.rule.xp)) (sym c.as_slice-3.ensures) ∙ ap (λ attributes. bytes_eq c.as_slice-3.result.now (ids_in ids attributes)) (sym c.as_slice-2.ensures) ∙ sym c.if-not-has_ids.ensures in
     let key = c.write_ids.ensures.ids ∙ ap (ids_in ids) c.as_slice-x.ensures ∙ own.0 in
     subst (λ b. TellsOrphan (not b) index.keys x left) (sym c.has_answer.ensures)
-    (subst (λ r. TellsOrphan (not (has_some c.value_at.result.now.rights t.yp)) index.keys r left) one
+    (subst (λ r. TellsOrphan (not (has_some (rows_on c.value_at.result.now Right) t.yp)) index.keys r left) one
     (key_is_found index.keys c.in-Some.ensures.distinct c.write_ids.new.list c.in-Some.place c.value_at.result.now t left (ids_in ids index.rule.xp) c.in-Some.ensures.found c.value_at.ensures key own.1 test))
 
 pub returns-clause-orphan : goal.returns-clause-orphan

@@ -12,6 +12,11 @@ returns-in-Lone c =
     on_ok c.push_lone.result (λ step row.
     subst (λ (rows : SideRows). Contains c.push_lone.new.found.items row ↔ (Contains c.args.found.now.items row ⊎ IsTrue (has rows c.args.pattern.now row))) (sym c.in-Lone.is) (step row)) c.push_lone.ensures
 
+pub returns-in-LoneWith : goal.returns-in-LoneWith
+returns-in-LoneWith c =
+    on_ok c.push_lone-in-LoneWith.result (λ step row.
+    subst (λ (rows : SideRows). Contains c.push_lone-in-LoneWith.new.found.items row ↔ (Contains c.args.found.now.items row ⊎ IsTrue (has rows c.args.pattern.now row))) (sym c.in-LoneWith.is) (step row)) c.push_lone-in-LoneWith.ensures
+
 pub returns-in-Rows : goal.returns-in-Rows
 returns-in-Rows c =
     let same : c.deref.result.now ≡ c.in-Rows.rows.value = cc in
