@@ -239,9 +239,17 @@ fn first_wrong<L: Ledger>(alloc: Global, blank: Blank) -> Result<Option<String>,
 {
     let mut steps = Steps::<L>::open(blank);
     let mut bench = bench(alloc, &mut steps)?;
+    first_wrong_on(alloc, &mut bench, &mut steps)
+}
+
+fn first_wrong_on<L: Ledger>(
+    alloc: Global,
+    bench: &mut Bench,
+    steps: &mut Steps<L>,
+) -> Result<Option<String>, Fail> {
     for line in CASES.lines() {
         let (line, want) = line.split_once(" | ").unwrap_or(("", ""));
-        let got = answer(alloc, &mut bench, line, &mut steps)?;
+        let got = answer(alloc, bench, line, steps)?;
         if got.as_str() != want {
             return Ok(Some(format!(in alloc; "{line} | {got}")?));
         }
@@ -332,14 +340,22 @@ fn first_parted<L: Ledger>(alloc: Global, blank: Blank) -> Result<Option<&'stati
 {
     let mut steps = Steps::<L>::open(blank);
     let mut bench = bench(alloc, &mut steps)?;
+    first_parted_on(alloc, &mut bench, &mut steps)
+}
+
+fn first_parted_on<L: Ledger>(
+    alloc: Global,
+    bench: &mut Bench,
+    steps: &mut Steps<L>,
+) -> Result<Option<&'static str>, Fail> {
     let mut plain = PlainHistory {
         past: Vec::new(alloc),
-        present: shown(alloc, &bench)?,
+        present: shown(alloc, bench)?,
         undone: Vec::new(alloc),
     };
     for line in WALK.lines() {
-        let agrees = agrees(alloc, &mut bench, &mut plain, line, &mut steps)?;
-        let got = shown(alloc, &bench)?;
+        let agrees = agrees(alloc, bench, &mut plain, line, steps)?;
+        let got = shown(alloc, bench)?;
         if !agrees || got.as_str() != plain.present.as_str() {
             return Ok(Some(line));
         }
