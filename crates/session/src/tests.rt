@@ -3,7 +3,7 @@ use super::*;
 use edit_log::Edit;
 use row_store::RowId;
 use schema_core::{Limits, Text, Texts};
-use std::alloc::AllocError;
+use std::alloc::{AllocError, Global};
 use std::process::Abort;
 use std::test::Fail;
 
@@ -86,77 +86,82 @@ fn shown(rt: &(impl Abort + AllocGlobal), most: u64, script: &[u8]) -> Result<St
     Ok(text)
 }
 
-#[test]
-fn scripts(rt: HostRuntime) -> Result<(), Fail> {
-    let cases: [(&[u8], &str); 45] = [
-        (b"", ""),
-        (b"\n \t\r\n\t# insert\n", ""),
-        (b"list", "list; "),
-        (b"list\r\n\r\ninsert t 'a'\r\n", "list; insert t <a>; "),
-        (b"insert t'a','b'", "insert t <a> <b>; "),
-        (b"insert insert ''\nlist\n", "insert insert <>; list; "),
-        (b"insert", "line 1: BadLine"),
-        (b"insert t", "line 1: BadLine"),
-        (b"insert 't', 'a'", "line 1: BadLine"),
-        (b"insert t, 'a'", "line 1: BadLine"),
-        (b"insert t 'a',", "line 1: BadLine"),
-        (b"insert t 'a' 'b'", "line 1: BadLine"),
-        (b"insert t 'a', 1", "line 1: BadLine"),
-        (b"list all", "line 1: BadLine"),
-        (b"LIST", "line 1: BadLine"),
-        (b"'list'", "line 1: BadLine"),
-        (b"list 'a", "line 1: BadLine"),
-        (b"list\n# \xff\n", "line 2: NotUtf8"),
-        (b"list\n\ninsert t\n\xff\n", "line 3: BadLine"),
-        (b"list\n\n\xff\ninsert t\n", "line 3: NotUtf8"),
-        (b"list\rlist\n", "line 1: BadLine"),
-        (b"set t 1 a 'x'\ncount", "set t 1 a <x>; count; "),
-        (
-            b"set set 999999999999 set''",
-            "set set 999999999999 set <>; ",
-        ),
-        (b"delete t 12\nexplain t 3\n", "delete t 12; explain t 3; "),
-        (b"export t\nexport export", "export t; export export; "),
-        (b"undo\nredo", "undo; redo; "),
-        (b"undo 1", "line 1: BadLine"),
-        (b"set t 0 a 'x'", "line 1: BadLine"),
-        (b"set t 01 a 'x'", "line 1: BadLine"),
-        (b"set t 1 a", "line 1: BadLine"),
-        (b"set t 1 'a' 'x'", "line 1: BadLine"),
-        (b"set t 1 a 'x', 'y'", "line 1: BadLine"),
-        (b"set t 1000000000000 a 'x'", "line 1: BadLine"),
-        (b"delete t", "line 1: BadLine"),
-        (b"delete t 0", "line 1: BadLine"),
-        (b"delete t 1 2", "line 1: BadLine"),
-        (b"count t", "line 1: BadLine"),
-        (b"explain t", "line 1: BadLine"),
-        (b"export 't'", "line 1: BadLine"),
-        (b"fix t 1 [a]", "fix t 1 a; "),
-        (b"fix t 1 []\nfix t 2[a, b]", "fix t 1; fix t 2 a b; "),
-        (b"fix t 1", "line 1: BadLine"),
-        (b"fix t 1 a", "line 1: BadLine"),
-        (b"fix t 0 [a]", "line 1: BadLine"),
-        (b"fix t 1 [a,]", "line 1: BadLine"),
-    ];
-    for (script, wanted) in cases {
-        assert_eq!(rt; shown(&rt, 9, script)?.as_str(), wanted, "{script:?}");
+/// How many commands are accepted, a script, in which a slash stands for a line feed and a percent sign for a byte that is no
+/// text, and what it says.
+const SCRIPTS: &str = "\
+9;;;\n\
+9;/ \t\r/\t# insert/;;\n\
+9;list;;list; \n\
+9;list\r/\r/insert t 'a'\r/;;list; insert t <a>; \n\
+9;insert t'a','b';;insert t <a> <b>; \n\
+9;insert insert ''/list/;;insert insert <>; list; \n\
+9;insert;;line 1: BadLine\n\
+9;insert t;;line 1: BadLine\n\
+9;insert 't', 'a';;line 1: BadLine\n\
+9;insert t, 'a';;line 1: BadLine\n\
+9;insert t 'a',;;line 1: BadLine\n\
+9;insert t 'a' 'b';;line 1: BadLine\n\
+9;insert t 'a', 1;;line 1: BadLine\n\
+9;list all;;line 1: BadLine\n\
+9;LIST;;line 1: BadLine\n\
+9;'list';;line 1: BadLine\n\
+9;list 'a;;line 1: BadLine\n\
+9;list/# %/;;line 2: NotUtf8\n\
+9;list//insert t/%/;;line 3: BadLine\n\
+9;list//%/insert t/;;line 3: NotUtf8\n\
+9;list\rlist/;;line 1: BadLine\n\
+9;set t 1 a 'x'/count;;set t 1 a <x>; count; \n\
+9;set set 999999999999 set'';;set set 999999999999 set <>; \n\
+9;delete t 12/explain t 3/;;delete t 12; explain t 3; \n\
+9;export t/export export;;export t; export export; \n\
+9;undo/redo;;undo; redo; \n\
+9;undo 1;;line 1: BadLine\n\
+9;set t 0 a 'x';;line 1: BadLine\n\
+9;set t 01 a 'x';;line 1: BadLine\n\
+9;set t 1 a;;line 1: BadLine\n\
+9;set t 1 'a' 'x';;line 1: BadLine\n\
+9;set t 1 a 'x', 'y';;line 1: BadLine\n\
+9;set t 1000000000000 a 'x';;line 1: BadLine\n\
+9;delete t;;line 1: BadLine\n\
+9;delete t 0;;line 1: BadLine\n\
+9;delete t 1 2;;line 1: BadLine\n\
+9;count t;;line 1: BadLine\n\
+9;explain t;;line 1: BadLine\n\
+9;export 't';;line 1: BadLine\n\
+9;fix t 1 [a];;fix t 1 a; \n\
+9;fix t 1 []/fix t 2[a, b];;fix t 1; fix t 2 a b; \n\
+9;fix t 1;;line 1: BadLine\n\
+9;fix t 1 a;;line 1: BadLine\n\
+9;fix t 0 [a];;line 1: BadLine\n\
+9;fix t 1 [a,];;line 1: BadLine\n\
+0;# list/;;\n\
+0;list;;line 1: TooMany(Commands)\n\
+1;list/# x/list/list/;;line 3: TooMany(Commands)\n\
+2;list/# x/list//;;list; list; \n\
+3;list/# x/list/;;list; list; \n\
+1;list/list all/list/;;line 2: BadLine\n\
+1;list/%/list/;;line 2: NotUtf8\n";
+
+fn bytes_of(alloc: Global, script: &str) -> Result<Vec<u8>, AllocError> {
+    let mut bytes = Vec::new(alloc);
+    for byte in script.bytes() {
+        bytes.push(match byte {
+            b'/' => b'\n',
+            b'%' => 0xff,
+            _ => byte,
+        })?;
     }
-    Ok(())
+    Ok(bytes)
 }
 
 #[test]
-fn scripts_at_the_limit(rt: HostRuntime) -> Result<(), Fail> {
-    let cases: [(u64, &[u8], &str); 7] = [
-        (0, b"# list\n", ""),
-        (0, b"list", "line 1: TooMany(Commands)"),
-        (1, b"list\n# x\nlist\nlist\n", "line 3: TooMany(Commands)"),
-        (2, b"list\n# x\nlist\n\n", "list; list; "),
-        (3, b"list\n# x\nlist\n", "list; list; "),
-        (1, b"list\nlist all\nlist\n", "line 2: BadLine"),
-        (1, b"list\n\xff\nlist\n", "line 2: NotUtf8"),
-    ];
-    for (most, script, wanted) in cases {
-        assert_eq!(rt; shown(&rt, most, script)?.as_str(), wanted, "{script:?}");
+fn scripts(rt: HostRuntime) -> Result<(), Fail> {
+    for line in SCRIPTS.lines() {
+        let (most, rest) = line.split_once(';').unwrap_or(("", ""));
+        let (script, wanted) = rest.split_once(";;").unwrap_or(("", ""));
+        let script = bytes_of(rt.alloc(), script)?;
+        let said = shown(&rt, most.parse().unwrap_or(0), script.as_slice())?;
+        assert_eq!(rt; said.as_str(), wanted, "{line}");
     }
     Ok(())
 }
