@@ -18,13 +18,27 @@ use std::test::Fail;
 // A row with its table, its id and its ids at four attributes.
 type Plain = (usize, RowId, [usize; 4]);
 
+/// Walks, each with the tables of both sides, with X, Xp, Y and Yp by the digits of their attributes, where `-` is none, and
+/// with so many tableau rows. In the last two, lone rows on each side get others beside them and stay behind by themselves
+/// again, without pattern values and with one.
+const WALKS: &str = "\
+0 0 1 2 0 3 4\n\
+0 1 0 - 1 - 1\n\
+0 1 0 12 1 23 9\n\
+1 0 01 2 12 - 3\n\
+0 1 012 - 123 0 7\n\
+0 0 01 - 02 - 1\n\
+0 0 01 2 02 3 9\n";
+
 // Attributes below four, from digits.
-fn attributes(alloc: Global, digits: &[u8]) -> Result<List<usize>, AllocError>
+fn attributes(alloc: Global, digits: &str) -> Result<List<usize>, AllocError>
     ensures { IfOk result AreBelowFour }
 {
     let mut list = List::new(alloc);
-    for digit in digits {
-        list.push((*digit % 4) as usize)?;
+    for digit in digits.bytes() {
+        if digit != b'-' {
+            list.push((digit % 4) as usize)?;
+        }
     }
     Ok(list)
 }
@@ -39,23 +53,25 @@ fn constants(alloc: Global, first: usize, count: usize) -> Result<List<usize>, A
 }
 
 // X, Xp, Y and Yp by their digits, and so many tableau rows.
-fn rule(alloc: Global, digits: [&[u8]; 4], rows: usize) -> Result<Inclusion<usize>, AllocError>
+fn rule(alloc: Global, digits: [&str; 4], rows: usize) -> Result<Inclusion<usize>, AllocError>
     ensures { IfOk result IsNarrow }
 {
     let [x, xp, y, yp] = digits;
+    let xp = attributes(alloc, xp)?;
+    let yp = attributes(alloc, yp)?;
     let mut tableau = List::new(alloc);
     for number in 0..rows {
         let row = IdPairRow {
-            xp: constants(alloc, number, xp.len())?,
-            yp: constants(alloc, number / 3, yp.len())?,
+            xp: constants(alloc, number, xp.as_slice().len())?,
+            yp: constants(alloc, number / 3, yp.as_slice().len())?,
         };
         tableau.push(row)?;
     }
     Ok(Inclusion {
         x: attributes(alloc, x)?,
-        xp: attributes(alloc, xp)?,
+        xp,
         y: attributes(alloc, y)?,
-        yp: attributes(alloc, yp)?,
+        yp,
         rows: tableau,
     })
 }
@@ -276,60 +292,31 @@ fn walks<L: Ledger>(
     Ok(index.needs(left) && plain.len() > 20)
 }
 
-#[test]
-fn one_table_on_both_sides(rt: HostRuntime) -> Result<(), Fail> {
-    let alloc = rt.alloc();
-    let rule = rule(alloc, [b"1", b"2", b"0", b"3"], 4)?;
-    assert!(rt; walks::<Brand>(alloc, 0, 0, rule, Blank::new(1))?);
-    Ok(())
+// The walk of a line.
+fn walks_by<L: Ledger>(alloc: Global, line: &str, blank: Blank) -> Result<bool, AllocError>
+    requires name { blank.name ≡ L.name }
+    requires parts { blank.parts ≡ L.parts }
+    requires some { 0 < blank.parts }
+{
+    let mut words = Vec::new(alloc);
+    for word in line.split(' ') {
+        words.push(word)?;
+    }
+    let [left, right, x, xp, y, yp, rows] = words.as_slice() else {
+        return Ok(false);
+    };
+    let rule = rule(alloc, [*x, *xp, *y, *yp], rows.parse().unwrap_or(0))?;
+    let (left, right) = (left.parse().unwrap_or(0), right.parse().unwrap_or(0));
+    walks::<L>(alloc, left, right, rule, blank)
 }
 
 #[test]
-fn no_pattern(rt: HostRuntime) -> Result<(), Fail> {
-    let alloc = rt.alloc();
-    let rule = rule(alloc, [b"0", b"", b"1", b""], 1)?;
-    assert!(rt; walks::<Brand>(alloc, 0, 1, rule, Blank::new(1))?);
-    Ok(())
-}
-
-#[test]
-fn many_tableau_rows(rt: HostRuntime) -> Result<(), Fail> {
-    let alloc = rt.alloc();
-    let rule = rule(alloc, [b"0", b"12", b"1", b"23"], 9)?;
-    assert!(rt; walks::<Brand>(alloc, 0, 1, rule, Blank::new(1))?);
-    Ok(())
-}
-
-#[test]
-fn two_attributes_of_a_key(rt: HostRuntime) -> Result<(), Fail> {
-    let alloc = rt.alloc();
-    let rule = rule(alloc, [b"01", b"2", b"12", b""], 3)?;
-    assert!(rt; walks::<Brand>(alloc, 1, 0, rule, Blank::new(1))?);
-    Ok(())
-}
-
-#[test]
-fn key_longer_than_what_stands_in_place(rt: HostRuntime) -> Result<(), Fail> {
-    let alloc = rt.alloc();
-    let rule = rule(alloc, [b"012", b"", b"123", b"0"], 7)?;
-    assert!(rt; walks::<Brand>(alloc, 0, 1, rule, Blank::new(1))?);
-    Ok(())
-}
-
-// Lone rows on each side get others beside them, and stay behind by themselves again.
-#[test]
-fn few_rows_with_each_key(rt: HostRuntime) -> Result<(), Fail> {
-    let alloc = rt.alloc();
-    let rule = rule(alloc, [b"01", b"", b"02", b""], 1)?;
-    assert!(rt; walks::<Brand>(alloc, 0, 0, rule, Blank::new(1))?);
-    Ok(())
-}
-
-// The same of lone rows with one pattern value on a side.
-#[test]
-fn few_rows_with_one_pattern_value(rt: HostRuntime) -> Result<(), Fail> {
-    let alloc = rt.alloc();
-    let rule = rule(alloc, [b"01", b"2", b"02", b"3"], 9)?;
-    assert!(rt; walks::<Brand>(alloc, 0, 0, rule, Blank::new(1))?);
+fn walks_beside_a_scan(rt: HostRuntime) -> Result<(), Fail> {
+    for line in WALKS.lines() {
+        assert!(rt;
+            walks_by::<Brand>(rt.alloc(), line, Blank::new(1))?,
+            "{line}"
+        );
+    }
     Ok(())
 }
