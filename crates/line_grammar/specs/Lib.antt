@@ -10,3 +10,4 @@ pub mod Phrases
 pub mod Spelling
 pub mod Appending
 pub mod OneSpelling
+pub mod Takes

@@ -3,7 +3,7 @@
 ghost use Rattle.std.specs.Str.{IsUtf8};
 ghost use Rattle.text_lists.specs.Names.{IsName, IsConstant};
 ghost use Rattle.line_grammar.specs.Phrases.{name_at, text_at, constant_at};
-ghost use Rattle.line_grammar.proofs.Takes.{name_at-takes, text_at-takes, constant_at-takes};
+ghost use Rattle.line_grammar.specs.Takes.{name_at-takes, text_at-takes, constant_at-takes};
 
 use crate::cursor::Tokens;
 use crate::phrase::{ListItem, Phrase};

@@ -14,6 +14,7 @@ pub use Rattle.line_grammar.specs.Phrases
 pub use Rattle.line_grammar.specs.Spelling
 pub use Rattle.line_grammar.specs.Appending
 pub use Rattle.line_grammar.specs.OneSpelling
+pub use Rattle.line_grammar.specs.Takes
 pub mod Schemas
 pub mod Lookups
 pub mod Rows
