@@ -2,7 +2,7 @@
 //! undos and redos beside plain lists of what was shown.
 
 ghost use Rattle.std.specs.Prelude.{◌≡◌, ◌<◌, ℕ, IfOk};
-ghost use Rattle.schema_core.specs.Limits.{AreLimits};
+ghost use Rattle.text_lists.specs.Limits.{AreLimits};
 ghost use Rattle.bench_core.specs.Loading.{AreTables};
 
 use super::*;

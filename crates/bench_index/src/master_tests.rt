@@ -1,7 +1,7 @@
 //! Rows of a master table that come, change and go, and which of them an editing rule finds after each change.
 
 ghost use Rattle.std.specs.Prelude.{◌≡◌, ◌<◌, ℕ, List, IfOk, IsTrue, OnOk};
-ghost use Rattle.schema_core.specs.Names.{IsName};
+ghost use Rattle.text_lists.specs.Names.{IsName};
 ghost use Rattle.rule_model.specs.Declarations.{IsWritten};
 ghost use Rattle.std.specs.Option.{ForSome};
 ghost use Rattle.std.specs.FinMap as finite;

@@ -1,9 +1,9 @@
 //! Words with a form and without one, each line behind `=` with what the words ask for.
 use super::*;
-use schema_core::{List, Text, Texts};
 use std::alloc::{AllocError, Global};
 use std::process::Abort;
 use std::test::Fail;
+use text_lists::{List, Text, Texts};
 
 const LINES: &str = "
 = nothing

@@ -1,5 +1,5 @@
 //! Projects at the limits of a call, just below and just above them, and one that is large.
-ghost use Rattle.schema_core.specs.Limits.{AreLimits};
+ghost use Rattle.text_lists.specs.Limits.{AreLimits};
 
 use super::*;
 use crate::cases::{check_cases, shelf_of, words_of};

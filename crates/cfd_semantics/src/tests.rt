@@ -1,9 +1,9 @@
 //! The lists of two small tables, worked out by hand.
 
 use super::*;
-use schema_core::List;
 use std::alloc::{AllocError, Global};
 use std::test::Fail;
+use text_lists::List;
 
 fn list_of(alloc: Global, values: &[usize]) -> Result<List<usize>, AllocError> {
     let mut list = List::new(alloc);

@@ -8,12 +8,12 @@ use crate::{CindIndex, IdPairRow, Inclusion};
 use cfd_semantics::{Row, orphaned};
 use probe_steps::Steps;
 use row_store::{RowId, Tuple, Watch};
-use schema_core::List;
 use std::alloc::{AllocError, Global};
 use std::marker::Brand;
 use std::rc::RcSlice;
 use std::sync::ledger::{Blank, Ledger};
 use std::test::Fail;
+use text_lists::List;
 
 // A row with its table, its id and its ids at four attributes.
 type Plain = (usize, RowId, [usize; 4]);

@@ -1,7 +1,7 @@
 //! Table files with their rows, or their faults, and tables written and read again.
 
 ghost use Rattle.std.specs.Prelude.{◌≡◌, IfOk, length};
-ghost use Rattle.schema_core.specs.Limits.{AreLimits};
+ghost use Rattle.text_lists.specs.Limits.{AreLimits};
 
 use crate::{read_table, write_table};
 use schema_core::{Attr, Domain, Limits, List, Table, Text, Texts};

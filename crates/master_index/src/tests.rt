@@ -6,12 +6,12 @@ ghost use Rattle.master_index.specs.Masters.{IsWideFor};
 use crate::{ColumnList, MasterIndex};
 use probe_steps::Steps;
 use row_store::{RowId, Tuple};
-use schema_core::List;
 use std::alloc::{AllocError, Global};
 use std::marker::Brand;
 use std::rc::RcSlice;
 use std::sync::ledger::{Blank, Ledger};
 use std::test::Fail;
+use text_lists::List;
 
 // Rows 0 to 9 of tables 0 and 1, one after the other, each with its three ids or empty.
 type Plain = [Option<[usize; 3]>; 20];

@@ -2,7 +2,7 @@
 
 mod cutter;
 
-ghost use Rattle.schema_core.specs.Limits.{AreLimits};
+ghost use Rattle.text_lists.specs.Limits.{AreLimits};
 
 use super::*;
 use cutter::declaration;

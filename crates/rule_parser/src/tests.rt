@@ -1,6 +1,6 @@
 //! Rule files and dependencies by themselves, with what they give, or with the line and the cause of their refusal.
 
-ghost use Rattle.schema_core.specs.Limits.{AreLimits};
+ghost use Rattle.text_lists.specs.Limits.{AreLimits};
 
 use super::*;
 use rule_model::{RuleBook, RuleFault};

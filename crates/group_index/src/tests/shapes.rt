@@ -2,8 +2,8 @@
 
 use crate::{IdCell, IdRow};
 use cfd_semantics::{Dependency, Pattern};
-use schema_core::List;
 use std::alloc::{AllocError, Global};
+use text_lists::List;
 
 pub(crate) const SHAPES: usize = 5;
 

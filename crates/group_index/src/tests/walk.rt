@@ -11,12 +11,12 @@ use crate::tests::shapes::{SHAPES, shape};
 use cfd_semantics::{Dependency, Row, violating};
 use probe_steps::Steps;
 use row_store::{RowId, RowStore, Tuple, Watch};
-use schema_core::List;
 use std::alloc::{AllocError, Global};
 use std::marker::Brand;
 use std::rc::RcSlice;
 use std::sync::ledger::{Blank, Ledger};
 use std::test::Fail;
+use text_lists::List;
 
 // Puts a row where there is none with the drawn id; else takes it away, or gives it another tuple.
 fn change<W: Watch, L: Ledger>(
