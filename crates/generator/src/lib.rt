@@ -13,5 +13,3 @@ pub use draws::Draws;
 pub use edits::{Thousand, draw_thousands};
 pub use summary::{Summary, generate};
 
-#[cfg(test)]
-mod tests;

@@ -14,5 +14,3 @@ pub use command::{Command, ScriptCause, ScriptFault, ServeFault};
 pub use script::parse_script;
 pub use serving::serve;
 
-#[cfg(test)]
-mod tests;
