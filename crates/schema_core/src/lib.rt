@@ -60,5 +60,3 @@ pub use writing::{
 
 #[cfg(test)]
 mod tests;
-#[cfg(test)]
-mod written_lines;
