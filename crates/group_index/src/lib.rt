@@ -16,6 +16,3 @@ mod spread;
 mod violations;
 
 pub use index::{GroupIndex, IdCell, IdRow};
-
-#[cfg(test)]
-mod tests;
