@@ -14,4 +14,3 @@ pub mod PartLemmas
 pub mod WrittenFiles
 pub mod FaultLemmas
 pub mod WalkLemmas
-pub mod Takes
