@@ -13,3 +13,5 @@ pub use draws::Draws;
 pub use edits::{Thousand, draw_thousands};
 pub use summary::{Summary, generate};
 
+#[cfg(test)]
+mod tests;

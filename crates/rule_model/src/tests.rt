@@ -128,8 +128,13 @@ fn run(rt: &(impl Abort + AllocGlobal), table: &str, limits: &Limits) -> Result<
         for first in FIRST {
             answer(alloc, &mut book, first)?;
         }
+        let before = shown(alloc, &book)?;
         let got = answer(alloc, &mut book, decl)?;
+        let after = shown(alloc, &book)?;
         assert_eq!(rt; got.as_str(), want, "{line}");
+        // What is refused leaves the book as it is.
+        let is_shown = got.as_str() == after.as_str();
+        assert!(rt; is_shown || before.as_str() == after.as_str(), "{line}");
     }
     Ok(())
 }
