@@ -5,10 +5,10 @@ ghost use Rattle.text_lists.specs.Limits.{AreLimits};
 
 use case_files::{Program, run_folder};
 use cfd_cli::{run, run_with};
-use text_lists::{Limits, Texts};
 use shelf_io::{MemoryShelf, MemorySink};
 use std::alloc::Global;
 use std::process::ExitCode;
+use text_lists::{Limits, Texts};
 
 /// The program of this repository.
 struct Cfdbench;
