@@ -8,8 +8,8 @@
 use crate::case::{Case, CaseFile};
 use crate::limits::{are_limits, set_limit};
 use line_grammar::push_number;
-use text_lists::{Limits, Text};
 use std::alloc::{AllocError, Global};
+use text_lists::{Limits, Text};
 
 /// What a line comes to.
 #[derive(Drop)]

@@ -12,4 +12,3 @@ mod tables;
 
 pub use cli_output::Status;
 pub use program::{run, run_with};
-
