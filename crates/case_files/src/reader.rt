@@ -5,7 +5,7 @@
 //! with what is to be written below it. Content is lines that begin with `|`, a last one that begins with `\` and has
 //! no line feed, and `repeat NUMBER |TEXT`, which stands for so many lines, `#` being the number of each.
 use crate::case::{Case, CaseFile};
-use crate::limits::{are_limits, set_limit};
+use crate::limits::set_limit;
 use schema_core::{Limits, Text, push_number};
 use std::alloc::{AllocError, Global};
 
@@ -81,7 +81,7 @@ impl CaseReader {
 }
 
 /// Why a line is not taken.
-#[derive(Clone, Copy, Debug, PartialEq, Eq, Drop)]
+#[derive(Drop)]
 enum LineFault {
     Unreadable,
     Memory,
@@ -94,7 +94,7 @@ impl From<AllocError> for LineFault {
 }
 
 /// The parts of a case, in the order in which they stand.
-#[derive(Clone, Copy, Debug, PartialEq, Eq, PartialOrd, Ord, Drop)]
+#[derive(Clone, Copy, PartialEq, PartialOrd)]
 enum Part {
     Name,
     Program,
@@ -131,10 +131,6 @@ impl Draft {
 
     /// The case, where all of its parts are there.
     fn finished(self) -> Option<Case> {
-        match &self.case.limits {
-            Some(limits) if !are_limits(limits) => return None,
-            _ => {}
-        }
         if self.part == Part::Wanted {
             Some(self.case)
         } else {
