@@ -1,8 +1,8 @@
 //! A bench: rules, limits, and the history of its tables.
 
 ghost use Rattle.std.specs.Prelude.{◌≡◌, ◌↔◌, ◌+◌, ◌<◌, ◌≤◌, Err, Some, length, slice_get, OnErr, OnOk, IfOk};
-ghost use Rattle.schema_core.specs.Limits.{AreLimits};
-ghost use Rattle.schema_core.specs.Faults.{GivesUnlessMemory};
+ghost use Rattle.text_lists.specs.Limits.{AreLimits};
+ghost use Rattle.line_grammar.specs.Faults.{GivesUnlessMemory};
 ghost use Rattle.bench_core.specs.State.{rows_at};
 ghost use Rattle.bench_core.specs.Loading.{AreTables, full_table, loaded};
 ghost use Rattle.bench_core.specs.Edited.{refusal_of};

@@ -2,7 +2,7 @@
 
 ghost use Rattle.std.specs.Prelude.{◌≡◌, ◌↔◌, ◌+◌, ◌<◌, ◌≤◌, Err, Some, length, map, slice_get, IsSomeAnd, IfOk, OnErr, OnOk};
 ghost use Rattle.schema_core.specs.Schemas.{table_place};
-ghost use Rattle.schema_core.specs.Faults.{GivesUnlessMemory};
+ghost use Rattle.line_grammar.specs.Faults.{GivesUnlessMemory};
 ghost use Rattle.row_store.specs.Tuple.{ids_if};
 ghost use Rattle.row_store.specs.Watches.{with_row};
 ghost use Rattle.edit_log.specs.Journal.{first_change, last_change};

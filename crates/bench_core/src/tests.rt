@@ -1,8 +1,7 @@
-//! What a bench answers to edits: a table, whose lines are made one after the other on one bench. And a walk of edits,
-//! undos and redos beside plain lists of what was shown.
+//! What a bench answers to edits: a table, whose lines are made one after the other on one bench.
 
 ghost use Rattle.std.specs.Prelude.{◌≡◌, ◌<◌, ℕ, IfOk};
-ghost use Rattle.schema_core.specs.Limits.{AreLimits};
+ghost use Rattle.text_lists.specs.Limits.{AreLimits};
 ghost use Rattle.bench_core.specs.Loading.{AreTables};
 
 use super::*;
@@ -13,7 +12,6 @@ use rule_model::RuleBook;
 use schema_core::{Limits, List, Schema, Text, Texts, parse_schema};
 use std::alloc::{AllocError, Global};
 use std::marker::Brand;
-use std::mem;
 use std::sync::ledger::{Blank, Ledger};
 use std::test::Fail;
 
@@ -55,48 +53,6 @@ insert u z | 1 of 2xb\n\
 insert u z | RowsFull\n\
 delete u 1 | done 2xb\n\
 insert u z | 2 of 2xb\n";
-
-/// Each line that isn't refused adds to the past, and drops what was undone.
-const WALK: &str = "\
-undo\n\
-redo\n\
-insert t x b\n\
-insert t y c\n\
-insert t x c\n\
-undo\n\
-undo\n\
-undo\n\
-undo\n\
-redo\n\
-redo\n\
-redo\n\
-set t 1 B zzzzz\n\
-redo\n\
-undo\n\
-undo\n\
-insert t y b\n\
-redo\n\
-delete t 1\n\
-undo\n\
-set t 1 B dddd\n\
-set t 1 B dddd\n\
-fix t 2 x b\n\
-undo\n\
-delete t 2\n\
-undo\n\
-redo\n\
-insert t x b\n\
-undo\n\
-undo\n\
-undo\n\
-undo\n\
-redo\n\
-undo\n\
-undo\n\
-undo\n\
-undo\n\
-redo\n\
-redo\n";
 
 fn limits() -> Limits
     ensures { AreLimits result }
@@ -261,114 +217,5 @@ fn first_wrong_on<L: Ledger>(
 fn answers(rt: HostRuntime) -> Result<(), Fail> {
     let wrong = first_wrong::<Brand>(rt.alloc(), Blank::new(1))?;
     assert!(rt; wrong.is_none(), "{wrong:?}");
-    Ok(())
-}
-
-/// What was shown, as plain lists: the past with the oldest first, the present, and what was undone with the next to be
-/// done again last.
-#[derive(Drop)]
-struct PlainHistory {
-    past: Vec<String>,
-    present: String,
-    undone: Vec<String>,
-}
-
-impl PlainHistory {
-    fn accept(&mut self, next: String) -> Result<(), AllocError> {
-        self.past.push(mem::replace(&mut self.present, next))?;
-        self.undone.clear();
-        Ok(())
-    }
-
-    fn undo(&mut self) -> Result<bool, AllocError> {
-        let Some(last) = self.past.pop() else {
-            return Ok(false);
-        };
-        self.undone.push(mem::replace(&mut self.present, last))?;
-        Ok(true)
-    }
-
-    fn redo(&mut self) -> Result<bool, AllocError> {
-        let Some(next) = self.undone.pop() else {
-            return Ok(false);
-        };
-        self.past.push(mem::replace(&mut self.present, next))?;
-        Ok(true)
-    }
-}
-
-/// The rows of the first table, and its next id.
-fn shown(alloc: Global, bench: &Bench) -> Result<String, AllocError> {
-    let mut text = String::new(alloc);
-    push_rows(alloc, bench, &mut text)?;
-    if !bench.rules().schema().tables.as_slice().is_empty() {
-        let next = bench.store(0).next_id();
-        text.push_str(format!(in alloc; " next {next}")?.as_str())?;
-    }
-    Ok(text)
-}
-
-/// Makes a step of the walk on both sides, and says whether both did it or refused it.
-fn agrees<L: Ledger>(
-    alloc: Global,
-    bench: &mut Bench,
-    plain: &mut PlainHistory,
-    line: &str,
-    steps: &mut Steps<L>,
-) -> Result<bool, AllocError> {
-    if line == "undo" {
-        return Ok(bench.undo(steps).is_ok() == plain.undo()?);
-    }
-    if line == "redo" {
-        return Ok(bench.redo(steps).is_ok() == plain.redo()?);
-    }
-    let words = cut(alloc, line)?;
-    let Some(edit) = edit(alloc, words.as_slice())? else {
-        return Ok(false);
-    };
-    if bench.apply(&edit, steps).is_ok() {
-        plain.accept(shown(alloc, bench)?)?;
-    }
-    Ok(true)
-}
-
-/// The first step after which the two sides differ, or the end where they undid otherwise.
-fn first_parted<L: Ledger>(alloc: Global, blank: Blank) -> Result<Option<&'static str>, Fail>
-    requires name { blank.name ≡ L.name }
-    requires parts { blank.parts ≡ L.parts }
-    requires some { 0 < blank.parts }
-{
-    let mut steps = Steps::<L>::open(blank);
-    let mut bench = bench(alloc, &mut steps)?;
-    first_parted_on(alloc, &mut bench, &mut steps)
-}
-
-fn first_parted_on<L: Ledger>(
-    alloc: Global,
-    bench: &mut Bench,
-    steps: &mut Steps<L>,
-) -> Result<Option<&'static str>, Fail> {
-    let mut plain = PlainHistory {
-        past: Vec::new(alloc),
-        present: shown(alloc, bench)?,
-        undone: Vec::new(alloc),
-    };
-    for line in WALK.lines() {
-        let agrees = agrees(alloc, bench, &mut plain, line, steps)?;
-        let got = shown(alloc, bench)?;
-        if !agrees || got.as_str() != plain.present.as_str() {
-            return Ok(Some(line));
-        }
-    }
-    if plain.undone.len() != 1 {
-        return Ok(Some("the end"));
-    }
-    Ok(None)
-}
-
-#[test]
-fn walks_beside_plain_lists(rt: HostRuntime) -> Result<(), Fail> {
-    let parted = first_parted::<Brand>(rt.alloc(), Blank::new(1))?;
-    assert!(rt; parted.is_none(), "{parted:?}");
     Ok(())
 }

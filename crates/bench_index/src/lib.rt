@@ -18,8 +18,3 @@ pub use following::follow;
 pub use ids::{dependency_by_ids, inclusion_by_ids};
 pub use index::BenchIndex;
 pub use masters::master_lists;
-
-#[cfg(test)]
-mod beside_scans;
-#[cfg(test)]
-mod master_tests;

@@ -1,9 +1,9 @@
 //! A case: a call of a program, what its devices hold and refuse, and what is wanted of it.
 ghost use Rattle.std.specs.Prelude.{◌≡◌, ◌↔◌, IsTrue};
 
-use schema_core::{Limits, List, Text, Texts};
 use shelf_io::{MemoryShelf, MemorySink};
 use std::alloc::{AllocError, Global};
+use text_lists::{Limits, List, Text, Texts};
 
 // How many bytes more than are wanted find room, so that an output that is too long is seen.
 const SPARE: usize = 65_536;

@@ -1,16 +1,16 @@
 //! Reads the case files of a folder, and makes the call of each case.
-ghost use Rattle.schema_core.specs.Limits.{AreLimits};
+ghost use Rattle.text_lists.specs.Limits.{AreLimits};
 
 use crate::case::Case;
 use crate::limits::are_limits;
 use crate::reader::{CaseReader, Reading};
 use crate::report::Report;
-use schema_core::{Limits, Texts};
 use shelf_io::{FetchFault, FolderShelf, MemoryShelf, MemorySink, Shelf};
 use std::alloc::{AllocError, Global};
 use std::io::{ErrorKind, Write};
 use std::process::ExitCode;
 use std::{fs, io};
+use text_lists::{Limits, Texts};
 
 /// What the calls of cases are made of. Each gives the number of its status.
 pub trait Program {

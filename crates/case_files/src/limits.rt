@@ -1,8 +1,8 @@
 //! Limits by their names.
 ghost use Rattle.std.specs.Prelude.{◌↔◌, IsTrue};
-ghost use Rattle.schema_core.specs.Limits.{AreLimits};
+ghost use Rattle.text_lists.specs.Limits.{AreLimits};
 
-use schema_core::Limits;
+use text_lists::Limits;
 
 /// Sets the limit of that name. Says whether there is one.
 pub fn set_limit(limits: &mut Limits, name: &str, number: u64) -> bool {

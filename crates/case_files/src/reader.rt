@@ -3,11 +3,15 @@
 //! A case is its lines in this order: `case NAME`; `program cfdbench`, which may be left out; `limit NAME NUMBER` and
 //! `fail fetch NUMBER` or `fail put NUMBER`; `word TEXT`; `file NAME`, each with its content below it; `status NUMBER`,
 //! with what is to be written below it. Content is lines that begin with `|`, a last one that begins with `\` and has
-//! no line feed, and `repeat NUMBER |TEXT`, which stands for so many lines, `#` being the number of each.
+//! no line feed, and two lines that stand for many: `repeat NUMBER |TEXT` for so many lines, `#` being the number of
+//! each, and `again LINES TIMES` for so many of the lines above it, so many times more.
+ghost use Rattle.std.specs.Prelude.{◌≤◌, length, IfSome};
+
 use crate::case::{Case, CaseFile};
 use crate::limits::set_limit;
-use schema_core::{Limits, Text, push_number};
+use line_grammar::push_number;
 use std::alloc::{AllocError, Global};
+use text_lists::{Limits, Text};
 
 /// What a line comes to.
 #[derive(Drop)]
@@ -158,6 +162,7 @@ impl Draft {
             "word" => self.add_word(rest),
             "file" => self.add_file(rest),
             "status" => self.add_status(rest),
+            "again" => self.add_again(rest),
             _ => Err(LineFault::Unreadable),
         }
     }
@@ -264,6 +269,36 @@ impl Draft {
         }
         Ok(())
     }
+
+    fn add_again(&mut self, rest: &str) -> Result<(), LineFault> {
+        let alloc = self.alloc;
+        let (lines, times) = rest.split_once(' ').ok_or(LineFault::Unreadable)?;
+        let (lines, times) = (number_of(lines)?, number_of(times)?);
+        let content = self.content()?;
+        let start = last_lines(content, lines).ok_or(LineFault::Unreadable)?;
+        let mut above = Vec::new(alloc);
+        above.extend_from_slice(&content[start..])?;
+        for _ in 0..times {
+            content.extend_from_slice(above.as_slice())?;
+        }
+        Ok(())
+    }
+}
+
+// Where the last so many lines begin, each of which ends with a line feed.
+fn last_lines(content: &[u8], lines: u64) -> Option<usize>
+    ensures { IfSome result (λ start. start ≤ length content.now) }
+{
+    let mut left = lines;
+    for place in (0..content.len()).rev() {
+        if content[place] == b'\n' {
+            if left == 0 {
+                return Some(place + 1);
+            }
+            left -= 1;
+        }
+    }
+    if left == 0 { Some(0) } else { None }
 }
 
 // Appends the line, each `#` in it being the number.

@@ -22,5 +22,3 @@ pub use tree::{Node, Reason, Tree};
 
 #[cfg(test)]
 mod tests;
-#[cfg(test)]
-mod uses;

@@ -1,7 +1,7 @@
 //! The nodes of a tree, one on a line.
 
 ghost use Rattle.std.specs.Prelude.{IfOk};
-ghost use Rattle.schema_core.specs.Phrases.{Reads};
+ghost use Rattle.line_grammar.specs.Phrases.{Reads};
 ghost use Rattle.cert_text.specs.CertLines.{clause_at, two_at, reason_for, reason_at, node_for, node_at};
 ghost use Rattle.cert_text.specs.Written.{IsReasonOf, IsNodeOf};
 ghost use Rattle.cert_text.specs.declared.answers.Kind.TheVariants.{Consistency, Implication};
@@ -9,8 +9,9 @@ ghost use Rattle.cert_text.specs.declared.answers.Kind.TheVariants.{Consistency,
 use crate::answers::Kind;
 use crate::names::{NodeName, ReasonName};
 use crate::variables::{cell_at, var_at};
-use schema_core::{Phrase, Text, Tokens, Unread};
+use line_grammar::{Phrase, Tokens, Unread};
 use std::alloc::Global;
+use text_lists::Text;
 
 /// The greatest number that can be written.
 pub const MOST_CLAUSES: u64 = 999_999_999_999;

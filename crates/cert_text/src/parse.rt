@@ -1,12 +1,12 @@
 //! A certificate file as a certificate.
 
 ghost use Rattle.std.specs.Prelude.{⊤, ◌≡◌, ◌+◌, ◌≤◌, length, IfOk, IfErr};
-ghost use Rattle.schema_core.specs.Faults.{IsUnlessMemory, line_tells};
-ghost use Rattle.schema_core.specs.Lines.{lines};
+ghost use Rattle.line_grammar.specs.Faults.{IsUnlessMemory, line_tells};
+ghost use Rattle.line_grammar.specs.Lines.{lines};
 ghost use Rattle.cert_text.specs.CertLines.{answer_at, node_at};
 ghost use Rattle.cert_text.specs.CertFiles.{kind_of, read_whole, with_tuple, with_answer, with_line, whole, missing_behind, reads_cert};
 ghost use Rattle.cert_text.specs.Written.{IsQuestion, IsAnswerLine, IsNodeOf, IsTreeOf, IsDraft, IsWrittenCert, AreTexts};
-ghost use Rattle.schema_core.specs.declared.fault.LineFault.TheVariants.{Memory};
+ghost use Rattle.line_grammar.specs.declared.fault.LineFault.TheVariants.{Memory};
 ghost use Rattle.cert_text.specs.declared.answers.Draft.TheVariants.{Nodes};
 ghost use Rattle.cert_text.specs.declared.answers.Draft.{Draft as AnyDraft};
 
@@ -16,9 +16,10 @@ use crate::fault::{CertCause, CertFault};
 use crate::names::NodeName;
 use crate::nodes::{OneTupleNode, TwoTuplesNode};
 use crate::questions::{ConsistencyAnswer, ImplicationAnswer, NoLine, QuestionLine, SecondTuple};
-use schema_core::{Gather, Line, List, read_lines, split_line};
+use line_grammar::{Gather, Line, read_lines, split_line};
 use std::alloc::Global;
 use std::mem;
+use text_lists::List;
 
 /// Whether the question is about one tuple or about two.
 pub fn kind_of(question: &Question) -> Kind

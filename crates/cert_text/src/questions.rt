@@ -1,17 +1,18 @@
 //! The question of a certificate, and the first lines of its answer.
 
 ghost use Rattle.std.specs.Prelude.{◌≡◌, IfOk, None};
-ghost use Rattle.schema_core.specs.Phrases.{Reads, text_at};
-ghost use Rattle.schema_core.specs.TokenLists.{list1_at};
+ghost use Rattle.line_grammar.specs.Phrases.{Reads, text_at};
+ghost use Rattle.line_grammar.specs.TokenLists.{list1_at};
 ghost use Rattle.cert_text.specs.CertLines.{question_for, question_at, values_word, closed_word, budget_at, answer_for, answer_at, and_at};
 ghost use Rattle.cert_text.specs.Written.{AreTexts, IsQuestion, IsAnswerLine, IsDraft};
 ghost use Rattle.cert_text.specs.declared.answers.Kind.TheVariants.{Consistency, Implication};
 
 use crate::answers::{AnswerLine, Draft, Kind};
 use crate::cert::Question;
+use line_grammar::{Phrase, Quoted, Tokens, Unread};
 use rule_parser::DepLine;
-use schema_core::{Phrase, Quoted, Text, Texts, Tokens, Unread};
 use std::alloc::Global;
+use text_lists::{Text, Texts};
 
 /// The question.
 pub struct QuestionLine;

@@ -1,13 +1,13 @@
 //! Cells and variables, as they stand in the nodes of a tree.
 
 ghost use Rattle.std.specs.Prelude.{◌≡◌, IfOk};
-ghost use Rattle.schema_core.specs.Phrases.{Reads};
+ghost use Rattle.line_grammar.specs.Phrases.{Reads};
 ghost use Rattle.cert_text.specs.CertLines.{tuple_of, cell_at, value_at, var_at};
 ghost use Rattle.cert_text.specs.Written.{IsCellOf, IsVarOf};
 
 use crate::answers::Kind;
 use crate::names::{CellName, VarName, Which};
-use schema_core::{Mark, Tokens, Unread};
+use line_grammar::{Mark, Tokens, Unread};
 
 fn tuple_of(number: u64) -> Option<Which>
     ensures { result ≡ tuple_of number }

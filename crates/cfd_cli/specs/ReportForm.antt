@@ -1,7 +1,7 @@
 -- The form `report PROJECT`: the list of the state that the project's script leads to, as JSON. The replies of the script
 -- are written nowhere.
 use Rattle.std.specs.Prelude.{◌≡◌, ℕ, List}
-use Rattle.schema_core.specs.declared.limits.Limits.{Limits}
+use Rattle.text_lists.specs.declared.limits.Limits.{Limits}
 use Rattle.shelf_io.specs.Transcript.{IsTranscript}
 use Rattle.rule_model.specs.Books.{Book}
 use Rattle.bench_core.specs.History.{History}

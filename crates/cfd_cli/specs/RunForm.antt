@@ -1,6 +1,6 @@
 -- The form `run PROJECT`: a transcript of the project's script over its tables as they are loaded.
 use Rattle.std.specs.Prelude.{ℕ, List}
-use Rattle.schema_core.specs.declared.limits.Limits.{Limits}
+use Rattle.text_lists.specs.declared.limits.Limits.{Limits}
 use Rattle.bench_core.specs.History.{History}
 use Rattle.violation_report.specs.Listing.{listing}
 use Rattle.session.specs.Replies.{IsReply}

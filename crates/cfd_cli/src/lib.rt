@@ -12,18 +12,3 @@ mod tables;
 
 pub use cli_output::Status;
 pub use program::{run, run_with};
-
-#[cfg(test)]
-mod cases;
-#[cfg(test)]
-mod example_tests;
-#[cfg(test)]
-mod fix_tests;
-#[cfg(test)]
-mod limit_tests;
-#[cfg(test)]
-mod project_tests;
-#[cfg(test)]
-mod rule_tests;
-#[cfg(test)]
-mod tests;

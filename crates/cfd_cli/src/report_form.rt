@@ -1,6 +1,6 @@
 //! The form `report PROJECT`: the list of the state that the project's script leads to, as JSON.
 ghost use Rattle.std.specs.Prelude.{◌≡◌, IfOk};
-ghost use Rattle.schema_core.specs.Limits.{AreLimits};
+ghost use Rattle.text_lists.specs.Limits.{AreLimits};
 ghost use Rattle.violation_report.specs.Listing.{listing};
 ghost use Rattle.violation_report.specs.Report.{report_text};
 ghost use Rattle.cli_output.specs.Output.{Ends, Output, UsesDevices, Writes};

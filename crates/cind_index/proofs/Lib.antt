@@ -6,4 +6,3 @@ pub mod RowFacts
 pub mod SideFacts
 pub mod WatchFacts
 pub mod OrphanFacts
-pub mod WalkFacts

@@ -1,43 +1,9 @@
 //! `corpus`: makes the calls of all cases in the working folder, and tells which of them the program answers otherwise.
 #![tactic(auto)]
 
-ghost use Rattle.schema_core.specs.Limits.{AreLimits};
-
-use case_files::{Program, run_folder};
-use cfd_cli::{run, run_with};
-use schema_core::{Limits, Texts};
-use shelf_io::{MemoryShelf, MemorySink};
-use std::alloc::Global;
+use program_cases::run_cases;
 use std::process::ExitCode;
 
-/// The program of this repository.
-struct Cfdbench;
-
-impl Program for Cfdbench {
-    fn run(
-        &self,
-        alloc: Global,
-        words: &Texts,
-        shelf: &mut MemoryShelf,
-        out: &mut MemorySink,
-    ) -> u8 {
-        run(alloc, words, shelf, out).number()
-    }
-
-    fn run_with(
-        &self,
-        alloc: Global,
-        words: &Texts,
-        shelf: &mut MemoryShelf,
-        out: &mut MemorySink,
-        limits: Limits,
-    ) -> u8
-        requires { AreLimits limits }
-    {
-        run_with(alloc, words, shelf, out, limits).number()
-    }
-}
-
 fn main(rt: HostRuntime) -> ExitCode {
-    run_folder(rt, &Cfdbench)
+    run_cases(rt)
 }

@@ -1,8 +1,4 @@
-//! Moves and runs over a small master table; fixes over the tables of an example, with what they are by the definition;
-//! and fixes by drawn rules beside all ends of maximal runs.
+//! Runs over a ring of rules, with what each is.
 
-mod drawn;
-mod ends;
-mod example;
-mod moves;
+mod runs;
 mod setup;

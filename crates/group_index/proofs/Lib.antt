@@ -11,4 +11,3 @@ pub mod PartnerFacts
 pub mod ListedFacts
 pub mod DirtyPlaces
 pub mod CollectFacts
-pub mod TestFacts

@@ -14,11 +14,11 @@ use cfd_semantics::{Dependency, Pattern, TableauRow, Violation};
 use marked_map::MarkedMap;
 use probe_steps::Steps;
 use row_store::{RowId, Tuple, Watch};
-use schema_core::List;
 use smallvec::SmallVec;
 use std::alloc::{AllocError, Global};
 use std::marker::Model;
 use std::sync::ledger::Ledger;
+use text_lists::List;
 use value_pool::ValueId;
 
 /// A cell of a tableau, over the ids of values.

@@ -195,5 +195,3 @@ impl<K: Eq + Hash, V> MarkedMap<K, V> {
 
 #[cfg(test)]
 mod tests;
-#[cfg(test)]
-mod uses;

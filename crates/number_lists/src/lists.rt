@@ -3,11 +3,12 @@
 ghost use Rattle.std.specs.Prelude.{⊤, ◌≡◌};
 ghost use Rattle.number_lists.specs.NumberLists.{number_causes, with_line, lists_of};
 ghost use Rattle.number_lists.specs.declared.rules.NumberList.{NumberList as AnyList};
-ghost use Rattle.schema_core.specs.Faults.{IsUnlessMemory, line_tells};
+ghost use Rattle.line_grammar.specs.Faults.{IsUnlessMemory, line_tells};
 
 use crate::rules::{ListLine, NumberList};
-use schema_core::{Gather, Line, LineCause, LineFault, List, read_lines};
+use line_grammar::{Gather, Line, LineCause, LineFault, read_lines};
 use std::alloc::Global;
+use text_lists::List;
 
 /// What is wrong with a line. This grammar has no other causes than every grammar has.
 #[derive(Clone, Copy, Debug, PartialEq, Eq)]

@@ -3,10 +3,11 @@
 ghost use Rattle.std.specs.Prelude.{⊤};
 ghost use Rattle.number_lists.specs.NumberLists.{list_at_front};
 ghost use Rattle.number_lists.specs.Numbers.{number_at-takes};
-ghost use Rattle.schema_core.specs.Phrases.{number_at};
+ghost use Rattle.line_grammar.specs.Phrases.{number_at};
 
-use schema_core::{List, ListItem, Mark, Phrase, Text, Tokens, Unread};
+use line_grammar::{ListItem, Mark, Phrase, Tokens, Unread};
 use std::alloc::Global;
+use text_lists::{List, Text};
 
 /// A line of the file.
 #[derive(Debug, Drop)]

@@ -2,7 +2,7 @@
 
 mod cutter;
 
-ghost use Rattle.schema_core.specs.Limits.{AreLimits};
+ghost use Rattle.text_lists.specs.Limits.{AreLimits};
 
 use super::*;
 use cutter::declaration;
@@ -128,8 +128,13 @@ fn run(rt: &(impl Abort + AllocGlobal), table: &str, limits: &Limits) -> Result<
         for first in FIRST {
             answer(alloc, &mut book, first)?;
         }
+        let before = shown(alloc, &book)?;
         let got = answer(alloc, &mut book, decl)?;
+        let after = shown(alloc, &book)?;
         assert_eq!(rt; got.as_str(), want, "{line}");
+        // What is refused leaves the book as it is.
+        let is_shown = got.as_str() == after.as_str();
+        assert!(rt; is_shown || before.as_str() == after.as_str(), "{line}");
     }
     Ok(())
 }

@@ -1,11 +1,11 @@
 -- What a pair begins with.
 use Rattle.std.proofs.Common.{◌≡◌, ℕ, Bool, true, false, ◌&&◌, List, [], ◌∷◌, Option, Some, None, refl}
 use Rattle.std.specs.Prelude.{is_some, slice_get, if◌then◌else◌}
-use Rattle.schema_core.specs.Phrases.{◌>>=◌, name_at}
-use Rattle.schema_core.specs.Marks.{same_mark}
-use Rattle.schema_core.specs.declared.tokens.Mark.TheVariants.{Equals}
-use Rattle.schema_core.specs.declared.tokens.Token.{Token}
-use Rattle.schema_core.specs.declared.tokens.Token.TheVariants.{Name, Number, Quoted, Sign}
+use Rattle.line_grammar.specs.Phrases.{◌>>=◌, name_at}
+use Rattle.line_grammar.specs.Marks.{same_mark}
+use Rattle.line_grammar.specs.declared.tokens.Mark.TheVariants.{Equals}
+use Rattle.line_grammar.specs.declared.tokens.Token.{Token}
+use Rattle.line_grammar.specs.declared.tokens.Token.TheVariants.{Name, Number, Quoted, Sign}
 use Rattle.rule_parser.specs.RuleLines.{pair_at, is_name, is_equals}
 
 with_master : List ℕ → List ℕ × List Token → Option ((List ℕ × List ℕ) × List Token)

@@ -1,10 +1,10 @@
 //! A dependency by itself, as on the command line.
 
 ghost use Rattle.std.specs.Prelude.{◌≡◌, ◌∷◌, [], All, IfOk, length};
-ghost use Rattle.schema_core.specs.Faults.{IsUnlessMemory, line_tells};
-ghost use Rattle.schema_core.specs.FileLines.{content_of};
-ghost use Rattle.schema_core.specs.TokenLists.{none_after};
-ghost use Rattle.schema_core.specs.Tokens.{line_tokens};
+ghost use Rattle.line_grammar.specs.Faults.{IsUnlessMemory, line_tells};
+ghost use Rattle.line_grammar.specs.FileLines.{content_of};
+ghost use Rattle.line_grammar.specs.TokenLists.{none_after};
+ghost use Rattle.line_grammar.specs.Tokens.{line_tokens};
 ghost use Rattle.rule_model.specs.Judged.{judged_dep};
 ghost use Rattle.rule_model.specs.Rules.{IsValidDep};
 ghost use Rattle.rule_parser.specs.ReadRules.{IsDepDecl};

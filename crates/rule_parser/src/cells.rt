@@ -1,7 +1,7 @@
 //! The cells of tableau rows and of patterns.
 
 ghost use Rattle.std.specs.Prelude.{IfOk};
-ghost use Rattle.schema_core.specs.Phrases.{Reads};
+ghost use Rattle.line_grammar.specs.Phrases.{Reads};
 ghost use Rattle.rule_model.specs.Declarations.{IsWrittenSet, IsWrittenCell, IsWrittenEditCell};
 ghost use Rattle.rule_parser.specs.ReadRules.{IsReadPattern};
 ghost use Rattle.rule_parser.specs.RuleLines.{set_at, set_cell, cell_at, equal_at, differs_at, test_at, pattern_at};

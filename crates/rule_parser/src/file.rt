@@ -1,8 +1,8 @@
 //! A rule file as a rule book.
 
 ghost use Rattle.std.specs.Prelude.{◌≡◌, ◌≤◌, [], length, All, IfOk, OnOk};
-ghost use Rattle.schema_core.specs.Faults.{IsUnlessMemory, GivesUnlessMemory, line_tells};
-ghost use Rattle.schema_core.specs.Limits.{AreLimits};
+ghost use Rattle.line_grammar.specs.Faults.{IsUnlessMemory, GivesUnlessMemory, line_tells};
+ghost use Rattle.text_lists.specs.Limits.{AreLimits};
 ghost use Rattle.schema_core.specs.Schemas.{IsValidSchema};
 ghost use Rattle.rule_model.specs.Books.{Book as AnyBook, with_decl, book_fault};
 ghost use Rattle.rule_model.specs.Declarations.{IsWritten, IsWrittenRow, IsWrittenInclusionRow};

@@ -1,8 +1,8 @@
 //! The lines that declarations begin with.
 
 ghost use Rattle.std.specs.Prelude.{◌≡◌, is_some, option_map, IfOk, map, All};
-ghost use Rattle.schema_core.specs.Phrases.{Reads};
-ghost use Rattle.schema_core.specs.Marks.{same_mark};
+ghost use Rattle.line_grammar.specs.Phrases.{Reads};
+ghost use Rattle.line_grammar.specs.Marks.{same_mark};
 ghost use Rattle.rule_parser.specs.ReadRules.{IsReadHead, IsReadPattern};
 ghost use Rattle.rule_parser.specs.RuleLines.{cfd_at, side_at, cind_at, pair_at, is_name, is_equals, when_at, edit_at, head_for, head_at};
 ghost use Rattle.rule_parser.specs.Takes.{pair_at-takes};

@@ -17,6 +17,4 @@ pub use file::parse_rules;
 pub use print::{Cells, Values, print_dep, print_rules, push_row, push_sides};
 
 #[cfg(test)]
-mod tests;
-#[cfg(test)]
 mod written_rules;

@@ -49,17 +49,11 @@ const RULES: [(&str, &str); 10] = [
     ),
 ];
 
-/// Schemas, each with rules in their canonical text.
-const PROJECTS: [(&str, &str); 2] = [
-    (
-        "table cust 'cust.csv'\nattr CC in '01', '44'\nattr AC\nattr phn\nattr street\nattr city\nattr zip\ntable area 'area.csv'\nattr code\nattr land\nattr town\nmaster book 'book.csv'\nattr tel\nattr road\nattr town\nattr post\nrules 'r'\nscript 's'\n",
-        "cfd f1 cust: [CC, zip] -> [street]\nrow '44', _ || _\ncfd f2 cust: [CC, AC] -> [city]\nrow '44', '131' || 'EDI'\nrow '01', '908' || 'MH'\nrow _, _ || _\ncfd f3 cust: [CC, AC, phn] -> [street, zip]\nrow _, _, _ || _, _\ncfd f4 area: [code, land] -> [town]\nrow _, _ || _\ncind c1 cust[AC; CC] in area[code; land]\nrow '44' || 'UK'\nrow '01' || 'US'\nedit e1 cust using book: phn=tel gives zip=post when CC='44'\nedit e2 cust using book: zip=post gives street=road when CC='44'\nedit e3 cust using book: zip=post gives city=town when CC='44', AC!='0800'\n",
-    ),
-    (
-        "table g 'g.csv'\nattr k\nattr a\nattr b\nattr f in '0', '1', '2'\nmaster m 'm.csv'\nattr k\nattr a\n",
-        "cfd g1 g: [k] -> [a]\nrow _ || _\ncfd g2 g: [f, k] -> [b]\nrow '0', _ || _\nrow '1', _ || 'b0'\ncind g3 g[k; f] in m[k; ]\nrow '2' ||\nedit g4 g using m: k=k gives a=a\n",
-    ),
-];
+/// A schema with rules in their canonical text.
+const CUSTOMERS: (&[u8], &str) = (
+    b"table cust 'cust.csv'\nattr CC in '01', '44'\nattr AC\nattr zip\nattr street\nattr city\nrules 'r'\nscript 's'\n",
+    "cfd f1 cust: [CC, zip] -> [street]\nrow '44', _ || _\ncfd f2 cust: [AC] -> [city]\nrow '131' || 'EDI'\n",
+);
 
 fn printed(rt: &(impl Abort + AllocGlobal), schema: &[u8], rules: &str) -> Result<String, Fail> {
     let limits = Limits::standard();
@@ -74,31 +68,7 @@ fn rules_are_printed_and_read_again(rt: HostRuntime) -> Result<(), Fail> {
         assert_eq!(rt; printed(&rt, SCHEMA, rules)?.as_str(), canonical);
         assert_eq!(rt; printed(&rt, SCHEMA, canonical)?.as_str(), canonical);
     }
-    for (schema, rules) in PROJECTS {
-        assert_eq!(rt; printed(&rt, schema.as_bytes(), rules)?.as_str(), rules);
-    }
-    Ok(())
-}
-
-#[test]
-fn dependencies_are_printed_on_one_line(rt: HostRuntime) -> Result<(), Fail> {
-    let cases = [
-        (
-            "cust:[CC,zip]->[city]row'44',_||_",
-            "cust: [CC, zip] -> [city] row '44', _ || _",
-        ),
-        (
-            "cust: [] -> [AC] row||in{'b','a'}",
-            "cust: [] -> [AC] row || in {'b', 'a'}",
-        ),
-    ];
-    let limits = Limits::standard();
-    let schema = parse_schema(rt.alloc(), SCHEMA, &limits)?;
-    let book = parse_rules(rt.alloc(), schema, b"", &limits)?;
-    for (text, canonical) in cases {
-        let dep = parse_dep(rt.alloc(), &book, text)?;
-        let printed = print_dep(rt.alloc(), &book, &dep)?;
-        assert_eq!(rt; printed.as_slice(), canonical.as_bytes());
-    }
+    let (schema, rules) = CUSTOMERS;
+    assert_eq!(rt; printed(&rt, schema, rules)?.as_str(), rules);
     Ok(())
 }

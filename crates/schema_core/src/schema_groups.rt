@@ -1,30 +1,21 @@
 //! What is read of a schema file, group by group.
 
 ghost use Rattle.std.specs.Prelude.{◌≡◌, IfOk, OnOk, Some};
-ghost use Rattle.schema_core.specs.Faults.{IsUnlessMemory, GivesUnlessMemory, line_tells};
-ghost use Rattle.schema_core.specs.Limits.{AreLimits};
-ghost use Rattle.schema_core.specs.Names.{IsFileName};
+ghost use Rattle.line_grammar.specs.Faults.{IsUnlessMemory, GivesUnlessMemory, line_tells};
+ghost use Rattle.text_lists.specs.Limits.{AreLimits};
+ghost use Rattle.text_lists.specs.Names.{IsFileName};
 ghost use Rattle.schema_core.specs.ReadSchemas.{IsReadHead, IsReadAttr, IsTableSoFar, IsSchemaSoFar};
 ghost use Rattle.schema_core.specs.Schemas.{IsValidSchema, IsValidTable};
 ghost use Rattle.schema_core.specs.SchemaFiles.{schema_causes, has_table, has_attr, has_no_value, has_value_twice, has_too_many_values, table_fault, attr_fault, unless, add_attr, add_table, add_file, add_head, add_group};
-ghost use Rattle.schema_core.specs.declared.limits.Limits.{Limits as AllLimits};
+ghost use Rattle.text_lists.specs.declared.limits.Limits.{Limits as AllLimits};
 ghost use Rattle.schema_core.specs.declared.schema.Schema.{Schema as AnySchema};
 ghost use Rattle.schema_core.specs.declared.schema.Table.{Table as AnyTable};
 
-use crate::causes::LineCause;
-use crate::fault::LineFault;
-use crate::gather::Gather;
-use crate::group::Group;
-use crate::limits::{Limit, Limits};
-use crate::line::Line;
-use crate::line_reading::no_lines;
-use crate::list::List;
-use crate::repeats::first_repeated;
 use crate::schema::{Attr, Domain, Schema, SchemaCause, SchemaFault, Table};
 use crate::schema_lines::{AttrLine, HeadLine, SchemaHead};
-use crate::text::Text;
-use crate::walk::gather_all;
+use line_grammar::{Gather, Group, Line, LineCause, LineFault, gather_all, no_lines};
 use std::alloc::{AllocError, Global};
+use text_lists::{Limit, Limits, List, Text, first_repeated};
 
 impl LineCause for SchemaCause {
     ghost causes = { schema_causes };

@@ -1,19 +1,15 @@
 //! The lines of a schema file, one rule of its grammar after another.
 
-ghost use Rattle.std.specs.Prelude.{◌≡◌, IfOk, IfSome, is_some, Some};
-ghost use Rattle.schema_core.specs.Names.{IsName, IsFileName};
-ghost use Rattle.schema_core.specs.Phrases.{Reads, constant_at};
+ghost use Rattle.std.specs.Prelude.{IfOk};
+ghost use Rattle.text_lists.specs.Names.{IsName, IsFileName};
+ghost use Rattle.line_grammar.specs.Phrases.{Reads};
 ghost use Rattle.schema_core.specs.ReadSchemas.{IsReadAttr, IsReadDomain, IsReadHead};
 ghost use Rattle.schema_core.specs.SchemaLines.{table_at, head_for, head_at, domain_at, attr_at};
 
-use crate::cursor::{Tokens, is_constant};
-use crate::phrase::Phrase;
-use crate::phrases::Constant;
 use crate::schema::{Attr, Domain};
-use crate::text::Text;
-use crate::tokens::Token;
-use crate::unread::Unread;
+use line_grammar::{Constant, Phrase, Tokens, Unread, has_constant};
 use std::alloc::Global;
+use text_lists::Text;
 
 /// The line that a group of a schema file begins with.
 #[derive(Debug, Drop)]
@@ -70,16 +66,6 @@ impl Phrase for HeadLine {
     fn take(_alloc: Global, tokens: &mut Tokens) -> Result<SchemaHead, Unread> {
         let word = tokens.name()?;
         head_for(&word, tokens)
-    }
-}
-
-/// Whether a constant stands at the front.
-pub fn has_constant(tokens: &Tokens) -> bool
-    ensures { result ≡ is_some (constant_at tokens.now) }
-{
-    match tokens.peek(0) {
-        Some(Token::Quoted(text)) => is_constant(text),
-        _ => false,
     }
 }
 

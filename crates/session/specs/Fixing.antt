@@ -5,7 +5,7 @@ use Rattle.std.specs.List.{count_by, flat_map, list_all, range_with_len, slice_g
 use Rattle.std.specs.Option.{option_map_or}
 use Rattle.std.specs.Str.{bytes_eq}
 use Rattle.schema_core.specs.Schemas.{attr_place}
-use Rattle.schema_core.specs.Tokens.{quoted}
+use Rattle.line_grammar.specs.Tokens.{quoted}
 use Rattle.schema_core.specs.declared.schema.Attr.{Attr}
 use Rattle.schema_core.specs.declared.schema.Table.{Table}
 use Rattle.rule_model.specs.Books.{Book, book_edits}

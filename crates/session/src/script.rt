@@ -1,9 +1,9 @@
 //! Script files. Each line is read by one rule, and its texts are moved from the tokens to the command.
 
 ghost use Rattle.std.specs.Prelude.{⊤, ◌≡◌, ◌≤◌, length, IfOk};
-ghost use Rattle.schema_core.specs.Faults.{IsUnlessMemory, line_tells};
-ghost use Rattle.schema_core.specs.Phrases.{Reads};
-ghost use Rattle.schema_core.specs.declared.limits.Limits.{Limits as AllLimits};
+ghost use Rattle.line_grammar.specs.Faults.{IsUnlessMemory, line_tells};
+ghost use Rattle.line_grammar.specs.Phrases.{Reads};
+ghost use Rattle.text_lists.specs.declared.limits.Limits.{Limits as AllLimits};
 ghost use Rattle.session.specs.Scripts.{id_at, row_at, insert_at, set_at, delete_at, fix_at, explain_at, export_at, question_for, command_for, command_at, script_causes, with_line, script_of};
 ghost use Rattle.session.specs.declared.command.Command.{Command as AnyCommand};
 

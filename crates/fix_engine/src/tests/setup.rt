@@ -7,14 +7,13 @@ ghost use Rattle.rule_model.specs.Books.{book_edits};
 ghost use Rattle.master_index.specs.declared.column_list.ColumnList.{ColumnList};
 ghost use Rattle.rule_runs.specs.Starts.{AreMasters, IsStart};
 
-use crate::{FixFault, Verdict, fix};
 use master_index::{ColumnList, MasterIndex};
 use probe_steps::Steps;
 use row_store::{RowId, Tuple};
 use rule_model::RuleBook;
 use rule_parser::parse_rules;
 use rule_runs::{Marks, Start};
-use schema_core::{Limits, List, Text, Texts, parse_schema};
+use schema_core::{Limits, List, parse_schema};
 use std::alloc::{AllocError, Global};
 use std::process::Abort;
 use std::rc::RcSlice;
@@ -153,16 +152,6 @@ pub(crate) fn cut<'a>(text: &'a str, mark: &str) -> (&'a str, &'a str) {
     text.split_once(mark).unwrap_or((text, ""))
 }
 
-fn texts(alloc: Global, names: &str) -> Result<Texts, AllocError> {
-    let mut texts = List::new(alloc);
-    for name in names.split(',') {
-        if name != "" {
-            texts.push(Text::new(alloc, name)?)?;
-        }
-    }
-    Ok(texts)
-}
-
 /// A tuple of the named table, with the attributes that are vouched for.
 pub(crate) fn start_of<'a>(
     rt: &impl Abort,
@@ -193,34 +182,4 @@ pub(crate) fn start_of<'a>(
         tuple,
         vouched,
     }
-}
-
-/// The verdict on a tuple of the table, with the names of attributes that are vouched for.
-pub(crate) fn ask(
-    rt: &impl Abort,
-    alloc: Global,
-    basis: &Basis,
-    table: &str,
-    tuple: &str,
-    vouched: &str,
-) -> Result<Result<Verdict, FixFault>, AllocError>
-    requires { AreMasters basis.now.rules basis.now.pool basis.now.masters }
-{
-    let tuple = tuple_of(alloc, &basis.pool, tuple)?;
-    let start = start_of(rt, basis, table, &tuple, Marks::none());
-    let names = texts(alloc, vouched)?;
-    Ok(fix(
-        alloc,
-        start.rules,
-        start.pool,
-        start.masters,
-        start.table,
-        start.tuple,
-        &names,
-    ))
-}
-
-/// The text of an id of the pool, or none.
-pub(crate) fn text_of(pool: &Pool, id: ValueId) -> &str {
-    if id < pool.len() { pool.text(id) } else { "" }
 }

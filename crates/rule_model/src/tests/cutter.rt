@@ -7,7 +7,7 @@
 //! A cell is `_`, `=a`, `+a.b` for a set or `-a.b` for its complement; a cell of a pattern is `A`, `A=a` or `A!a`.
 
 ghost use Rattle.std.specs.Prelude.{◌<◌, ◌≤◌, length, All, IfOk, IfSome};
-ghost use Rattle.schema_core.specs.Names.{IsName, IsConstant};
+ghost use Rattle.text_lists.specs.Names.{IsName, IsConstant};
 ghost use Rattle.rule_model.specs.Declarations.{IsWrittenSet, IsWrittenCell, IsWrittenEditCell, IsWrittenRow, IsWrittenInclusionRow, IsWritten};
 
 use crate::*;

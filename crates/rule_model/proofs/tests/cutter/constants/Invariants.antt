@@ -1,5 +1,5 @@
 use Rattle.std.proofs.Common.{All}
-use Rattle.schema_core.specs.Names.{IsConstant}
+use Rattle.text_lists.specs.Names.{IsConstant}
 use Rattle.rule_model.proofs.tests.cutter.constants.Given as goal
 
 -- each is a constant

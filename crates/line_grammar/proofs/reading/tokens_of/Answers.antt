@@ -1,0 +1,38 @@
+use Rattle.std.proofs.Common.{sym, ◌∙◌, ap, subst, arith}
+use Rattle.std.specs.Str.{IsUtf8}
+use Rattle.std.specs.Option.{option_map}
+use Rattle.line_grammar.specs.Tokens.{token_at}
+use Rattle.line_grammar.proofs.TokenLemmas.{Left-end, Left-none, Left-touching, Left-token, token_at-Follows, IsUtf8-after_blanks, length-after_blanks, is_nil, is_some}
+use Rattle.line_grammar.proofs.reading.tokens_of.Goals as goal
+
+pub returns-then-is_empty : goal.returns-then-is_empty
+returns-then-is_empty c =
+    Left-end _ _ _ _ c.loop-rest.invariant (is_nil c.after_blanks-front.ensures c.is_empty.ensures c.if-is_empty.true)
+
+pub token_at-requires : goal.token_at-requires
+token_at-requires c = subst IsUtf8 (sym c.after_blanks-front.ensures) (IsUtf8-after_blanks _ c.loop-rest.invariant.utf8)
+
+pub returns-in_default : goal.returns-in_default
+returns-in_default c =
+    let found = ap token_at (sym c.after_blanks-front.ensures) ∙ sym c.in_ok-token.ensures ∙ ap (option_map _) c.in_default.is in
+    Left-none _ _ _ _ c.loop-rest.invariant (is_some c.after_blanks-front.ensures c.is_empty.ensures c.if-is_empty.false) found
+
+pub returns-then-lacks_blank : goal.returns-then-lacks_blank
+returns-then-lacks_blank c =
+    let found = ap token_at (sym c.after_blanks-front.ensures) ∙ sym c.in_ok-token.ensures ∙ ap (option_map _) c.in-Some.is in
+    let some = is_some c.after_blanks-front.ensures c.is_empty.ensures c.if-is_empty.false in
+    Left-touching _ _ _ _ c.in-Some.token c.in-Some.after.now c.loop-rest.invariant some found (sym c.lacks_blank.ensures ∙ c.if-lacks_blank.true)
+
+pub loop-rest-smaller : goal.loop-rest-smaller
+loop-rest-smaller c =
+    let found = ap token_at (sym c.after_blanks-front.ensures) ∙ sym c.in_ok-token.ensures ∙ ap (option_map _) c.in-Some.is in
+    let follows = token_at-Follows _ c.in-Some.after.now c.in-Some.token (IsUtf8-after_blanks _ c.loop-rest.invariant.utf8) found in
+    omega (arith, follows.shorter, length-after_blanks c.loop-rest.rest.now)
+
+pub loop-rest-preserved : goal.loop-rest-preserved
+loop-rest-preserved c =
+    let found = ap token_at (sym c.after_blanks-front.ensures) ∙ sym c.in_ok-token.ensures ∙ ap (option_map _) c.in-Some.is in
+    let follows = token_at-Follows _ c.in-Some.after.now c.in-Some.token (IsUtf8-after_blanks _ c.loop-rest.invariant.utf8) found in
+    let some = is_some c.after_blanks-front.ensures c.is_empty.ensures c.if-is_empty.false in
+    rw (c.in_ok-push.ensures.ok, c.is_word-after_word.ensures)
+    (Left-token _ _ _ _ c.in-Some.token c.in-Some.after.now c.loop-rest.invariant some found (sym c.lacks_blank.ensures ∙ c.if-lacks_blank.false) follows.shorter follows.utf8)
