@@ -5,6 +5,8 @@
 //! with what is to be written below it. Content is lines that begin with `|`, a last one that begins with `\` and has
 //! no line feed, and two lines that stand for many: `repeat NUMBER |TEXT` for so many lines, `#` being the number of
 //! each, and `again LINES TIMES` for so many of the lines above it, so many times more.
+ghost use Rattle.std.specs.Prelude.{◌≤◌, length, IfSome};
+
 use crate::case::{Case, CaseFile};
 use crate::limits::set_limit;
 use line_grammar::push_number;
@@ -284,7 +286,9 @@ impl Draft {
 }
 
 // Where the last so many lines begin, each of which ends with a line feed.
-fn last_lines(content: &[u8], lines: u64) -> Option<usize> {
+fn last_lines(content: &[u8], lines: u64) -> Option<usize>
+    ensures { IfSome result (λ start. start ≤ length content.now) }
+{
     let mut left = lines;
     for place in (0..content.len()).rev() {
         if content[place] == b'\n' {
