@@ -1,7 +1,7 @@
 //! The first line in which two outputs differ.
 
 /// A line of one output or of both, where they are not the same. Lines are numbered from 1.
-#[derive(Clone, Copy, Debug, Drop)]
+#[derive(Drop)]
 pub struct Difference<'a> {
     pub number: usize,
     pub wanted: Option<&'a [u8]>,

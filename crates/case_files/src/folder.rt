@@ -2,6 +2,7 @@
 ghost use Rattle.text_lists.specs.Limits.{AreLimits};
 
 use crate::case::Case;
+use crate::limits::are_limits;
 use crate::reader::{CaseReader, Reading};
 use crate::report::Report;
 use shelf_io::{FetchFault, FolderShelf, MemoryShelf, MemorySink, Shelf};
@@ -123,7 +124,10 @@ fn judge_case<P: Program, W: Write + Drop>(
     let mut out = case.sink(alloc)?;
     let status = match &case.limits {
         None => program.run(alloc, &case.words, &mut shelf, &mut out),
-        Some(limits) => program.run_with(alloc, &case.words, &mut shelf, &mut out, *limits),
+        Some(limits) if are_limits(limits) => {
+            program.run_with(alloc, &case.words, &mut shelf, &mut out, *limits)
+        }
+        Some(_) => return report.wrong_limits(file, case),
     };
     report.judge(file, case, status, out.written())
 }

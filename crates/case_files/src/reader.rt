@@ -6,7 +6,7 @@
 //! no line feed, and two lines that stand for many: `repeat NUMBER |TEXT` for so many lines, `#` being the number of
 //! each, and `again LINES TIMES` for so many of the lines above it, so many times more.
 use crate::case::{Case, CaseFile};
-use crate::limits::{are_limits, set_limit};
+use crate::limits::set_limit;
 use line_grammar::push_number;
 use std::alloc::{AllocError, Global};
 use text_lists::{Limits, Text};
@@ -83,7 +83,7 @@ impl CaseReader {
 }
 
 /// Why a line is not taken.
-#[derive(Clone, Copy, Debug, PartialEq, Eq, Drop)]
+#[derive(Drop)]
 enum LineFault {
     Unreadable,
     Memory,
@@ -96,7 +96,7 @@ impl From<AllocError> for LineFault {
 }
 
 /// The parts of a case, in the order in which they stand.
-#[derive(Clone, Copy, Debug, PartialEq, Eq, PartialOrd, Ord, Drop)]
+#[derive(Clone, Copy, PartialEq, PartialOrd)]
 enum Part {
     Name,
     Program,
@@ -133,10 +133,6 @@ impl Draft {
 
     /// The case, where all of its parts are there.
     fn finished(self) -> Option<Case> {
-        match &self.case.limits {
-            Some(limits) if !are_limits(limits) => return None,
-            _ => {}
-        }
         if self.part == Part::Wanted {
             Some(self.case)
         } else {

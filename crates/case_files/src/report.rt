@@ -1,4 +1,7 @@
 //! What is told of the cases, and how many they are.
+ghost use Rattle.std.specs.Prelude.{◌≡◌, ◌↔◌, IsTrue, IfOk};
+ghost use Rattle.shelf_io.specs.Rising.{Rose};
+
 use crate::case::Case;
 use crate::differences::first_difference;
 use std::io;
@@ -27,7 +30,10 @@ impl<W: Write + Drop> Report<W> {
     }
 
     /// Judges a case by how its call ended.
-    pub fn judge(&mut self, file: &str, case: &Case, status: u8, written: &[u8]) -> io::Result<()> {
+    pub fn judge(&mut self, file: &str, case: &Case, status: u8, written: &[u8]) -> io::Result<()>
+        ensures met { (status ≡ case.now.status) × (written.now ≡ case.now.written.items) → self.new.failures ≡ self.old.failures }
+        ensures differs { ((status ≡ case.now.status) × (written.now ≡ case.now.written.items) → ⊥) → Rose self.old.failures self.new.failures }
+    {
         self.cases = self.cases.saturating_add(1);
         if case.holds(status, written) {
             return Ok(());
@@ -57,20 +63,35 @@ impl<W: Write + Drop> Report<W> {
     }
 
     /// A line that can't be read, or an empty one that ends a case which can't.
-    pub fn unreadable(&mut self, file: &str, number: usize, line: &[u8]) -> io::Result<()> {
+    pub fn unreadable(&mut self, file: &str, number: usize, line: &[u8]) -> io::Result<()>
+        ensures { Rose self.old.failures self.new.failures }
+    {
         self.failures = self.failures.saturating_add(1);
         writeln!(self.out, "{file}: a case can't be read at line {number}")?;
         self.tell_line("  line  ", Some(line))
     }
 
+    /// A case under limits that no call takes.
+    pub fn wrong_limits(&mut self, file: &str, case: &Case) -> io::Result<()>
+        ensures { Rose self.old.failures self.new.failures }
+    {
+        self.failures = self.failures.saturating_add(1);
+        let name = case.name.as_str();
+        writeln!(self.out, "{file}: {name}: no call takes these limits")
+    }
+
     /// A file or folder in which no case could be judged.
-    pub fn no_case(&mut self, name: &str) -> io::Result<()> {
+    pub fn no_case(&mut self, name: &str) -> io::Result<()>
+        ensures { Rose self.old.failures self.new.failures }
+    {
         self.failures = self.failures.saturating_add(1);
         writeln!(self.out, "{name}: no case")
     }
 
     /// Tells whether all hold, or how many failures there were, and says whether there was none.
-    pub fn end(mut self) -> io::Result<bool> {
+    pub fn end(mut self) -> io::Result<bool>
+        ensures { IfOk result (λ is_good. IsTrue is_good ↔ (self.failures ≡ 0)) }
+    {
         let failures = self.failures;
         if failures == 0 {
             writeln!(self.out, "all cases hold")?;
