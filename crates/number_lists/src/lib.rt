@@ -8,6 +8,3 @@ mod rules;
 
 pub use lists::{NumberCause, NumberFault, parse_lists};
 pub use rules::NumberList;
-
-#[cfg(test)]
-mod tests;

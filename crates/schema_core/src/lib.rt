@@ -18,6 +18,3 @@ pub use printing::print_schema;
 pub use schema::{Attr, Domain, Schema, SchemaCause, SchemaFault, Table};
 pub use schema_file::parse_schema;
 pub use text_lists::{Limit, Limits, List, Text, Texts, bounds, first_repeated, text};
-
-#[cfg(test)]
-mod tests;
