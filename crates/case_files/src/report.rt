@@ -45,21 +45,10 @@ impl<W: Write + Drop> Report<W> {
         if let Some(difference) = first_difference(&case.written, written) {
             let number = difference.number;
             writeln!(self.out, "  line {number}")?;
-            self.tell_line("  wanted", difference.wanted)?;
-            self.tell_line("  got   ", difference.got)?;
+            tell_line(&mut self.out, "  wanted", difference.wanted)?;
+            tell_line(&mut self.out, "  got   ", difference.got)?;
         }
         Ok(())
-    }
-
-    fn tell_line(&mut self, head: &str, line: Option<&[u8]>) -> io::Result<()> {
-        match line {
-            Some(line) => {
-                write!(self.out, "{head} |")?;
-                self.out.write_all(line)?;
-                self.out.write_all(b"\n")
-            }
-            None => writeln!(self.out, "{head} no such line"),
-        }
     }
 
     /// A line that can't be read, or an empty one that ends a case which can't.
@@ -68,7 +57,7 @@ impl<W: Write + Drop> Report<W> {
     {
         self.failures = self.failures.saturating_add(1);
         writeln!(self.out, "{file}: a case can't be read at line {number}")?;
-        self.tell_line("  line  ", Some(line))
+        tell_line(&mut self.out, "  line  ", Some(line))
     }
 
     /// A case under limits that no call takes.
@@ -99,5 +88,16 @@ impl<W: Write + Drop> Report<W> {
             writeln!(self.out, "failures: {failures}")?;
         }
         Ok(failures == 0)
+    }
+}
+
+fn tell_line<W: Write>(out: &mut W, head: &str, line: Option<&[u8]>) -> io::Result<()> {
+    match line {
+        Some(line) => {
+            write!(out, "{head} |")?;
+            out.write_all(line)?;
+            out.write_all(b"\n")
+        }
+        None => writeln!(out, "{head} no such line"),
     }
 }
