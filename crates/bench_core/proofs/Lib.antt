@@ -25,3 +25,4 @@ pub mod RowJoins
 pub mod Answering
 pub mod Behind
 pub mod MasterRows
+pub mod ProbesOfChange
