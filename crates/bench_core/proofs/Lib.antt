@@ -24,3 +24,4 @@ pub mod RowJoins
 pub mod Answering
 pub mod Behind
 pub mod MasterRows
+pub mod ProbesOfChange

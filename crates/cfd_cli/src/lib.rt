@@ -2,7 +2,6 @@
 //! What it writes is one of the outputs that are allowed for what the words ask (`specs/Forms.antt`).
 #![tactic(auto)]
 
-mod dropped;
 mod generate_form;
 mod program;
 mod project;
