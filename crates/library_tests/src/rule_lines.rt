@@ -10,8 +10,8 @@ ghost use Rattle.std.specs.Prelude.{◌<◌, ◌≤◌, length, All, IfOk, IfSom
 ghost use Rattle.text_lists.specs.Names.{IsName, IsConstant};
 ghost use Rattle.rule_model.specs.Declarations.{IsWrittenSet, IsWrittenCell, IsWrittenEditCell, IsWrittenRow, IsWrittenInclusionRow, IsWritten};
 
-use rule_model::*;
 use cfd_semantics::{InclusionRow, Pattern};
+use rule_model::*;
 use schema_core::{List, Text, Texts};
 use std::alloc::{AllocError, Global};
 

@@ -2,8 +2,8 @@
 
 ghost use Rattle.text_lists.specs.Limits.{AreLimits};
 
-use rule_model::*;
 use crate::rule_lines::declaration;
+use rule_model::*;
 use schema_core::{Limits, parse_schema};
 use std::alloc::{AllocError, Global};
 use std::process::Abort;
