@@ -31,8 +31,8 @@ pub fn kind_of(question: &Question) -> Kind
     }
 }
 
-fn read_answer(alloc: Global, kind: Kind, line: Line) -> Result<AnswerLine, CertFault>
-    ensures exact { IsUnlessMemory line_tells (read_whole (answer_at kind) line) result }
+fn read_answer(alloc: Global, kind: Kind, line: Line<'_>) -> Result<AnswerLine, CertFault>
+    ensures exact { IsUnlessMemory line_tells (read_whole (answer_at kind) line.entry) result }
     ensures fit { IfOk result IsAnswerLine }
 {
     match kind {
@@ -41,8 +41,8 @@ fn read_answer(alloc: Global, kind: Kind, line: Line) -> Result<AnswerLine, Cert
     }
 }
 
-fn read_node(alloc: Global, kind: Kind, line: Line) -> Result<NodeName, CertFault>
-    ensures exact { IsUnlessMemory line_tells (read_whole (node_at kind) line) result }
+fn read_node(alloc: Global, kind: Kind, line: Line<'_>) -> Result<NodeName, CertFault>
+    ensures exact { IsUnlessMemory line_tells (read_whole (node_at kind) line.entry) result }
     ensures fit { IfOk result (IsNodeOf kind) }
 {
     match kind {
@@ -116,11 +116,11 @@ fn with_node(
     asked: Asked,
     mut tree: TreeLines,
     missing: usize,
-    line: Line,
+    line: Line<'_>,
 ) -> Result<Draft, CertFault>
     requires question { IsQuestion asked.question }
     requires tree { IsTreeOf (kind_of asked.question) tree missing }
-    ensures exact { IsUnlessMemory line_tells (with_line (Nodes asked tree missing) line) result }
+    ensures exact { IsUnlessMemory line_tells (with_line (Nodes asked tree missing) line.entry) result }
     ensures fit { IfOk result IsDraft }
 {
     if missing == 0 {
@@ -135,9 +135,9 @@ fn with_node(
 
 /// What was read, with one more line.
 #[tactic(auto, unfolding(crate::specs::CertFiles::with_line))]
-fn with_line(alloc: Global, draft: Draft, line: Line) -> Result<Draft, CertFault>
+fn with_line(alloc: Global, draft: Draft, line: Line<'_>) -> Result<Draft, CertFault>
     requires { IsDraft draft }
-    ensures exact { IsUnlessMemory line_tells (with_line draft line) result }
+    ensures exact { IsUnlessMemory line_tells (with_line draft line.entry) result }
     ensures fit { IfOk result IsDraft }
 {
     let number = line.number;
@@ -169,7 +169,7 @@ fn with_line(alloc: Global, draft: Draft, line: Line) -> Result<Draft, CertFault
     }
 }
 
-impl Gather<Line> for Reader {
+impl<'a> Gather<Line<'a>> for Reader {
     type Cause = CertCause;
 
     ghost Gathered = { AnyDraft };
@@ -184,7 +184,7 @@ impl Gather<Line> for Reader {
 
     ghost is_fit = { λ _. IsDraft };
 
-    fn add(&mut self, alloc: Global, line: Line) -> Result<(), CertFault> {
+    fn add(&mut self, alloc: Global, line: Line<'a>) -> Result<(), CertFault> {
         let draft = mem::replace(&mut self.draft, Draft::Nothing);
         self.draft = with_line(alloc, draft, line)?;
         Ok(())

@@ -91,7 +91,7 @@ and_then-good touches (Some found) rest good further =
     (λ bad. tt)
     (λ apart. with_token-good found.0 (rest (is_word found.0) found.1) (good found.0 found.1 refl) (further found.0 found.1 refl))
 
-tokens_from-good : (room : ℕ) (after_word : Bool) (bytes : List ℕ) → IsUtf8 bytes → HasGoodTokens (tokens_from room after_word bytes)
+pub tokens_from-good : (room : ℕ) (after_word : Bool) (bytes : List ℕ) → IsUtf8 bytes → HasGoodTokens (tokens_from room after_word bytes)
 unfolding tokens_from
 tokens_from-good zero after_word bytes utf8 = tt
 tokens_from-good (suc room) after_word bytes utf8 =

@@ -14,3 +14,4 @@ pub mod PartLemmas
 pub mod WrittenFiles
 pub mod FaultLemmas
 pub mod WalkLemmas
+pub mod LeadLemmas

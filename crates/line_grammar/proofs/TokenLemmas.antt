@@ -70,7 +70,7 @@ tokens_from-end zero after_word rest ended = refl
 tokens_from-end (suc room) after_word rest ended = cond-true (eqb (length (after_blanks rest)) 0) _ _ (eq-eqb _ 0 ended)
 
 -- Where none is at the front, the line is no list of tokens.
-tokens_from-none : (room : ℕ) (after_word : Bool) (rest : List ℕ) → 0 < length (after_blanks rest) → length rest ≤ room → token_at (after_blanks rest) ≡ None → tokens_from room after_word rest ≡ BadTokens []
+pub tokens_from-none : (room : ℕ) (after_word : Bool) (rest : List ℕ) → 0 < length (after_blanks rest) → length rest ≤ room → token_at (after_blanks rest) ≡ None → tokens_from room after_word rest ≡ BadTokens []
 unfolding tokens_from
 tokens_from-none zero after_word rest some enough none = absurd (omega (arith, length-after_blanks rest))
 tokens_from-none (suc room) after_word rest some enough none =
@@ -83,7 +83,7 @@ unfolding tokens_from
 tokens_from-token room after_word rest token left some found =
     cond-false (eqb (length (after_blanks rest)) 0) _ _ (ne_eqb _ 0 (omega arith)) ∙ rw found refl
 
-and_then-touching : (touches : Bool) (token : Token) (left : List ℕ) (rest : Bool → List ℕ → LineTokens) → (touches && is_word token) ≡ true → and_then touches (Some (token, left)) rest ≡ BadTokens []
+pub and_then-touching : (touches : Bool) (token : Token) (left : List ℕ) (rest : Bool → List ℕ → LineTokens) → (touches && is_word token) ≡ true → and_then touches (Some (token, left)) rest ≡ BadTokens []
 and_then-touching touches token left rest e = cond-true (touches && is_word token) _ _ e
 
 pub and_then-apart : (touches : Bool) (token : Token) (left : List ℕ) (rest : Bool → List ℕ → LineTokens) → (touches && is_word token) ≡ false → and_then touches (Some (token, left)) rest ≡ with_token token (rest (is_word token) left)
@@ -98,7 +98,7 @@ Left-none line rest read after_word left some none =
     sym (ap (with_tokens read) (tokens_from-none left.room after_word rest some left.enough none) ∙ with_tokens-BadTokens read) ∙ left.same
 
 -- the room that is left behind a token
-less_room : (room : ℕ) (rest : List ℕ) → 0 < length (after_blanks rest) → length rest ≤ room → (k : ℕ) × (room ≡ suc k)
+pub less_room : (room : ℕ) (rest : List ℕ) → 0 < length (after_blanks rest) → length rest ≤ room → (k : ℕ) × (room ≡ suc k)
 less_room zero rest some enough = absurd (omega (arith, length-after_blanks rest))
 less_room (suc room) rest some enough = (room, refl)
 

@@ -11,3 +11,4 @@ pub mod Spelling
 pub mod Appending
 pub mod OneSpelling
 pub mod Takes
+pub mod Leads

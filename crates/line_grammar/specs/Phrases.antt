@@ -1,6 +1,6 @@
 -- The parts of a line that every grammar is made of, each read off the front of tokens. A rule of a grammar is written
 -- with `do` over them, and a rule for a whole line leaves no token.
-use Rattle.std.specs.Prelude.{◌≡◌, ℕ, nat_le, ◌&&◌, Bool, List, ◌∷◌, length, Option, Some, None, Result, MatchResult, option_and_then, option_map, if◌then◌else◌}
+use Rattle.std.specs.Prelude.{◌≡◌, ℕ, nat_le, ◌&&◌, Bool, List, ◌∷◌, length, Option, Some, None, Result, MatchResult, IfSome, option_and_then, option_map, if◌then◌else◌}
 use Rattle.std.specs.Str.{bytes_eq}
 use Rattle.line_grammar.specs.Faults.{UnlessMemory}
 use Rattle.line_grammar.specs.Marks.{after_mark}
@@ -30,6 +30,10 @@ number_at _ = None
 abbrev pub text_at : Reader (List ℕ)
 text_at (Quoted text ∷ rest) = Some (text, rest)
 text_at _ = None
+
+-- what follows the name at the front
+abbrev pub after_name : List Token → Option (List Token)
+after_name tokens = option_map (λ found. found.1) (name_at tokens)
 
 -- what follows the word at the front
 abbrev pub after_word : List ℕ → List Token → Option (List Token)
@@ -83,6 +87,10 @@ Stays found old new why = (found ≡ None) × (new ≡ old) × (why ≡ Absent)
 -- a single token was read at the front, which takes no memory
 abbrev pub ReadsToken : {A : Type 0} → Reader A → List Token → List Token → Result A Unread → Type 0
 ReadsToken reader old new result = MatchResult result (λ x. reader old ≡ Some (x, new)) (Stays (reader old) old new)
+
+-- a token with its text was read at the front; where it was not, no token is gone
+abbrev pub ReadsText : {A : Type 0} → Reader A → List Token → List Token → Result A Unread → Type 0
+ReadsText reader old new result = MatchResult result (λ x. reader old ≡ Some (x, new)) (λ why. (new ≡ old) × IfSome (unread_tells why) (λ _. reader old ≡ None))
 
 -- a single token was passed at the front
 abbrev pub Passes : (List Token → Option (List Token)) → List Token → List Token → Result (Unit {0}) Unread → Type 0

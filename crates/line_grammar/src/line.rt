@@ -4,16 +4,16 @@ use crate::cursor::Tokens;
 
 /// What stands on the line.
 #[derive(Drop)]
-pub enum Content {
+pub enum Content<'a> {
     NotUtf8,
     /// It is no list of tokens. These stand before the first place that is none, or that lacks its blank.
-    BadTokens(Tokens),
-    Tokens(Tokens),
+    BadTokens(Tokens<'a>),
+    Tokens(Tokens<'a>),
 }
 
 /// Lines are numbered from 1, those that are passed over too.
 #[derive(Drop)]
-pub struct Line {
+pub struct Line<'a> {
     pub number: usize,
-    pub content: Content,
+    pub content: Content<'a>,
 }

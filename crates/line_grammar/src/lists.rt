@@ -13,7 +13,7 @@ use crate::unread::Unread;
 use std::alloc::Global;
 use text_lists::List;
 
-impl Tokens {
+impl<'a> Tokens<'a> {
     /// LIST1(p): one or several with commas between them.
     pub fn list1<P: ListItem>(&mut self, alloc: Global) -> Result<List<P::Value>, Unread>
         ensures list { Reads (list1_at P.reads) self.old self.new result }

@@ -19,7 +19,7 @@ pub trait Phrase {
     ghost is_fit: { Self.Value → Type 0 };
 
     /// Reads it off the front. Where it is absent, some of its tokens may be gone.
-    fn take(alloc: Global, tokens: &mut Tokens) -> Result<Self::Value, Unread>
+    fn take(alloc: Global, tokens: &mut Tokens<'_>) -> Result<Self::Value, Unread>
         ensures exact { Reads reads tokens.old tokens.new result }
         ensures fit { IfOk result is_fit };
 }

@@ -27,7 +27,7 @@ impl Phrase for Name {
 
     ghost is_fit = { IsName };
 
-    fn take(_alloc: Global, tokens: &mut Tokens) -> Result<Text, Unread> {
+    fn take(_alloc: Global, tokens: &mut Tokens<'_>) -> Result<Text, Unread> {
         tokens.name()
     }
 }
@@ -43,7 +43,7 @@ impl Phrase for Quoted {
 
     ghost is_fit = { IsUtf8 };
 
-    fn take(_alloc: Global, tokens: &mut Tokens) -> Result<Text, Unread> {
+    fn take(_alloc: Global, tokens: &mut Tokens<'_>) -> Result<Text, Unread> {
         tokens.text()
     }
 }
@@ -59,7 +59,7 @@ impl Phrase for Constant {
 
     ghost is_fit = { IsConstant };
 
-    fn take(_alloc: Global, tokens: &mut Tokens) -> Result<Text, Unread> {
+    fn take(_alloc: Global, tokens: &mut Tokens<'_>) -> Result<Text, Unread> {
         tokens.constant()
     }
 }

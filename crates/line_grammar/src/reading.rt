@@ -1,4 +1,4 @@
-//! A line read as its tokens, one function for one rule: blanks, names, numbers, texts, marks.
+//! The token at the front of bytes, one function for one rule: blanks, names, numbers, texts, marks.
 
 ghost use Rattle.std.specs.Prelude.{false, ◌≡◌, ◌<◌, ◌≤◌, ◌&&◌, ◌||◌, ◌==◌, ◌≢◌, [], ◌∷◌, ℕ, List, IfSome, IfNone, IfOk, IsTrue, Option, Some, None, length, take, drop, position, not};
 ghost use Rattle.std.specs.Option.{option_map};
@@ -6,15 +6,17 @@ ghost use Rattle.std.specs.Char.{is_ascii_alphabetic, is_ascii_digit};
 ghost use Rattle.std.specs.Str.{IsUtf8, is_utf8};
 ghost use Rattle.std.specs.Str.Parse.{digits_value, AllDigits};
 ghost use Rattle.text_lists.specs.Names.{is_name_byte};
-ghost use Rattle.line_grammar.specs.Tokens.{is_blank, after_blanks, begins_blank, is_passed, escaped, with_byte, text_from, one_mark, two_marks, mark_at, name_len, digits_len, quoted_token, token_at, is_word, tokens_from, line_tokens};
-ghost use Rattle.line_grammar.specs.GoodTokens.{HasGoodTokens};
+ghost use Rattle.line_grammar.specs.Tokens.{is_blank, after_blanks, begins_blank, is_passed, escaped, with_byte, text_from, one_mark, two_marks, mark_at, name_len, digits_len, quoted_token, token_at, is_word, tokens_from};
+ghost use Rattle.line_grammar.specs.Leads.{token_of, meant, measured, are_tokens};
+ghost use Rattle.line_grammar.specs.declared.tokens.Token.{Token};
 
-use crate::tokens::{LineTokens, Mark, Token};
+use crate::lead::Lead;
+use crate::tokens::Mark;
 use std::alloc::{AllocError, Global};
+use text_lists::Text;
 use text_lists::bounds::{NAME_BYTES, NUMBER_DIGITS};
-use text_lists::{List, Text};
 
-fn is_utf8(bytes: &[u8]) -> bool
+pub fn is_utf8(bytes: &[u8]) -> bool
     ensures { result ≡ is_utf8 bytes.now }
 {
     str::from_utf8(bytes).is_ok()
@@ -43,7 +45,7 @@ fn cut_first(bytes: &[u8]) -> Option<(u8, &[u8])>
     }
 }
 
-fn after_blanks(bytes: &[u8]) -> &[u8]
+pub fn after_blanks(bytes: &[u8]) -> &[u8]
     ensures { result.now ≡ after_blanks bytes.now }
 {
     let mut rest = bytes;
@@ -66,7 +68,7 @@ fn begins_blank(bytes: &[u8]) -> bool
 }
 
 /// Whether the line is passed over: blank, or a comment.
-fn is_passed(line: &[u8]) -> bool
+pub fn is_passed(line: &[u8]) -> bool
     ensures { result ≡ is_passed line.now }
 {
     match after_blanks(line) {
@@ -154,6 +156,25 @@ fn piece_at(byte: u8, after: &[u8]) -> Option<(u8, &[u8])>
     }
 }
 
+/// How many bytes the text behind an opening quote has, and what follows its closing quote.
+fn text_len(bytes: &[u8]) -> Option<(usize, &[u8])>
+    ensures { option_map (λ x. (x.0, x.1.now)) result ≡ measured (text_from bytes.now) }
+{
+    let mut len = 0;
+    let mut rest = bytes;
+    while let Some((byte, after)) = cut_first(rest) {
+        if byte == b'\'' {
+            return Some((len, after));
+        }
+        let Some((_, behind)) = piece_at(byte, after) else {
+            return None;
+        };
+        len += 1;
+        rest = behind;
+    }
+    None
+}
+
 /// The bytes of the text behind an opening quote, and what follows its closing quote.
 fn text_bytes(alloc: Global, bytes: &[u8]) -> Result<Option<(Vec<u8>, &[u8])>, AllocError>
     ensures { IfOk result (λ found. option_map (λ x. (x.0.items, x.1.now)) found ≡ text_from bytes.now) }
@@ -171,6 +192,27 @@ fn text_bytes(alloc: Global, bytes: &[u8]) -> Result<Option<(Vec<u8>, &[u8])>, A
         rest = behind;
     }
     Ok(None)
+}
+
+/// How many bytes the text behind an opening quote has.
+pub fn meant_len(bytes: &[u8]) -> usize
+    ensures { result ≡ length (meant (text_from bytes.now)) }
+{
+    match text_len(bytes) {
+        Some((len, _)) => len,
+        None => 0,
+    }
+}
+
+/// The text behind an opening quote.
+pub fn meant_text(alloc: Global, bytes: &[u8]) -> Result<Text, AllocError>
+    requires { IsUtf8 (meant (text_from bytes.now)) }
+    ensures { IfOk result (λ text. text ≡ meant (text_from bytes.now)) }
+{
+    match text_bytes(alloc, bytes)? {
+        Some((text, _)) => Ok(Text::from(String::from_utf8(text).unwrap())),
+        None => Text::new(alloc, ""),
+    }
 }
 
 fn one_mark(byte: u8) -> Option<Mark>
@@ -203,127 +245,93 @@ fn two_marks(first: u8, second: u8) -> Option<Mark>
 }
 
 #[tactic(auto, unfolding(crate::specs::Tokens::mark_at))]
-fn mark_at(bytes: &[u8]) -> Option<(Token, &[u8])>
-    ensures { option_map (λ x. (x.0, x.1.now)) result ≡ mark_at bytes.now }
+fn mark_at(bytes: &[u8]) -> Option<(Lead<'_>, &[u8])>
+    ensures { option_map (λ x. (token_of x.0, x.1.now)) result ≡ mark_at bytes.now }
 {
     match bytes {
         [] => None,
         [byte] => match one_mark(*byte) {
-            Some(mark) => Some((Token::Sign(mark), &bytes[1..])),
+            Some(mark) => Some((Lead::Sign(mark), &bytes[1..])),
             None => None,
         },
         [first, second, ..] => match two_marks(*first, *second) {
-            Some(mark) => Some((Token::Sign(mark), &bytes[2..])),
+            Some(mark) => Some((Lead::Sign(mark), &bytes[2..])),
             None => match one_mark(*first) {
-                Some(mark) => Some((Token::Sign(mark), &bytes[1..])),
+                Some(mark) => Some((Lead::Sign(mark), &bytes[1..])),
                 None => None,
             },
         },
     }
 }
 
-fn name_at(alloc: Global, bytes: &[u8]) -> Result<(Token, &[u8]), AllocError>
-    ensures token { IfOk result (λ x. x.0 ≡ Token.Name (take (name_len bytes.now) bytes.now)) }
-    ensures rest { IfOk result (λ x. x.1.now ≡ drop (name_len bytes.now) bytes.now) }
+fn name_at(bytes: &[u8]) -> (Lead<'_>, &[u8])
+    ensures token { token_of result.0 ≡ Token.Name (take (name_len bytes.now) bytes.now) }
+    ensures rest { result.1.now ≡ drop (name_len bytes.now) bytes.now }
 {
     let (name, rest) = bytes.split_at(name_len(bytes));
-    let name = Text::new(alloc, str::from_utf8(name).unwrap())?;
-    Ok((Token::Name(name), rest))
+    (Lead::Name(str::from_utf8(name).unwrap()), rest)
 }
 
-fn number_at(bytes: &[u8]) -> (Token, &[u8])
-    ensures token { result.0 ≡ Token.Number (digits_value 10 (take (digits_len bytes.now) bytes.now)) }
+fn number_at(bytes: &[u8]) -> (Lead<'_>, &[u8])
+    ensures token { token_of result.0 ≡ Token.Number (digits_value 10 (take (digits_len bytes.now) bytes.now)) }
     ensures rest { result.1.now ≡ drop (digits_len bytes.now) bytes.now }
 {
     let (digits, rest) = bytes.split_at(digits_len(bytes));
-    (Token::Number(number_of(digits)), rest)
+    (Lead::Number(number_of(digits)), rest)
 }
 
-fn quoted_at(alloc: Global, bytes: &[u8]) -> Result<Option<(Token, &[u8])>, AllocError>
-    requires { IsUtf8 bytes.now }
-    ensures { IfOk result (λ found. option_map (λ x. (x.0, x.1.now)) found ≡ quoted_token (text_from bytes.now)) }
+fn quoted_at(bytes: &[u8]) -> Option<(Lead<'_>, &[u8])>
+    ensures { option_map (λ x. (token_of x.0, x.1.now)) result ≡ quoted_token (text_from bytes.now) }
 {
-    match text_bytes(alloc, bytes)? {
-        None => Ok(None),
-        Some((text, rest)) => {
-            let text = String::from_utf8(text).unwrap();
-            Ok(Some((Token::Quoted(Text::from(text)), rest)))
-        }
-    }
+    let (_, rest) = text_len(bytes)?;
+    Some((Lead::Quoted(bytes), rest))
 }
 
 /// The longest token at the front, and the bytes after it.
 #[tactic(auto, unfolding(crate::specs::Tokens::token_at))]
-fn token_at(alloc: Global, bytes: &[u8]) -> Result<Option<(Token, &[u8])>, AllocError>
-    requires { IsUtf8 bytes.now }
-    ensures { IfOk result (λ found. option_map (λ x. (x.0, x.1.now)) found ≡ token_at bytes.now) }
+pub fn lead_at(bytes: &[u8]) -> Option<(Lead<'_>, &[u8])>
+    ensures { option_map (λ x. (token_of x.0, x.1.now)) result ≡ token_at bytes.now }
 {
-    let Some((first, rest)) = cut_first(bytes) else {
-        return Ok(None);
-    };
+    let (first, rest) = cut_first(bytes)?;
     if first.is_ascii_alphabetic() {
-        Ok(Some(name_at(alloc, bytes)?))
+        Some(name_at(bytes))
     } else if first == b'0' {
-        Ok(Some((Token::Number(0), rest)))
+        Some((Lead::Number(0), rest))
     } else if first.is_ascii_digit() {
-        Ok(Some(number_at(bytes)))
+        Some(number_at(bytes))
     } else if first == b'\'' {
-        quoted_at(alloc, rest)
+        quoted_at(rest)
     } else {
-        Ok(mark_at(bytes))
+        mark_at(bytes)
     }
 }
 
-fn is_word(token: &Token) -> bool
-    ensures { result ≡ is_word token.now }
-{
-    matches!(token, Token::Name(_) | Token::Number(_))
-}
-
 /// Whether the token at the front of `rest` is a word, and so was what ends right before it.
-fn lacks_blank(after_word: bool, rest: &[u8], token: &Token) -> bool
-    ensures { result ≡ (after_word && not (begins_blank rest.now) && is_word token.now) }
+pub fn lacks_blank(after_word: bool, rest: &[u8], lead: &Lead<'_>) -> bool
+    ensures { result ≡ (after_word && not (begins_blank rest.now) && is_word (token_of lead.now)) }
 {
-    after_word && !begins_blank(rest) && is_word(token)
+    after_word && !begins_blank(rest) && lead.is_word()
 }
 
-/// The tokens of a line that is UTF-8.
-fn tokens_of(alloc: Global, line: &[u8]) -> Result<LineTokens, AllocError>
+/// Whether a line that is UTF-8 is a list of tokens.
+pub fn is_token_list(line: &[u8]) -> bool
     requires { IsUtf8 line.now }
-    ensures { IfOk result (λ found. found ≡ tokens_from (length line.now) false line.now) }
+    ensures { result ≡ are_tokens (tokens_from (length line.now) false line.now) }
 {
-    let mut tokens = List::new(alloc);
     let mut after_word = false;
     let mut rest = line;
     loop {
         let front = after_blanks(rest);
         if front.is_empty() {
-            return Ok(LineTokens::Tokens(tokens));
+            return true;
         }
-        let Some((token, after)) = token_at(alloc, front)? else {
-            return Ok(LineTokens::BadTokens(tokens));
+        let Some((lead, after)) = lead_at(front) else {
+            return false;
         };
-        if lacks_blank(after_word, rest, &token) {
-            return Ok(LineTokens::BadTokens(tokens));
+        if lacks_blank(after_word, rest, &lead) {
+            return false;
         }
-        after_word = is_word(&token);
-        tokens.push(token)?;
+        after_word = lead.is_word();
         rest = after;
-    }
-}
-
-/// What a line without its end is. A line that isn't UTF-8 is that first of all, also where it begins like a
-/// comment.
-#[tactic(auto, unfolding(crate::specs::Tokens::line_tokens))]
-pub fn read_tokens(alloc: Global, line: &[u8]) -> Result<LineTokens, AllocError>
-    ensures tokens { IfOk result (λ found. found ≡ line_tokens line.now) }
-    ensures good { IfOk result HasGoodTokens }
-{
-    if !is_utf8(line) {
-        Ok(LineTokens::NotUtf8)
-    } else if is_passed(line) {
-        Ok(LineTokens::Passed)
-    } else {
-        tokens_of(alloc, line)
     }
 }

@@ -34,36 +34,36 @@ pub fn gather_all<X: Drop, G: Gather<X>>(
 
 /// Gathers the lines of a file that aren't passed over, up to the first fault.
 #[tactic(auto, unfolding(crate::specs::Groups::read_lines))]
-pub fn read_lines<G: Gather<Line>>(
+pub fn read_lines<'a, G: Gather<Line<'a>>>(
     alloc: Global,
     gathered: &mut G,
-    bytes: &[u8],
+    bytes: &'a [u8],
 ) -> Result<(), LineFault<G::Cause>>
     requires fit { G.is_fit (G.made gathered.old) (G.gathered gathered.old) }
     ensures exact { GivesUnlessMemory line_tells (read_lines (G.with_item (G.made gathered.old)) (G.gathered gathered.old) bytes.now) (λ _. G.gathered gathered.new) result }
     ensures fit { OnOk result (G.is_fit (G.made gathered.new) (G.gathered gathered.new)) }
     ensures made { G.made gathered.new ≡ G.made gathered.old }
 {
-    let mut lines = FileLines::new(bytes);
-    while let Some(line) = lines.next(alloc)? {
+    let mut lines = FileLines::new(alloc, bytes);
+    while let Some(line) = lines.next() {
         gathered.add(alloc, line)?;
     }
     Ok(())
 }
 
 /// The members at the front, and the line behind them.
-fn members(
+fn members<'a>(
     alloc: Global,
-    lines: &mut FileLines,
+    lines: &mut FileLines<'a>,
     member: &str,
-) -> Result<(List<Line>, Option<Line>), AllocError>
+) -> Result<(List<Line<'a>>, Option<Line<'a>>), AllocError>
     ensures lines { IfOk result (λ x. lines.old ≡ x.0 ++ (option_to_list x.1 ++ lines.new)) }
     ensures members { IfOk result (λ x. AllByRecursion (λ line. begins_with member.now line ≡ true) x.0) }
     ensures head { IfOk result (λ x. IfSome x.1 (λ line. begins_with member.now line ≡ false)) }
     ensures last { IfOk result (λ x. IfNone x.1 (lines.new ≡ [])) }
 {
     let mut members = List::new(alloc);
-    while let Some(line) = lines.next(alloc)? {
+    while let Some(line) = lines.next() {
         if !line.begins_with(member) {
             return Ok((members, Some(line)));
         }
@@ -73,18 +73,18 @@ fn members(
 }
 
 /// Gathers the groups of a file, up to the first fault. A member in front of any head is a bad line.
-pub fn read_groups<G: Gather<Group>>(
+pub fn read_groups<'a, G: Gather<Group<'a>>>(
     alloc: Global,
     gathered: &mut G,
     member: &str,
-    bytes: &[u8],
+    bytes: &'a [u8],
 ) -> Result<(), LineFault<G::Cause>>
     requires fit { G.is_fit (G.made gathered.old) (G.gathered gathered.old) }
     ensures exact { GivesUnlessMemory line_tells (read_groups G.Cause.causes member.now (G.with_item (G.made gathered.old)) (G.gathered gathered.old) bytes.now) (λ _. G.gathered gathered.new) result }
     ensures fit { OnOk result (G.is_fit (G.made gathered.new) (G.gathered gathered.new)) }
     ensures made { G.made gathered.new ≡ G.made gathered.old }
 {
-    let mut lines = FileLines::new(bytes);
+    let mut lines = FileLines::new(alloc, bytes);
     let (stray, mut next) = members(alloc, &mut lines, member)?;
     no_lines(stray.as_slice())?;
     while let Some(head) = next {

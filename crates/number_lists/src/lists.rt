@@ -38,7 +38,7 @@ struct Lists {
     lists: List<NumberList>,
 }
 
-impl Gather<Line> for Lists {
+impl<'a> Gather<Line<'a>> for Lists {
     type Cause = NumberCause;
 
     ghost use Rattle.std.specs.Prelude.{List};
@@ -55,7 +55,7 @@ impl Gather<Line> for Lists {
 
     ghost is_fit = { λ _ _. ⊤ };
 
-    fn add(&mut self, alloc: Global, line: Line) -> Result<(), NumberFault> {
+    fn add(&mut self, alloc: Global, line: Line<'a>) -> Result<(), NumberFault> {
         let list = line.read::<ListLine, NumberCause>(alloc)?;
         self.lists.push(list)?;
         Ok(())

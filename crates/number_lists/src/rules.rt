@@ -29,7 +29,7 @@ impl Phrase for Number {
 
     ghost is_fit = { λ _. ⊤ };
 
-    fn take(_alloc: Global, tokens: &mut Tokens) -> Result<u64, Unread> {
+    fn take(_alloc: Global, tokens: &mut Tokens<'_>) -> Result<u64, Unread> {
         tokens.number()
     }
 }
@@ -46,7 +46,7 @@ impl Phrase for ListLine {
     ghost is_fit = { λ _. ⊤ };
 
     #[tactic(auto, unfolding(crate::specs::NumberLists::list_at_front))]
-    fn take(alloc: Global, tokens: &mut Tokens) -> Result<NumberList, Unread> {
+    fn take(alloc: Global, tokens: &mut Tokens<'_>) -> Result<NumberList, Unread> {
         let name = tokens.name()?;
         tokens.mark(Mark::Colon)?;
         let numbers = tokens.list1::<Number>(alloc)?;

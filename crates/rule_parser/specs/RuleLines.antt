@@ -167,15 +167,6 @@ pair_at tokens = do
   master ← name_at rest
   Some ((attr.0, master.0), master.1)
 
--- the tokens of a pair
-abbrev pub is_name : Option Token → Bool
-is_name (Some (Name name)) = true
-is_name _ = false
-
-abbrev pub is_equals : Option Token → Bool
-is_equals (Some (Sign mark)) = same_mark mark Equals
-is_equals _ = false
-
 -- the pattern behind `when`, which may be missing
 abbrev pub pattern_behind : List Token → Option (List Token) → Option (List (List ℕ × EditCell) × List Token)
 pattern_behind tokens None = Some ([], tokens)

@@ -11,7 +11,7 @@ mod schema_lines;
 pub use line_grammar::{
     Constant, Content, FileLines, Gather, Group, Line, LineCause, LineFault, LineTokens, ListItem,
     Mark, Name, Part, Phrase, Quoted, Token, Tokens, Unread, Writes, content_of, gather_all,
-    has_constant, line_end, no_lines, push_line, push_list, push_mark, push_number, push_quoted,
+    line_end, no_lines, push_line, push_list, push_mark, push_number, push_quoted,
     push_spaced_list, push_token, read_groups, read_lines, read_tokens, split_line,
 };
 pub use printing::print_schema;

@@ -73,7 +73,7 @@ fn table_fault(
     limits: &Limits,
     tables: &[Table],
     name: &str,
-    members: &[Line],
+    members: &[Line<'_>],
 ) -> Option<SchemaCause>
     ensures { result ≡ table_fault limits.now tables.now name.now members.now }
 {
@@ -129,7 +129,7 @@ struct TableLines {
     table: Table,
 }
 
-impl Gather<Line> for TableLines {
+impl<'a> Gather<Line<'a>> for TableLines {
     type Cause = SchemaCause;
 
     ghost Gathered = { AnyTable };
@@ -145,7 +145,7 @@ impl Gather<Line> for TableLines {
     ghost is_fit = { IsTableSoFar };
 
     #[tactic(auto, unfolding(crate::specs::SchemaFiles::add_attr))]
-    fn add(&mut self, alloc: Global, line: Line) -> Result<(), SchemaFault> {
+    fn add(&mut self, alloc: Global, line: Line<'a>) -> Result<(), SchemaFault> {
         let number = line.number;
         let attr = line.read::<AttrLine, SchemaCause>(alloc)?;
         let fault = attr_fault(alloc, &self.limits, self.table.attrs.as_slice(), &attr)?;
@@ -168,11 +168,11 @@ impl SchemaGroups {
         alloc: Global,
         number: usize,
         table: Table,
-        members: List<Line>,
+        members: List<Line<'_>>,
     ) -> Result<(), SchemaFault>
         requires fit { IsSchemaSoFar self.old.limits self.old.schema }
         requires table { IsTableSoFar self.old.limits table }
-        ensures exact { GivesUnlessMemory line_tells (add_table self.old.limits self.old.schema number table members) (λ _. self.new.schema) result }
+        ensures exact { GivesUnlessMemory line_tells (add_table self.old.limits self.old.schema number table members.entry) (λ _. self.new.schema) result }
         ensures fit { OnOk result (IsSchemaSoFar self.new.limits self.new.schema) }
         ensures limits { self.new.limits ≡ self.old.limits }
     {
@@ -196,11 +196,11 @@ impl SchemaGroups {
         &mut self,
         number: usize,
         file: Text,
-        members: List<Line>,
+        members: List<Line<'_>>,
     ) -> Result<(), SchemaFault>
         requires fit { IsSchemaSoFar self.old.limits self.old.schema }
         requires file { IsFileName file }
-        ensures exact { GivesUnlessMemory line_tells (add_file self.old.schema.rules number (record self.old.schema { rules = Some file }) members) (λ _. self.new.schema) result }
+        ensures exact { GivesUnlessMemory line_tells (add_file self.old.schema.rules number (record self.old.schema { rules = Some file }) members.entry) (λ _. self.new.schema) result }
         ensures fit { OnOk result (IsSchemaSoFar self.new.limits self.new.schema) }
         ensures limits { self.new.limits ≡ self.old.limits }
     {
@@ -218,11 +218,11 @@ impl SchemaGroups {
         &mut self,
         number: usize,
         file: Text,
-        members: List<Line>,
+        members: List<Line<'_>>,
     ) -> Result<(), SchemaFault>
         requires fit { IsSchemaSoFar self.old.limits self.old.schema }
         requires file { IsFileName file }
-        ensures exact { GivesUnlessMemory line_tells (add_file self.old.schema.script number (record self.old.schema { script = Some file }) members) (λ _. self.new.schema) result }
+        ensures exact { GivesUnlessMemory line_tells (add_file self.old.schema.script number (record self.old.schema { script = Some file }) members.entry) (λ _. self.new.schema) result }
         ensures fit { OnOk result (IsSchemaSoFar self.new.limits self.new.schema) }
         ensures limits { self.new.limits ≡ self.old.limits }
     {
@@ -237,7 +237,7 @@ impl SchemaGroups {
     }
 }
 
-impl Gather<Group> for SchemaGroups {
+impl<'a> Gather<Group<'a>> for SchemaGroups {
     type Cause = SchemaCause;
 
     ghost Gathered = { AnySchema };
@@ -253,7 +253,7 @@ impl Gather<Group> for SchemaGroups {
     ghost is_fit = { IsSchemaSoFar };
 
     #[tactic(auto, unfolding(crate::specs::SchemaFiles::add_group))]
-    fn add(&mut self, alloc: Global, group: Group) -> Result<(), SchemaFault> {
+    fn add(&mut self, alloc: Global, group: Group<'a>) -> Result<(), SchemaFault> {
         let Group { head, members } = group;
         let number = head.number;
         match head.read::<HeadLine, SchemaCause>(alloc)? {

@@ -7,7 +7,7 @@ ghost use Rattle.schema_core.specs.ReadSchemas.{IsReadAttr, IsReadDomain, IsRead
 ghost use Rattle.schema_core.specs.SchemaLines.{table_at, head_for, head_at, domain_at, attr_at};
 
 use crate::schema::{Attr, Domain};
-use line_grammar::{Constant, Phrase, Tokens, Unread, has_constant};
+use line_grammar::{Constant, Phrase, Tokens, Unread};
 use std::alloc::Global;
 use text_lists::Text;
 
@@ -29,7 +29,7 @@ pub struct HeadLine;
 /// An `attr` line.
 pub struct AttrLine;
 
-fn table_at(master: bool, tokens: &mut Tokens) -> Result<SchemaHead, Unread>
+fn table_at(master: bool, tokens: &mut Tokens<'_>) -> Result<SchemaHead, Unread>
     ensures exact { Reads (table_at master) tokens.old tokens.new result }
     ensures fit { IfOk result IsReadHead }
 {
@@ -38,7 +38,7 @@ fn table_at(master: bool, tokens: &mut Tokens) -> Result<SchemaHead, Unread>
     Ok(SchemaHead::Table { master, name, file })
 }
 
-fn head_for(word: &Text, tokens: &mut Tokens) -> Result<SchemaHead, Unread>
+fn head_for(word: &Text, tokens: &mut Tokens<'_>) -> Result<SchemaHead, Unread>
     ensures exact { Reads (head_for word.now) tokens.old tokens.new result }
     ensures fit { IfOk result IsReadHead }
 {
@@ -63,20 +63,20 @@ impl Phrase for HeadLine {
     ghost is_fit = { IsReadHead };
 
     #[tactic(auto, unfolding(crate::specs::SchemaLines::head_at))]
-    fn take(_alloc: Global, tokens: &mut Tokens) -> Result<SchemaHead, Unread> {
+    fn take(_alloc: Global, tokens: &mut Tokens<'_>) -> Result<SchemaHead, Unread> {
         let word = tokens.name()?;
         head_for(&word, tokens)
     }
 }
 
-fn domain_at(alloc: Global, tokens: &mut Tokens) -> Result<Domain, Unread>
+fn domain_at(alloc: Global, tokens: &mut Tokens<'_>) -> Result<Domain, Unread>
     ensures exact { Reads domain_at tokens.old tokens.new result }
     ensures fit { IfOk result IsReadDomain }
 {
     let Ok(()) = tokens.word("in") else {
         return Ok(Domain::AnyText);
     };
-    let stands = has_constant(tokens);
+    let stands = tokens.has_constant();
     let values = tokens.list::<Constant>(alloc, stands)?;
     Ok(Domain::Finite(values))
 }
@@ -89,7 +89,7 @@ impl Phrase for AttrLine {
     ghost is_fit = { IsReadAttr };
 
     #[tactic(auto, unfolding(crate::specs::SchemaLines::attr_at))]
-    fn take(alloc: Global, tokens: &mut Tokens) -> Result<Attr, Unread> {
+    fn take(alloc: Global, tokens: &mut Tokens<'_>) -> Result<Attr, Unread> {
         tokens.word("attr")?;
         let name = tokens.name()?;
         let domain = domain_at(alloc, tokens)?;

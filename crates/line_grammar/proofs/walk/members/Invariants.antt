@@ -3,8 +3,8 @@ use Rattle.std.specs.List.{AllByRecursion}
 use Rattle.line_grammar.specs.FileLines.{begins_with}
 use Rattle.line_grammar.proofs.walk.members.Given as goal
 
-abbrev pub invariant-loop-members : goal.invariant-loop-members
-invariant-loop-members l = (l.initial.lines ≡ l.members ++ l.lines) × AllByRecursion (λ line. begins_with l.fn.member line ≡ true) l.members
+abbrev pub invariant-loop-line : goal.invariant-loop-line
+invariant-loop-line l = (l.initial.lines ≡ l.members ++ l.lines) × AllByRecursion (λ line. begins_with l.fn.member line ≡ true) l.members
 
-abbrev pub decreases-loop-members : goal.decreases-loop-members
-decreases-loop-members l = length l.lines
+abbrev pub decreases-loop-line : goal.decreases-loop-line
+decreases-loop-line l = length l.lines
