@@ -9,8 +9,8 @@ stored=../crates/corpus/data/examples.cases
 made=$(mktemp -d)
 trap 'rm -rf "$made"' EXIT
 
-# Puts the marked blocks of a page into files below $made. A block `dialogue` has a script's commands behind `> `, each with
-# its reply below it; it becomes the files `script` and `transcript`.
+# Puts the marked blocks of a page into files below $made. A block `NAME.dialogue` has a script's commands behind `> `, each
+# with its reply below it; it becomes the files `NAME.script` and `transcript`.
 unpack() {
     awk -v to="$made" '
         /^```/ && inside { inside = 0; name = ""; next }
@@ -18,12 +18,14 @@ unpack() {
         !inside && /^<!-- [a-z]+\/[a-z.]+ -->$/ {
             name = $2
             folder = to "/" substr(name, 1, index(name, "/") - 1)
+            script = to "/" name
+            sub(/dialogue$/, "script", script)
             system("mkdir -p " folder)
             next
         }
         !inside || !name { next }
-        name !~ /\/dialogue$/ { print > (to "/" name); next }
-        sub(/^> /, "") { print > (folder "/script"); next }
+        name !~ /\.dialogue$/ { print > (to "/" name); next }
+        sub(/^> /, "") { print > script; next }
         { print > (folder "/transcript") }' "$1"
 }
 
@@ -60,27 +62,33 @@ case_of() {
 }
 
 cases() {
-    case_of 'the example first' 1 first/transcript first run p
-    case_of 'the example fixes' 0 fixes/transcript fixes run p
-    case_of 'the example orders' 1 orders/transcript orders run p
+    case_of 'the example first' 1 first/transcript first run shop.schema
+    case_of 'the example fixes' 0 fixes/transcript fixes run fixes.schema
+    case_of 'the example orders' 1 orders/transcript orders run orders.schema
 
-    case_of 'the example questions: consistent' 1 questions/cert questions consistent p customer 100
-    case_of 'the example questions: three cases are not enough' 7 "$made/questions/spent" questions consistent p customer 3
-    case_of 'the example questions: a witness' 0 "$made/questions/witness" questions consistent q customer 100
-    case_of 'the example questions: implied' 0 questions/implied questions \
-        implies q 'customer: [id] -> [prices] row _ || _' 100
+    case_of 'the example questions: consistent' 1 questions/never.cert questions \
+        consistent prices.schema customer 100
+    case_of 'the example questions: three cases are not enough' 7 "$made/questions/spent" questions \
+        consistent prices.schema customer 3
+    case_of 'the example questions: a witness' 0 "$made/questions/witness" questions \
+        consistent mended.schema customer 100
+    case_of 'the example questions: implied' 0 questions/implied.cert questions \
+        implies mended.schema 'customer: [id] -> [prices] row _ || _' 100
     case_of 'the example questions: a counter' 1 "$made/questions/counter" questions \
-        implies q "customer: [prices] -> [id] row 'gross' || _" 100
-    case_of 'the example questions: a certificate that holds' 0 "$made/holds" questions check p cert
-    case_of 'the example questions: the certificate by the mended rules' 1 "$made/fails" questions check q cert
-    case_of 'the example questions: implied, tested' 0 "$made/holds" questions check q implied
+        implies mended.schema "customer: [prices] -> [id] row 'gross' || _" 100
+    case_of 'the example questions: a certificate that holds' 0 "$made/holds" questions check prices.schema never.cert
+    case_of 'the example questions: the certificate by the mended rules' 1 "$made/fails" questions \
+        check mended.schema never.cert
+    case_of 'the example questions: implied, tested' 0 "$made/holds" questions \
+        check mended.schema implied.cert
 
-    case_of 'the readme: the example first' 1 "$made/first/written" first run p
-    case_of 'the page on formats: a session' 0 "$made/session/transcript" "$made/session" run p
-    case_of 'the page on formats: fixes' 0 "$made/fixes/transcript" "$made/fixes" run p
+    case_of 'the readme: the example first' 1 "$made/first/written" first run shop.schema
+    case_of 'the page on formats: a session' 0 "$made/session/transcript" "$made/session" run shop.schema
+    case_of 'the page on formats: fixes' 0 "$made/fixes/transcript" "$made/fixes" run fixes.schema
     case_of 'the page on formats: a generated project' 1 "$made/generated/written" "$made/none" generate 7
-    case_of 'the page on formats: never' 1 "$made/questions/never" "$made/asked" consistent p customer 100
-    case_of 'the recipes: the orders as they came' 1 orders/report.json "$made/orders" report q
+    case_of 'the page on formats: never' 1 "$made/questions/never" "$made/asked" \
+        consistent prices.schema customer 100
+    case_of 'the recipes: the orders as they came' 1 orders/report.json "$made/orders" report asis.schema
     cat "$made/page.cases"
 }
 
@@ -91,16 +99,15 @@ echo holds >"$made/holds"
 echo 'fails 7' >"$made/fails"
 
 # The page shows no more of the schemas than what is about them.
-cp fixes/p "$made/fixes/p"
+cp fixes/fixes.schema "$made/fixes"
 mkdir "$made/asked"
-cp "$made/questions/rules" "$made/asked/rules"
-{ cat "$made/questions/p" && echo "rules 'rules'"; } >"$made/asked/p"
+cp "$made/questions/prices.rules" "$made/asked"
+{ cat "$made/questions/prices.schema" && echo "rules 'prices.rules'"; } >"$made/asked/prices.schema"
 
 # As the recipes make it.
 mkdir "$made/orders"
-cp orders/*.csv orders/rules "$made/orders"
-: >"$made/orders/empty"
-sed "s/script 'script'/script 'empty'/" orders/p >"$made/orders/q"
+cp orders/*.csv orders/orders.rules "$made/orders"
+grep -v '^script ' orders/orders.schema >"$made/orders/asis.schema"
 
 # The case that the page on reading shows.
 { echo && cat "$made/case/shown"; } >"$made/page.cases"

@@ -19,7 +19,7 @@ fi
 mkdir -p "$folder"
 cd "$folder"
 
-cat >p <<'END'
+cat >large.schema <<'END'
 # A shop's people, what they ordered, and the zip codes of two countries.
 table person 'people.csv'
 attr id
@@ -38,11 +38,11 @@ master zip 'zips.csv'
 attr country in 'DE', 'FR'
 attr code
 attr city
-rules 'rules'
-script 'script'
+rules 'large.rules'
+script 'large.script'
 END
 
-cat >rules <<'END'
+cat >large.rules <<'END'
 # An id is one person, in one place.
 cfd one_person person: [id] -> [name, zip]
 row _ || _, _
@@ -129,18 +129,18 @@ awk -v rows="$rows" -v wrong="$wrong" '
             print "o" number ",p" buyer ",i" item "," price "," what > "orders.csv"
         }
 
-        print "count" > "script"
-        for (i = 0; i < fixes; i++) print "fix person " fix[i] " [id, name, country, zip, active]" > "script"
-        print "count" > "script"
+        print "count" > "large.script"
+        for (i = 0; i < fixes; i++) print "fix person " fix[i] " [id, name, country, zip, active]" > "large.script"
+        print "count" > "large.script"
         if (fixes) {
-            print "undo" > "script"
-            print "explain person " fix[fixes - 1] > "script"
-            print "redo" > "script"
+            print "undo" > "large.script"
+            print "explain person " fix[fixes - 1] > "large.script"
+            print "redo" > "large.script"
         }
-        print "count" > "script"
-        print "delete person 1" > "script"
-        print "count" > "script"
-        print "undo" > "script"
-        print "count" > "script"
+        print "count" > "large.script"
+        print "delete person 1" > "large.script"
+        print "count" > "large.script"
+        print "undo" > "large.script"
+        print "count" > "large.script"
     }'
 echo "$folder: $(wc -l <people.csv) lines of people.csv, $(wc -l <orders.csv) of orders.csv, $(wc -l <zips.csv) of zips.csv"
