@@ -52,7 +52,7 @@ case_of() {
     for file in "$folder"/*; do
         held=${file##*/}
         case $held in
-            README.md | transcript | report.json | '*') continue ;;
+            README.md | transcript | written | report.json | '*') continue ;;
         esac
         echo "file $held"
         content "$file"
@@ -89,10 +89,14 @@ cases() {
     case_of 'the page on formats: never' 1 "$made/questions/never" "$made/asked" \
         consistent prices.schema customer 100
     case_of 'the recipes: the orders as they came' 1 orders/report.json "$made/orders" report asis.schema
+    case_of 'the recipes: a value must be there' 1 "$made/needed/written" "$made/needed" run shop.schema
+    case_of 'the recipes: one of a list, told row by row' 1 "$made/listed/written" "$made/listed" run shop.schema
+    case_of 'the recipes: some Norwegian row can be right' 1 "$made/swiss/written" "$made/swiss" \
+        implies shop.schema "customer: [country] -> [country] row 'NO' || 'DE'" 1000
     cat "$made/page.cases"
 }
 
-for page in ../README.md ../docs/FORMATS.md ../docs/READING.md; do
+for page in ../README.md ../docs/FORMATS.md ../docs/READING.md ../docs/RECIPES.md; do
     unpack "$page"
 done
 echo holds >"$made/holds"
@@ -108,6 +112,9 @@ cp "$made/questions/prices.rules" "$made/asked"
 mkdir "$made/orders"
 cp orders/*.csv orders/orders.rules "$made/orders"
 grep -v '^script ' orders/orders.schema >"$made/orders/asis.schema"
+
+echo list >"$made/needed/shop.script"
+cp "$made/needed/customers.csv" "$made/needed/shop.schema" "$made/needed/shop.script" "$made/listed"
 
 # The case that the page on reading shows.
 { echo && cat "$made/case/shown"; } >"$made/page.cases"
