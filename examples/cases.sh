@@ -82,6 +82,7 @@ cases() {
     case_of 'the example questions: implied, tested' 0 "$made/holds" questions \
         check mended.schema implied.cert
 
+    case_of 'the readme: the first page' 1 "$made/top/written" "$made/top" run shop.schema
     case_of 'the readme: the example first' 1 "$made/first/written" first run shop.schema
     case_of 'the page on formats: a session' 0 "$made/session/transcript" "$made/session" run shop.schema
     case_of 'the page on formats: fixes' 0 "$made/fixes/transcript" "$made/fixes" run fixes.schema
