@@ -8,8 +8,9 @@ cd "$(dirname "$0")"
 room=$(mktemp -d)
 trap 'rm -rf "$room"' EXIT
 
-# The page as numbered steps: `N.sh` is a recipe, `N.out` what it writes, `N.in` the folder in which it runs. A step
-# with `N.from` makes that folder first, as a copy of the one that is named there.
+# The page as numbered steps: `N.sh` is a recipe and `N.out` what it writes, or `N.held` is a file with the name `N.name`.
+# `N.in` is the folder of the step, `N.from` the example of which that is a copy. The page is read twice, first for the
+# sections with marked blocks.
 awk -v to="$room/" '
     function step(name) {
         folder = "example " base
