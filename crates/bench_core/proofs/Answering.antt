@@ -20,7 +20,7 @@ use Rattle.cfd_semantics.proofs.Sets.{rising-nil}
 use Rattle.rule_model.specs.declared.dep.Dep.{Dep}
 use Rattle.rule_model.specs.declared.cind.Cind.{Cind}
 use Rattle.schema_core.specs.Lookups.{attrs_at}
-use Rattle.schema_core.specs.declared.limits.Limits.{Limits}
+use Rattle.text_lists.specs.declared.limits.Limits.{Limits}
 use Rattle.rule_model.specs.Books.{Book, IsBook, book_deps, book_cinds}
 use Rattle.rule_model.specs.Rules.{IsValidCind, IsValidDep}
 use Rattle.row_store.specs.Store.{Rows}

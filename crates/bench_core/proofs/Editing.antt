@@ -7,7 +7,7 @@ use Rattle.std.proofs.lemmas.List.Quantifiers.{position-Some}
 use Rattle.std.specs.Str.{bytes_eq}
 use Rattle.std.proofs.lemmas.Slice.Zip.{AllZip-long}
 use Rattle.schema_core.specs.Schemas.{table_place}
-use Rattle.schema_core.specs.declared.limits.Limits.{Limits}
+use Rattle.text_lists.specs.declared.limits.Limits.{Limits}
 use Rattle.schema_core.specs.declared.schema.Table.{Table}
 use Rattle.rule_model.specs.Books.{Book}
 use Rattle.edit_log.specs.declared.edit.Edit.{Edit}

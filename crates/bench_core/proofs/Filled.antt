@@ -7,7 +7,7 @@ use Rattle.std.proofs.lemmas.List.Elements.{All-nil, All-map, All-push, All-weak
 use Rattle.std.specs.FinMap as finmap
 use Rattle.row_store.specs.Store.{Store, Rows}
 use Rattle.value_pool.specs.Pool.{KeepsIds}
-use Rattle.schema_core.specs.declared.limits.Limits.{Limits}
+use Rattle.text_lists.specs.declared.limits.Limits.{Limits}
 use Rattle.rule_model.specs.Books.{Book}
 use Rattle.bench_core.specs.State.{Row, TableState, State, rows_at}
 use Rattle.bench_core.specs.Loading.{Tuples, loaded_table}

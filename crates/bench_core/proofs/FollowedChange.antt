@@ -2,7 +2,7 @@
 use Rattle.std.proofs.Common.{◌≡◌, ℕ, List, IsSomeAnd, refl, ◌∙◌}
 use Rattle.std.specs.List.{slice_get}
 use Rattle.std.specs.Option.{ForSome}
-use Rattle.schema_core.specs.declared.limits.Limits.{Limits}
+use Rattle.text_lists.specs.declared.limits.Limits.{Limits}
 use Rattle.rule_model.specs.Books.{Book}
 use Rattle.row_store.specs.Tuple.{ids_if}
 use Rattle.row_store.specs.Watches.{with_row}

@@ -17,7 +17,6 @@ pub mod States
 pub mod Editing
 pub mod Loads
 pub mod Distinct
-pub mod NoRows
 pub mod TuplesAt
 pub mod InStepWith
 pub mod FollowedChange
@@ -25,3 +24,4 @@ pub mod RowJoins
 pub mod Answering
 pub mod Behind
 pub mod MasterRows
+pub mod ProbesOfChange

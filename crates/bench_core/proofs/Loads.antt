@@ -10,9 +10,9 @@ use Rattle.std.proofs.lemmas.List.Elements.{All-weaker}
 use Rattle.std.proofs.lemmas.Bool.{cases_lt, lt-ltb, le-ltb, ltb-false, or_parts, and_parts, lt-leb, le-leb, leb-true, false≢true}
 use Rattle.schema_core.specs.Lookups.{attrs_at}
 use Rattle.schema_core.specs.Rows.{IsRowOf}
-use Rattle.schema_core.specs.declared.limits.Limits.{Limits}
+use Rattle.text_lists.specs.declared.limits.Limits.{Limits}
 use Rattle.schema_core.specs.declared.schema.Table.{Table}
-use Rattle.schema_core.specs.Limits.{AreLimits}
+use Rattle.text_lists.specs.Limits.{AreLimits}
 use Rattle.rule_model.specs.Books.{Book}
 use Rattle.bench_core.specs.State.{TableState, State, IsTableState}
 use Rattle.bench_core.specs.Sizes.{is_over, total_rows, total_cells, weight, stopped_weight}

@@ -3,7 +3,7 @@ use Rattle.std.proofs.Common.{◌≡◌, ℕ, zero, suc, Bool, true, false, cond
 use Rattle.std.specs.Prelude.{IfSome, option_and_then, option_map, slice_get}
 use Rattle.std.specs.FinMap as finmap
 use Rattle.schema_core.specs.Lookups.{master_at}
-use Rattle.schema_core.specs.declared.limits.Limits.{Limits}
+use Rattle.text_lists.specs.declared.limits.Limits.{Limits}
 use Rattle.rule_model.specs.Books.{Book}
 use Rattle.bench_index.specs.declared.all_indexes.AllIndexes.{AllIndexes}
 use Rattle.bench_index.proofs.AllSteps.{each_master_row, each_rule_is_looked_up}

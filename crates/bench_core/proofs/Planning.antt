@@ -3,9 +3,9 @@
 use Rattle.std.proofs.Common.{◌≡◌, ℕ, ◌+◌, ◌*◌, ◌&&◌, Bool, nat_le, List, get_or, Some, Result, Ok, Err, IfOk, IsSomeAnd, slice_index, sym, ap, subst, ◌∙◌}
 use Rattle.std.specs.List.{slice_get, slice_set}
 use Rattle.std.proofs.lemmas.Option.{get_or_from_slice_get}
-use Rattle.schema_core.specs.Faults.{GivesUnlessMemory}
+use Rattle.line_grammar.specs.Faults.{GivesUnlessMemory}
 use Rattle.schema_core.specs.Schemas.{table_place}
-use Rattle.schema_core.specs.declared.limits.Limits.{Limits}
+use Rattle.text_lists.specs.declared.limits.Limits.{Limits}
 use Rattle.schema_core.specs.declared.schema.Table.{Table}
 use Rattle.rule_model.specs.Books.{Book}
 use Rattle.value_pool.specs.Pool.{KeepsIds}

@@ -1,10 +1,10 @@
 -- The steps of an edit, as they are reached one after the other.
 use Rattle.std.proofs.Common.{◌≡◌, ℕ, List, Option, Some, Result, Ok, Err, IfSome, slice_set, subst, sym, refl}
 use Rattle.std.specs.Result.{IsErrAnd}
-use Rattle.schema_core.specs.Faults.{GivesUnlessMemory}
+use Rattle.line_grammar.specs.Faults.{GivesUnlessMemory}
 use Rattle.schema_core.specs.Schemas.{attr_place}
 use Rattle.std.specs.List.{slice_get}
-use Rattle.schema_core.specs.declared.limits.Limits.{Limits}
+use Rattle.text_lists.specs.declared.limits.Limits.{Limits}
 use Rattle.schema_core.specs.declared.schema.Attr.{Attr}
 use Rattle.schema_core.specs.declared.schema.Table.{Table}
 use Rattle.bench_core.specs.State.{TableState, texts_of, with_texts}

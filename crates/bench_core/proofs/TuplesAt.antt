@@ -7,7 +7,7 @@ use Rattle.std.proofs.lemmas.Bool.Decides.{nat_tests}
 use Rattle.std.proofs.lemmas.Option.{none-some, same_Some, option_and_then_some, get_or_from_slice_get, slice_get_within}
 use Rattle.std.specs.FinMap as finmap
 use Rattle.schema_core.specs.Lookups.{attrs_at}
-use Rattle.schema_core.specs.declared.limits.Limits.{Limits}
+use Rattle.text_lists.specs.declared.limits.Limits.{Limits}
 use Rattle.rule_model.specs.Books.{Book}
 use Rattle.row_store.specs.Watches.{with_row}
 use Rattle.bench_core.specs.State.{IsTableState}

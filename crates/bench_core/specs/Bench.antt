@@ -1,8 +1,8 @@
 -- What clauses see of a bench, and what every bench keeps.
 use Rattle.std.specs.Prelude.{◌≡◌, ℕ, ◌≤◌, List, length, map, All, IsSomeAnd, slice_get}
 use Rattle.std.specs.List.{AllZip, range_with_len}
-use Rattle.schema_core.specs.Limits.{AreLimits}
-use Rattle.schema_core.specs.declared.limits.Limits.{Limits}
+use Rattle.text_lists.specs.Limits.{AreLimits}
+use Rattle.text_lists.specs.declared.limits.Limits.{Limits}
 use Rattle.rule_model.specs.Books.{Book}
 use Rattle.bench_core.specs.State.{State, IsTableState}
 use Rattle.edit_log.specs.Journal.{Journal}

@@ -2,7 +2,7 @@
 use Rattle.std.specs.Prelude.{ℕ, ◌==◌, nat_le, not, Bool, true, false, List, length, find, zip, ok_or, option_and_then, option_map, Option, Some, None, slice_set, Result, Ok, Err}
 use Rattle.std.specs.List.{slice_get, list_all}
 use Rattle.schema_core.specs.Schemas.{admits, table_place, attr_place}
-use Rattle.schema_core.specs.declared.limits.Limits.{Limits}
+use Rattle.text_lists.specs.declared.limits.Limits.{Limits}
 use Rattle.schema_core.specs.declared.schema.Attr.{Attr}
 use Rattle.schema_core.specs.declared.schema.Table.{Table}
 use Rattle.schema_core.specs.declared.schema.Schema.{Schema}

@@ -1,6 +1,6 @@
 -- The history of a bench, for undo and redo: the states that it left, the one that it has, and those that were undone.
-use Rattle.std.specs.Prelude.{◌≡◌, List, [], ◌∷◌, ◌++◌, Ok}
-use Rattle.schema_core.specs.declared.limits.Limits.{Limits}
+use Rattle.std.specs.Prelude.{◌≡◌, ◌-◌, List, [], ◌∷◌, ◌++◌, length, Ok, Option, slice_get}
+use Rattle.text_lists.specs.declared.limits.Limits.{Limits}
 use Rattle.rule_model.specs.Books.{Book}
 use Rattle.edit_log.specs.declared.edit.Edit.{Edit}
 use Rattle.bench_core.specs.State.{State}
@@ -39,3 +39,10 @@ HasNoPast history = history.past ≡ []
 
 abbrev pub HasNothingUndone : History → Type 0
 HasNothingUndone history = history.undone ≡ []
+
+-- the state that an undo leads to, and the one that a redo leads to, where there is one
+abbrev pub last_past : History → Option State
+last_past history = slice_get history.past (length history.past - 1)
+
+abbrev pub first_undone : History → Option State
+first_undone history = slice_get history.undone 0

@@ -1,5 +1,5 @@
 -- Indexes that are in step with stored tables, and what it costs to keep them so.
-use Rattle.std.specs.Prelude.{ℕ, ◌+◌, ◌≤◌, List, Option, slice_get, option_and_then}
+use Rattle.std.specs.Prelude.{◌≡◌, ℕ, ◌+◌, ◌≤◌, List, Option, None, Some, slice_get, option_and_then}
 use Rattle.std.specs.Option.{ForSome, option_map_or}
 use Rattle.std.specs.FinMap as finmap
 use Rattle.schema_core.specs.Schemas.{table_place}
@@ -7,6 +7,7 @@ use Rattle.rule_model.specs.Books.{Book, IsBook}
 use Rattle.edit_log.specs.declared.edit.Edit.{Edit}
 use Rattle.bench_index.specs.AllIndexes.{AreInStepWith, HaveRow, IsAsWide, most_probes}
 use Rattle.bench_index.specs.declared.all_indexes.AllIndexes.{AllIndexes}
+use Rattle.bench_core.specs.State.{State}
 use Rattle.bench_core.specs.Stored.{Stored}
 use Rattle.bench_core.specs.Edited.{name_of_table}
 use Rattle.bench_core.specs.Bench.{tables_of}
@@ -34,10 +35,20 @@ pub record CanFollow (rules : Book) (table row : ℕ) (old new : Option (List �
 
 -- ---- probes
 
--- the most probes of an edit, which makes none where there is no table of that name
-abbrev pub edit_probes : Book → Edit → ℕ
-edit_probes rules edit = option_map_or (most_probes rules) (table_place rules.schema (name_of_table edit)) 0
+-- the most probes of a change of one row of the named table, and none where there is no table of that name
+abbrev pub table_probes : Book → List ℕ → ℕ
+table_probes rules name = option_map_or (most_probes rules) (table_place rules.schema name) 0
 
--- there were no more probes than the change of one row of some table makes
-abbrev pub AreOfOneRow : Book → ℕ → ℕ → Type 0
-AreOfOneRow rules before after = (table : ℕ) × (after ≤ before + most_probes rules table)
+-- the most probes of an edit
+abbrev pub edit_probes : Book → Edit → ℕ
+edit_probes rules edit = table_probes rules (name_of_table edit)
+
+-- the states differ in no other table
+abbrev pub DifferOnlyAt : ℕ → State → State → Type 0
+DifferOnlyAt table one other = (t : ℕ) → (t ≡ table → ⊥) → slice_get one t ≡ slice_get other t
+
+-- Where a state is left for another one, there were no more probes than one row takes of the table in which they differ.
+-- Where there is none to go to, there were no probes.
+abbrev pub AreOfTheChange : Book → State → Option State → ℕ → ℕ → Type 0
+AreOfTheChange rules state None before after = after ≤ before
+AreOfTheChange rules state (Some other) before after = (table : ℕ) × DifferOnlyAt table state other × (after ≤ before + most_probes rules table)

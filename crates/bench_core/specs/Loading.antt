@@ -2,7 +2,7 @@
 use Rattle.std.specs.Prelude.{ℕ, ◌+◌, List, length, take, map, All, Option, Some, None, Result}
 use Rattle.std.specs.List.{AllZip, enumerate_from, position, range_with_len}
 use Rattle.schema_core.specs.Rows.{IsRowOf}
-use Rattle.schema_core.specs.declared.limits.Limits.{Limits}
+use Rattle.text_lists.specs.declared.limits.Limits.{Limits}
 use Rattle.schema_core.specs.declared.schema.Table.{Table}
 use Rattle.schema_core.specs.declared.schema.Schema.{Schema}
 use Rattle.rule_model.specs.Books.{Book}

@@ -1,17 +1,17 @@
 //! A bench: rules, limits, and the history of its tables.
 
 ghost use Rattle.std.specs.Prelude.{◌≡◌, ◌↔◌, ◌+◌, ◌<◌, ◌≤◌, Err, Some, length, slice_get, OnErr, OnOk, IfOk};
-ghost use Rattle.schema_core.specs.Limits.{AreLimits};
-ghost use Rattle.schema_core.specs.Faults.{GivesUnlessMemory};
+ghost use Rattle.text_lists.specs.Limits.{AreLimits};
+ghost use Rattle.line_grammar.specs.Faults.{GivesUnlessMemory};
 ghost use Rattle.bench_core.specs.State.{rows_at};
 ghost use Rattle.bench_core.specs.Loading.{AreTables, full_table, loaded};
 ghost use Rattle.bench_core.specs.Edited.{refusal_of};
-ghost use Rattle.bench_core.specs.History.{HasNoPast, HasNothingUndone, IsRedone, IsUndone, history_edited};
+ghost use Rattle.bench_core.specs.History.{HasNoPast, HasNothingUndone, IsRedone, IsUndone, first_undone, history_edited, last_past};
 ghost use Rattle.bench_core.specs.Stored.{RowsHaveTexts, stored, table_state};
 ghost use Rattle.rule_model.specs.Books.{book_cinds, book_deps};
 ghost use Rattle.bench_core.specs.Answers.{AreMastersOf, IsRowOfCind, IsRowOfDep, orphans_at, orphans_of_row, violations_at, violations_of_row};
 ghost use Rattle.bench_core.specs.Bench.{IsHistory};
-ghost use Rattle.bench_core.specs.Indexed.{AreOfOneRow, edit_probes};
+ghost use Rattle.bench_core.specs.Indexed.{AreOfTheChange, edit_probes};
 ghost use Rattle.bench_core.specs.declared.edit.RedoFault.TheVariants as redo_fault;
 ghost use Rattle.bench_core.specs.declared.edit.UndoFault.TheVariants as undo_fault;
 
@@ -64,6 +64,7 @@ impl Bench {
         ensures loaded { GivesUnlessMemory full_table (loaded rules limits tables) (λ bench. bench.history.present) result }
         ensures fresh { IfOk result (λ bench. HasNoPast bench.history × HasNothingUndone bench.history) }
         ensures made_with { IfOk result (λ bench. (bench.rules ≡ rules) × (bench.limits ≡ limits)) }
+        ensures valid { IfOk result (λ bench. IsHistory bench.rules bench.limits bench.history) }
     {
         let (project, index) = Project::load(alloc, rules, tables, limits, steps)?;
         Ok(Bench { project, index })
@@ -79,29 +80,33 @@ impl Bench {
         ensures edited { GivesUnlessMemory refusal_of (history_edited self.old.rules self.old.limits self.old.history edit.now) (λ told. (self.new.history, told)) result }
         ensures made_with { (self.new.rules ≡ self.old.rules) × (self.new.limits ≡ self.old.limits) }
         ensures unchanged { OnErr result (self.new.history ≡ self.old.history) }
+        ensures valid { IsHistory self.new.rules self.new.limits self.new.history }
         ensures probes { steps.new ≤ steps.old + edit_probes self.old.rules edit.now }
     {
         self.project.edit(&mut self.index, edit, steps)
     }
 
-    /// Goes back to the state before the last edit, its next ids included.
+    /// Goes back to the state before the last edit, its next ids included. It takes no more probes than an edit of the table
+    /// that changes, and none where there is nothing to undo.
     pub fn undo<L: Ledger>(&mut self, steps: &mut Steps<L>) -> Result<(), UndoFault>
         ensures undone { OnOk result (IsUndone self.old.history self.new.history) }
         ensures nothing { result ≡ Err undo_fault.NothingToUndo ↔ HasNoPast self.old.history }
         ensures made_with { (self.new.rules ≡ self.old.rules) × (self.new.limits ≡ self.old.limits) }
         ensures unchanged { OnErr result (self.new.history ≡ self.old.history) }
-        ensures probes { AreOfOneRow self.old.rules steps.old steps.new }
+        ensures valid { IsHistory self.new.rules self.new.limits self.new.history }
+        ensures probes { AreOfTheChange self.old.rules self.old.history.present (last_past self.old.history) steps.old steps.new }
     {
         self.project.undo(&mut self.index, steps)
     }
 
-    /// Makes the edit again that was undone last.
+    /// Makes the edit again that was undone last, with as few probes.
     pub fn redo<L: Ledger>(&mut self, steps: &mut Steps<L>) -> Result<(), RedoFault>
         ensures redone { OnOk result (IsRedone self.old.history self.new.history) }
         ensures nothing { result ≡ Err redo_fault.NothingToRedo ↔ HasNothingUndone self.old.history }
         ensures made_with { (self.new.rules ≡ self.old.rules) × (self.new.limits ≡ self.old.limits) }
         ensures unchanged { OnErr result (self.new.history ≡ self.old.history) }
-        ensures probes { AreOfOneRow self.old.rules steps.old steps.new }
+        ensures valid { IsHistory self.new.rules self.new.limits self.new.history }
+        ensures probes { AreOfTheChange self.old.rules self.old.history.present (first_undone self.old.history) steps.old steps.new }
     {
         self.project.redo(&mut self.index, steps)
     }

@@ -2,7 +2,7 @@
 
 ghost use Rattle.std.specs.Prelude.{◌≡◌, length, option_map, option_copied};
 ghost use Rattle.std.specs.List.{list_all};
-ghost use Rattle.schema_core.specs.Faults.{IsUnlessMemory};
+ghost use Rattle.line_grammar.specs.Faults.{IsUnlessMemory};
 ghost use Rattle.bench_core.specs.Edited.{is_short, outside_domain, refusal_of, require_row, require_text};
 
 use crate::edit::EditFault;

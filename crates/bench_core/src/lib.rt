@@ -21,6 +21,3 @@ mod tuples;
 
 pub use bench::Bench;
 pub use edit::{Applied, EditFault, LoadFault, RedoFault, UndoFault};
-
-#[cfg(test)]
-mod tests;

@@ -1,9 +1,9 @@
 //! Loading tables, one after another.
 
 ghost use Rattle.std.specs.Prelude.{◌≡◌, ◌+◌, ◌-◌, ◌^◌, ◌<◌, ◌++◌, ◌∷◌, [], length, map, All, IfOk, OnOk};
-ghost use Rattle.schema_core.specs.Limits.{AreLimits};
+ghost use Rattle.text_lists.specs.Limits.{AreLimits};
 ghost use Rattle.schema_core.specs.Lookups.{attrs_at};
-ghost use Rattle.schema_core.specs.Faults.{GivesUnlessMemory};
+ghost use Rattle.line_grammar.specs.Faults.{GivesUnlessMemory};
 ghost use Rattle.value_pool.specs.Pool.{KeepsIds};
 ghost use Rattle.bench_core.specs.Loading.{AreTables, full_table, loaded, loaded_table};
 ghost use Rattle.bench_core.specs.Stored.{RowsHaveTexts, state_of, stored, table_state};

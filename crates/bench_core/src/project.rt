@@ -2,20 +2,20 @@
 
 ghost use Rattle.std.specs.Prelude.{◌≡◌, ◌↔◌, ◌+◌, ◌<◌, ◌≤◌, Err, Some, length, map, slice_get, IsSomeAnd, IfOk, OnErr, OnOk};
 ghost use Rattle.schema_core.specs.Schemas.{table_place};
-ghost use Rattle.schema_core.specs.Faults.{GivesUnlessMemory};
+ghost use Rattle.line_grammar.specs.Faults.{GivesUnlessMemory};
 ghost use Rattle.row_store.specs.Tuple.{ids_if};
 ghost use Rattle.row_store.specs.Watches.{with_row};
 ghost use Rattle.edit_log.specs.Journal.{first_change, last_change};
 ghost use Rattle.edit_log.specs.Log.{MovesBack, MovesForward};
 ghost use Rattle.bench_core.specs.State.{rows_at};
 ghost use Rattle.bench_core.specs.Edited.{edited, name_of_table, refusal_of};
-ghost use Rattle.bench_core.specs.History.{HasNoPast, HasNothingUndone, IsRedone, IsUndone, accepted, history_edited};
+ghost use Rattle.bench_core.specs.History.{HasNoPast, HasNothingUndone, IsRedone, IsUndone, accepted, first_undone, history_edited, last_past};
 ghost use Rattle.bench_core.specs.Stored.{state_of};
 ghost use Rattle.bench_core.specs.Changes.{CanMake, IsChange, made_again, told_of};
 ghost use Rattle.bench_index.specs.declared.all_indexes.AllIndexes.{AllIndexes as Indexes};
 ghost use Rattle.bench_index.specs.AllIndexes.{most_probes};
 ghost use Rattle.bench_core.specs.Bench.{AtTable, IsBench, IsHeld, history, present_of, tables_of};
-ghost use Rattle.bench_core.specs.Indexed.{AreOfOneRow, IsInStepWith, IsIndexed, edit_probes, tuples_of};
+ghost use Rattle.bench_core.specs.Indexed.{AreOfTheChange, IsInStepWith, IsIndexed, edit_probes, tuples_of};
 ghost use Rattle.bench_core.specs.declared.edit.RedoFault.TheVariants as redo_fault;
 ghost use Rattle.bench_core.specs.declared.edit.UndoFault.TheVariants as undo_fault;
 
@@ -197,7 +197,7 @@ impl Project {
         ensures nothing { result ≡ Err undo_fault.NothingToUndo ↔ HasNoPast (history self.old) }
         ensures made_with { (self.new.rules ≡ self.old.rules) × (self.new.limits ≡ self.old.limits) }
         ensures unchanged { OnErr result (history self.new ≡ history self.old) }
-        ensures probes { AreOfOneRow self.old.rules steps.old steps.new }
+        ensures probes { AreOfTheChange self.old.rules (present_of self.old) (last_past (history self.old)) steps.old steps.new }
     {
         let Some(change) = self.log.last() else {
             return Err(UndoFault::NothingToUndo);
@@ -228,7 +228,7 @@ impl Project {
         ensures nothing { result ≡ Err redo_fault.NothingToRedo ↔ HasNothingUndone (history self.old) }
         ensures made_with { (self.new.rules ≡ self.old.rules) × (self.new.limits ≡ self.old.limits) }
         ensures unchanged { OnErr result (history self.new ≡ history self.old) }
-        ensures probes { AreOfOneRow self.old.rules steps.old steps.new }
+        ensures probes { AreOfTheChange self.old.rules (present_of self.old) (first_undone (history self.old)) steps.old steps.new }
     {
         let Some(change) = self.log.next() else {
             return Err(RedoFault::NothingToRedo);

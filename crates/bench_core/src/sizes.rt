@@ -2,7 +2,7 @@
 
 ghost use Rattle.std.specs.Prelude.{◌≡◌, ◌+◌, ◌-◌, ◌*◌, ◌^◌, ◌<◌, ◌≤◌, ◌&&◌, nat_le, if◌then◌else◌, min, length, map, slice_index, sum_by, IfOk};
 ghost use Rattle.std.specs.List.{list_any, range_with_len};
-ghost use Rattle.schema_core.specs.Limits.{AreLimits};
+ghost use Rattle.text_lists.specs.Limits.{AreLimits};
 ghost use Rattle.bench_core.specs.Sizes.{cind_weight, column_lists, columns_of, columns_weight, dep_weight, same_columns, side_weight, stopped_weight};
 
 use rule_model::{Cind, Dep, EditRule, RuleBook};

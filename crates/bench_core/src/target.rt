@@ -2,8 +2,8 @@
 
 ghost use Rattle.std.specs.Prelude.{◌≡◌, Some, IfOk};
 ghost use Rattle.std.specs.FinMap as finmap;
-ghost use Rattle.schema_core.specs.Limits.{AreLimits};
-ghost use Rattle.schema_core.specs.Faults.{GivesUnlessMemory};
+ghost use Rattle.text_lists.specs.Limits.{AreLimits};
+ghost use Rattle.line_grammar.specs.Faults.{GivesUnlessMemory};
 ghost use Rattle.row_store.specs.Tuple.{ids_of};
 ghost use Rattle.value_pool.specs.Pool.{KeepsIds};
 ghost use Rattle.bench_core.specs.State.{IsTableState};

@@ -1,6 +1,6 @@
 -- All indexes in step with tuples: what they hold of a row, and that they stay in step.
 use Rattle.std.proofs.Common.{◌≡◌, ℕ, Bool, true, false, cond, List, get_or, Option, None, Result, Ok, Err, OnOk, sym, ap, ◌∙◌, subst}
-use Rattle.std.specs.Prelude.{All, Contains, IfSome, IsTrue}
+use Rattle.std.specs.Prelude.{All, Contains, IfSome}
 use Rattle.std.specs.Option.{ForSome}
 use Rattle.std.specs.FinMap as finite
 use Rattle.schema_core.specs.Lookups.{master_at}
@@ -74,9 +74,6 @@ module _ (rules : Book) (book : IsBook rules) (table row : ℕ) (old new : Optio
     wide_old = λ ids is. wide_for_cinds rules book table ids (wide_old ids is) have.texts all.index have.in_step.indexes;
     wide_new = λ ids is. wide_for_cinds rules book table ids (wide_new ids is) have.texts all.index have.in_step.indexes;
   }
-
-  pub master-there : IsTrue (master_at rules.schema table) → finite.get all.masters.rows (table, row) ≡ old
-  master-there marked = have.in_step.rows table row ∙ ap (λ b. cond b (have.tuples table row) None) marked ∙ have.there
 
   pub masters-wide : ForSome new (IsWideFor all.masters.lists table)
   masters-wide ids is = subst (λ lists. IsWideFor lists table ids) (sym have.in_step.lists) (wide_for_masters rules book table ids (wide_new ids is))

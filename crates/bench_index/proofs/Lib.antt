@@ -7,7 +7,6 @@ pub mod Made
 pub mod OwnLines
 pub mod Reading
 pub mod Settled
-pub mod WalkFacts
 pub mod WatchSteps
 pub mod Zips
 pub mod ListsOnce

@@ -21,7 +21,7 @@ use Rattle.row_store.specs.Watch.{IsWide}
 use Rattle.group_index.specs.GroupSet.{GroupSet, holds_entry}
 use Rattle.group_index.specs.Answers.{IsPartnerOf}
 use Rattle.group_index.specs.Keys.{ids_at}
-use Rattle.group_index.specs.Laws.{entry_there}
+use Rattle.group_index.proofs.OwnEntries.{entry_there}
 use Rattle.bench_index.specs.ByIds.{text_of, HasText, IsRowByIds}
 use Rattle.bench_index.specs.Lists.{text_of_cell, texts_at}
 use Rattle.bench_index.proofs.InTexts.{kept_apart, row-texts, row-known}

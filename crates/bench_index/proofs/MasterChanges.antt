@@ -25,9 +25,6 @@ module _ (table row : ℕ) where
   pub follow-other : (new : Option (List ℕ)) (masters : Masters) → FollowAsMaster false table row new masters masters
   follow-other new masters = record { lists = refl; rows = λ t r. refl }
 
-  pub follow-again : (tuple : Option (List ℕ)) (masters : Masters) → finite.get masters.rows (table, row) ≡ tuple → FollowAsMaster true table row tuple masters masters
-  follow-again tuple masters there = record { lists = refl; rows = λ t r. sym (row_again (λ a b. finite.get masters.rows (a, b)) table row tuple there t r) }
-
   pub follow-insert : (ids : List ℕ) (before after : Masters) → after.lists ≡ before.lists → after.rows ≡ finite.insert before.rows (table, row) ids → FollowAsMaster true table row (Some ids) before after
   follow-insert ids before after lists rows = record { lists = lists; rows = λ t r. ap (λ m. finite.get m (t, r)) rows ∙ row_after_insert before.rows table row t r ids }
 

@@ -24,14 +24,14 @@ use Rattle.rule_model.specs.Books.{Book, book_deps, book_cinds}
 use Rattle.rule_model.specs.declared.dep.Dep.{Dep}
 use Rattle.rule_model.specs.declared.cind.Cind.{Cind}
 use Rattle.group_index.specs.GroupSet.{GroupSet, holds_entry}
-use Rattle.group_index.specs.Laws.{entry_at, entry_there}
+use Rattle.group_index.proofs.OwnEntries.{entry_at, entry_there}
 use Rattle.cind_index.specs.declared.index.CindIndex.{CindIndex}
 use Rattle.cind_index.specs.declared.side.Side.{Side}
 use Rattle.cind_index.specs.declared.side.Side.TheVariants.{Left, Right}
 use Rattle.cind_index.specs.KeysHeld.{held, lefts, rights}
 use Rattle.cind_index.specs.Entries.{CindEntry, key_on, pattern_on, table_on, gives_on, gives_entry, ids_in}
 use Rattle.cind_index.specs.Index.{made_of}
-use Rattle.cind_index.specs.Laws.{values_there}
+use Rattle.cind_index.proofs.OwnEntries.{values_there}
 use Rattle.cind_index.proofs.SideFacts.{wide_front, wide_back}
 use Rattle.bench_index.specs.ByIds.{text_of, IsDependencyByIds, IsInclusionByIds}
 use Rattle.bench_index.specs.InStep.{AreInStep}

@@ -1,12 +1,12 @@
 -- Lists of watches, each of which takes a step.
-use Rattle.std.proofs.Common.{◌≡◌, ℕ, true, List, Option, Some, None, Result, Ok, Err, OnOk, OnErr, refl, get_or, sym, ap, ◌∙◌, subst}
+use Rattle.std.proofs.Common.{◌≡◌, ℕ, true, List, Option, Some, None, Result, Ok, Err, OnErr, refl, sym, ap, ◌∙◌, subst}
 use Rattle.std.specs.Prelude.{All, sum_by, if◌then◌else◌}
 use Rattle.std.proofs.lemmas.List.Elements.{recursion_from_All}
 use Rattle.row_store.specs.Watches.{HoldsOfRow, HoldsOfBoth, HasAdded, HasRemoved, HoldsTheSame, IsInStep, with_row, probes_of}
 use Rattle.row_store.specs.Watch.{IsWide}
 use Rattle.row_store.specs.declared.watch.Watch.{Ghosts}
 use Rattle.row_store.proofs.Zips.{all_through, zip_then, zip_same, sum_kept}
-use Rattle.row_store.proofs.InStep.{in_step_inserted, in_step_changed, in_step_deleted, going_row_held, changed_row_held}
+use Rattle.row_store.proofs.InStep.{in_step_inserted, in_step_changed, in_step_deleted, changed_row_held}
 use Rattle.row_store.proofs.TakenBack.{both_held, taken_back}
 use Rattle.bench_index.specs.InStep.{AreMadeAlike, AreTheSame, AreWide, Follow, HaveAdded, HaveRemoved}
 use Rattle.bench_index.proofs.Zips.{zip_weaker, zip_joined, Joined}
@@ -14,11 +14,6 @@ use Rattle.bench_index.proofs.Zips.{zip_weaker, zip_joined, Joined}
 pub on_err : {A E P : Type 0} (r : Result A E) → P → OnErr r P
 on_err (Ok _) p = tt
 on_err (Err _) p = p
-
--- what follows from either outcome
-pub either_way : {A E P Q X : Type 0} (r : Result A E) → OnOk r P → OnErr r Q → (P → X) → (Q → X) → X
-either_way (Ok _) ok err from_ok from_err = from_ok ok
-either_way (Err _) ok err from_ok from_err = from_err err
 
 module _ {Self : Type 0} (watch : Ghosts Self) where
   pub same-kept : (watches : List Self) → AreTheSame watch watches watches
@@ -61,9 +56,6 @@ module _ {Self : Type 0} (watch : Ghosts Self) where
       pub changed_after : (before after : List Self) (old new : List ℕ) → All (HoldsOfRow watch table row (Some old)) before → HaveAdded watch table row new before after → All (HoldsOfBoth watch table row old (Some new)) after
       changed_after before after old new present added =
           all_through (HoldsOfRow watch table row (Some old)) (HoldsOfBoth watch table row old (Some new)) (HasAdded watch table row new) (changed_row_held watch table row old new) before after present added
-
-      pub going : (watches : List Self) (old : List ℕ) → All (HoldsOfRow watch table row (Some old)) watches → All (HoldsOfBoth watch table row old None) watches
-      going watches old present k d within = going_row_held watch table row old (get_or watches k d) (present k d within)
 
       module _ (names : (how : watch.Made) (t r : ℕ) (ids : List ℕ) (entry : watch.Entry) → watch.gives how t r ids entry ≡ true → (watch.table_of how entry ≡ t) × (watch.row_of how entry ≡ r)) where
         -- what was added is taken back

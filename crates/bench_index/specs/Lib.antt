@@ -1,6 +1,5 @@
 pub mod Lists
 pub mod Replies
-pub mod Walk
 pub mod ByIds
 pub mod InStep
 pub mod Indexes

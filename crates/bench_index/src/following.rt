@@ -1,50 +1,15 @@
-//! Watches of two kinds that follow a row from its old tuple to its new one, all of them or none.
+//! Watches of two kinds to which a row gives more, all of them or none, and from which what it gave is taken away.
 
-ghost use Rattle.std.specs.Prelude.{◌≡◌, ◌+◌, ◌*◌, ◌≤◌, None, Some, Ok, All, OnOk, OnErr, sum_by};
+ghost use Rattle.std.specs.Prelude.{◌+◌, ◌*◌, ◌≤◌, Some, All, OnOk, OnErr, sum_by};
 ghost use Rattle.std.specs.Option.{ForSome};
 ghost use Rattle.row_store.specs.Tuple.{ids_of, ids_behind};
-ghost use Rattle.row_store.specs.Watches.{HoldsOfRow, HoldsOfBoth, probes_of};
-ghost use Rattle.bench_index.specs.InStep.{AreMadeAlike, AreTheSame, AreWide, CanFollow, Follow, HaveAdded, HaveRemoved};
+ghost use Rattle.row_store.specs.Watches.{HoldsOfBoth, probes_of};
+ghost use Rattle.bench_index.specs.InStep.{AreTheSame, AreWide, CanFollow, HaveAdded, HaveRemoved};
 
 use probe_steps::Steps;
 use row_store::{RowId, Tuple, Watch, add_to_all, remove_from_all};
 use std::alloc::AllocError;
 use std::sync::ledger::Ledger;
-
-/// Follows a row from its old tuple to its new one, where None is no row. All watches of both kinds follow, or none where
-/// memory is refused. To lose a row takes no memory.
-pub fn follow<G: Watch, C: Watch, L: Ledger>(
-    groups: &mut [G],
-    cinds: &mut [C],
-    table: usize,
-    row: RowId,
-    old: Option<&Tuple>,
-    new: Option<&Tuple>,
-    steps: &mut Steps<L>,
-) -> Result<(), AllocError>
-    requires groups { CanFollow ⟦<G as Watch>⟧ table row (ids_behind old) (ids_behind new) groups.old }
-    requires cinds { CanFollow ⟦<C as Watch>⟧ table row (ids_behind old) (ids_behind new) cinds.old }
-    ensures groups { OnOk result (Follow ⟦<G as Watch>⟧ table row (ids_behind old.entry) (ids_behind new.entry) groups.old groups.new) }
-    ensures cinds { OnOk result (Follow ⟦<C as Watch>⟧ table row (ids_behind old.entry) (ids_behind new.entry) cinds.old cinds.new) }
-    ensures refused { OnErr result (AreTheSame ⟦<G as Watch>⟧ groups.old groups.new × AreTheSame ⟦<C as Watch>⟧ cinds.old cinds.new) }
-    ensures lost { ids_behind new.entry ≡ None → result ≡ Ok tt }
-    ensures made { AreMadeAlike ⟦<G as Watch>⟧ groups.old groups.new × AreMadeAlike ⟦<C as Watch>⟧ cinds.old cinds.new }
-    ensures probes { steps.new ≤ steps.old + 2 * (sum_by (probes_of ⟦<G as Watch>⟧ table) groups.old + sum_by (probes_of ⟦<C as Watch>⟧ table) cinds.old) }
-{
-    match (old, new) {
-        (None, None) => Ok(()),
-        (Some(old), None) => {
-            lose(groups, cinds, table, row, old, None, steps);
-            Ok(())
-        }
-        (None, Some(new)) => gain(groups, cinds, table, row, None, new, steps),
-        (Some(old), Some(new)) => {
-            gain(groups, cinds, table, row, Some(old), new, steps)?;
-            lose(groups, cinds, table, row, old, Some(new), steps);
-            Ok(())
-        }
-    }
-}
 
 /// Adds what the row gives with the new tuple.
 pub(crate) fn gain<G: Watch, C: Watch, L: Ledger>(

@@ -14,12 +14,6 @@ mod matching;
 mod row_lines;
 
 pub use all_indexes::AllIndexes;
-pub use following::follow;
 pub use ids::{dependency_by_ids, inclusion_by_ids};
 pub use index::BenchIndex;
 pub use masters::master_lists;
-
-#[cfg(test)]
-mod beside_scans;
-#[cfg(test)]
-mod master_tests;

@@ -4,8 +4,8 @@ ghost use Rattle.call_words.specs.Words.{HasForm, IsFit, form_of, generate_form,
 
 use crate::numbers::number_within;
 use crate::words::{read_one, read_three, read_two};
-use schema_core::Text;
 use std::alloc::{AllocError, Global};
+use text_lists::Text;
 
 /// What the words ask for, with the words after the first.
 #[derive(Debug, Drop)]

@@ -7,6 +7,3 @@ mod numbers;
 mod words;
 
 pub use form::{Form, form_of};
-
-#[cfg(test)]
-mod tests;

@@ -4,7 +4,7 @@ ghost use Rattle.std.specs.Char.{is_ascii_digit};
 ghost use Rattle.std.specs.List.{list_all};
 ghost use Rattle.call_words.specs.Words.{is_number, number_within};
 
-use schema_core::Text;
+use text_lists::Text;
 
 /// The number that a word spells, where it isn't below `least` and not above `most`.
 pub fn number_within(least: u64, most: u64, word: &Text) -> Option<u64>

@@ -6,8 +6,8 @@ ghost use Rattle.clap.specs.Words.{app_of, kind_of, rule_of};
 
 use clap::error::ErrorKind;
 use clap::{Arg, Command, Error};
-use schema_core::Text;
 use std::alloc::{AllocError, Global};
+use text_lists::Text;
 
 /// The word after the first.
 pub fn read_one(alloc: Global, name: &Text, project: &Text) -> Result<Text, AllocError>

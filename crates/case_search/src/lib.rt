@@ -17,6 +17,3 @@ mod step;
 
 pub use bound::enough;
 pub use search::{Found, decide};
-
-#[cfg(test)]
-mod tests;

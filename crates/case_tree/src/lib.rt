@@ -19,8 +19,3 @@ pub use clauses::{Clauses, Literal, VarCell};
 pub use reasons::holds;
 pub use trail::Trail;
 pub use tree::{Node, Reason, Tree};
-
-#[cfg(test)]
-mod tests;
-#[cfg(test)]
-mod uses;

@@ -5,7 +5,7 @@ use Rattle.std.proofs.lemmas.Bool.{cases_Bool, false≢true}
 use Rattle.std.proofs.lemmas.List.Folds.{list_any_at, Any-from_list_any}
 use Rattle.std.proofs.lemmas.Slice.Eq.{bytes_eq-Decides}
 use Rattle.std.proofs.lemmas.Option.{slice_get-get_or, slice_get_within, get_or_from_slice_get}
-use Rattle.schema_core.specs.Repeats.{is_among}
+use Rattle.text_lists.specs.Repeats.{is_among}
 use Rattle.value_pool.specs.Pool.{HasId, IsNew}
 
 pub bytes_same : (text : List ℕ) → bytes_eq text text ≡ true

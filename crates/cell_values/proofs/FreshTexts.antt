@@ -4,7 +4,7 @@ use Rattle.std.specs.Prelude.{unwrap_or}
 use Rattle.std.specs.List.{range_with_len}
 use Rattle.std.specs.Option.{option_map}
 use Rattle.std.specs.Str.{bytes_eq}
-use Rattle.schema_core.specs.Repeats.{is_among}
+use Rattle.text_lists.specs.Repeats.{is_among}
 use Rattle.cell_values.specs.Fresh.{tildes, longest, fresh_past, IsFreshPast}
 use Rattle.cell_values.proofs.Lists.{find-map, find_range_first}
 use Rattle.cell_values.proofs.Among.{among_if_Contains, not_among}

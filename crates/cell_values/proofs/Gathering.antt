@@ -6,7 +6,7 @@ use Rattle.std.specs.Str.{bytes_eq}
 use Rattle.std.proofs.lemmas.List.{append-nil, append_assoc, drop_more, length-append, get_or_append_left, get_or_at, map-id, map-append}
 use Rattle.std.proofs.lemmas.List.FromFn.{map-range_with_len_more}
 use Rattle.std.proofs.lemmas.List.Elements.{filter-append}
-use Rattle.schema_core.specs.Repeats.{AreDistinct, is_among}
+use Rattle.text_lists.specs.Repeats.{AreDistinct, is_among}
 use Rattle.cfd_semantics.specs.declared.pattern.Pattern.{Pattern}
 use Rattle.rule_model.specs.Books.{is_set}
 use Rattle.rule_model.specs.Declarations.{constants_of}

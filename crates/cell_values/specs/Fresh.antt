@@ -2,7 +2,7 @@
 use Rattle.std.specs.Prelude.{◌≡◌, ℕ, ◌+◌, ◌<◌, ◌≤◌, max, not, List, [], ◌∷◌, length, replicate, map, find, Contains, unwrap_or}
 use Rattle.std.specs.List.{range_with_len}
 use Rattle.std.specs.Str.{bytes_eq}
-use Rattle.schema_core.specs.Repeats.{is_among}
+use Rattle.text_lists.specs.Repeats.{is_among}
 
 -- the text of so many tildes
 abbrev pub tildes : ℕ → List ℕ

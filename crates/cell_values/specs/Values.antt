@@ -3,7 +3,7 @@ use Rattle.std.specs.Prelude.{ℕ, ◌+◌, ◌^◌, ◌<◌, Bool, true, false,
 use Rattle.std.specs.Option.{option_map_or}
 use Rattle.std.specs.List.{flat_map, list_any, range_with_len, sum_by, count_by}
 use Rattle.std.specs.Str.{bytes_eq}
-use Rattle.schema_core.specs.Repeats.{is_among}
+use Rattle.text_lists.specs.Repeats.{is_among}
 use Rattle.schema_core.specs.Lookups.{domain_at}
 use Rattle.schema_core.specs.declared.schema.Attr.{Attr}
 use Rattle.schema_core.specs.declared.schema.Domain.{Domain}

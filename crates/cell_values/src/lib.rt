@@ -14,6 +14,3 @@ pub use literals::{push_meets, push_misses};
 pub use standing::{chosen, chosen_text};
 pub use table_rules::{Rule, TableRules};
 pub use values::{CellValues, attrs_before, cell_of, occurring, values_before};
-
-#[cfg(test)]
-mod tests;

@@ -6,7 +6,7 @@ use Rattle.std.specs.Str.{bytes_eq}
 use Rattle.std.proofs.lemmas.List.{length-map}
 use Rattle.std.proofs.lemmas.List.Elements.{All-from_recursion}
 use Rattle.std.proofs.lemmas.List.Quantifiers.{position-Some}
-use Rattle.schema_core.specs.Firsts.{first_of}
+use Rattle.text_lists.specs.Firsts.{first_of}
 use Rattle.schema_core.specs.Lookups.{attrs_at}
 use Rattle.schema_core.specs.Schemas.{table_place}
 use Rattle.schema_core.specs.declared.schema.Attr.{Attr}

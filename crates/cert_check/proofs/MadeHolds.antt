@@ -11,7 +11,7 @@ use Rattle.cert_text.specs.Written.{IsBudget}
 use Rattle.std.proofs.lemmas.List.{length-map}
 use Rattle.std.proofs.lemmas.List.Elements.{All-from_recursion, recursion_from_All}
 use Rattle.schema_core.specs.Lookups.{attrs_at, domain_at}
-use Rattle.schema_core.specs.Names.{IsName, IsConstant}
+use Rattle.text_lists.specs.Names.{IsName, IsConstant}
 use Rattle.schema_core.specs.declared.schema.Domain.{Domain}
 use Rattle.cfd_semantics.specs.declared.pattern.Pattern.{Pattern}
 use Rattle.cfd_semantics.specs.declared.pattern.Pattern.TheVariants as patterns

@@ -6,7 +6,7 @@ use Rattle.std.specs.Str.{bytes_eq}
 use Rattle.std.proofs.lemmas.Bool.{cases_Bool}
 use Rattle.std.proofs.lemmas.List.Elements.{recursion_from_All}
 use Rattle.std.proofs.lemmas.Slice.Eq.{bytes_eq-Decides}
-use Rattle.schema_core.specs.Repeats.{AreDistinct}
+use Rattle.text_lists.specs.Repeats.{AreDistinct}
 use Rattle.schema_core.specs.Schemas.{names_of_attrs}
 use Rattle.schema_core.specs.Lookups.{attr_number}
 use Rattle.schema_core.specs.declared.schema.Attr.{Attr}

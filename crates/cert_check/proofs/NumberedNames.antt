@@ -7,7 +7,7 @@ use Rattle.std.proofs.lemmas.List.Elements.{recursion_from_All}
 use Rattle.std.proofs.lemmas.List.FromFn.{get_or-range_with_len, length-range_with_len}
 use Rattle.std.proofs.lemmas.Option.{slice_get-get_or}
 use Rattle.schema_core.specs.Lookups.{domain_at}
-use Rattle.schema_core.specs.Repeats.{AreDistinct}
+use Rattle.text_lists.specs.Repeats.{AreDistinct}
 use Rattle.schema_core.specs.Schemas.{IsValidAttr, IsValidDomain, names_of_attrs}
 use Rattle.schema_core.specs.declared.schema.Attr.{Attr}
 use Rattle.schema_core.specs.declared.schema.Domain.TheVariants.{AnyText}

@@ -23,7 +23,7 @@ use Rattle.cfd_implication.specs.declared.answer.Implication.{Implication}
 use Rattle.cfd_implication.specs.declared.answer.Implication.TheVariants as told
 use Rattle.cert_text.specs.Written.{IsBudget}
 use Rattle.cert_text.specs.CertText.{node_parts}
-use Rattle.schema_core.specs.Spelling.{file_text}
+use Rattle.line_grammar.specs.Spelling.{file_text}
 use Rattle.cert_text.specs.Canonical.{witness_cert, counter_cert, case_cert}
 use Rattle.cert_text.specs.declared.cert.Question.{Question}
 use Rattle.cert_text.specs.declared.cert.Question.TheVariants.{Consistent, Implies}

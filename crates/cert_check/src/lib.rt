@@ -17,6 +17,3 @@ pub use check::check_cert;
 pub use made::{cert_of_consistency, cert_of_implication};
 pub use tree_lines::tree_text;
 pub use verdict::CertVerdict;
-
-#[cfg(test)]
-mod tests;

@@ -3,7 +3,7 @@
 ghost use Rattle.std.specs.Prelude.{◌≡◌, ◌+◌, ◌<◌, All, IsSome, Some, Ok, [], length, map, IfOk, IfSome, IsSomeAnd};
 ghost use Rattle.std.specs.Str.{IsUtf8};
 ghost use Rattle.schema_core.specs.Lookups.{attrs_at};
-ghost use Rattle.schema_core.specs.Names.{IsName};
+ghost use Rattle.text_lists.specs.Names.{IsName};
 ghost use Rattle.schema_core.specs.Schemas.{table_place};
 ghost use Rattle.cert_text.specs.declared.answers.Kind.{Kind as AnyKind};
 ghost use Rattle.case_tree.specs.CaseTree.{leaf_count};

@@ -1,7 +1,7 @@
 //! The names at places among those of one attribute.
 
 ghost use Rattle.std.specs.Prelude.{◌≡◌, ◌+◌, ◌*◌, ◌^◌, ◌<◌, Some, length, slice_get, IfOk, IfSome};
-ghost use Rattle.schema_core.specs.Names.{IsName};
+ghost use Rattle.text_lists.specs.Names.{IsName};
 ghost use Rattle.cert_text.specs.Written.{IsOfKind, IsCellOf, IsVarOf};
 ghost use Rattle.cert_check.specs.Names.{cell_name, value_vars, attr_vars, value_cells, attr_cells};
 ghost use Rattle.cert_text.specs.declared.answers.Kind.TheVariants.{Implication};

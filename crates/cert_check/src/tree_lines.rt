@@ -2,7 +2,7 @@
 
 ghost use Rattle.std.specs.Prelude.{◌≡◌, ◌++◌, All, map, IfOk, OnOk};
 ghost use Rattle.schema_core.specs.Schemas.{IsValidSchema};
-ghost use Rattle.schema_core.specs.Spelling.{file_text};
+ghost use Rattle.line_grammar.specs.Spelling.{file_text};
 ghost use Rattle.rule_model.specs.Rules.{IsValidDep};
 ghost use Rattle.cert_text.specs.CertText.{node_parts};
 ghost use Rattle.cert_check.specs.Made.{HaveNames, IsRightTree, IsTreeText};

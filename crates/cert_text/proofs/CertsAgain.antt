@@ -7,14 +7,14 @@ use Rattle.std.proofs.lemmas.List.{append-nil}
 use Rattle.std.proofs.lemmas.List.Elements.{recursion_from_All}
 use Rattle.case_tree.specs.declared.tree.Node.{Node}
 use Rattle.case_tree.proofs.Preorder.{AreTrees, AreTrees-from_tree}
-use Rattle.schema_core.specs.Faults.{◌>>=◌}
-use Rattle.schema_core.specs.FileLines.{found_at}
-use Rattle.schema_core.specs.Groups.{in_turn, read_lines}
-use Rattle.schema_core.specs.Lines.{lines}
-use Rattle.schema_core.specs.TokenLists.{Reader, none_after}
-use Rattle.schema_core.specs.Spelling.{tokens_in, file_text, IsReadable}
-use Rattle.schema_core.specs.declared.writing.Part.{Part}
-use Rattle.schema_core.proofs.WrittenFiles.{written_line, written_lines, file_lines-written}
+use Rattle.line_grammar.specs.Faults.{◌>>=◌}
+use Rattle.line_grammar.specs.FileLines.{found_at}
+use Rattle.line_grammar.specs.Groups.{in_turn, read_lines}
+use Rattle.line_grammar.specs.Lines.{lines}
+use Rattle.line_grammar.specs.TokenLists.{Reader, none_after}
+use Rattle.line_grammar.specs.Spelling.{tokens_in, file_text, IsReadable}
+use Rattle.line_grammar.specs.declared.writing.Part.{Part}
+use Rattle.line_grammar.proofs.WrittenFiles.{written_line, written_lines, file_lines-written}
 use Rattle.cert_text.specs.declared.answers.Kind.{Kind}
 use Rattle.cert_text.specs.declared.answers.Draft.TheVariants as draft
 use Rattle.cert_text.specs.declared.answers.AnswerLine.{AnswerLine}

@@ -6,13 +6,13 @@ use Rattle.std.specs.Str.{IsUtf8}
 use Rattle.std.proofs.lemmas.Bool.{le-leb}
 use Rattle.std.proofs.lemmas.List.{append-nil}
 use Rattle.std.proofs.lemmas.List.Elements.{recursion_from_All}
-use Rattle.schema_core.specs.Names.{IsName}
-use Rattle.schema_core.specs.Phrases.{text_at}
-use Rattle.schema_core.specs.TokenLists.{list1_at}
-use Rattle.schema_core.specs.declared.tokens.Token.TheVariants.{Name}
-use Rattle.schema_core.specs.declared.writing.Part.TheVariants.{Space}
-use Rattle.schema_core.specs.Spelling.{tokens_in, AreApart, IsReadable, comma_separated, spaced_list}
-use Rattle.schema_core.proofs.PartLemmas.{tokens_in-spaced, AreGood, AreGood-append, AreGood-spaced, IsLoose-nil, IsLoose-spaced, AreReadAgain, list1_at-written}
+use Rattle.text_lists.specs.Names.{IsName}
+use Rattle.line_grammar.specs.Phrases.{text_at}
+use Rattle.line_grammar.specs.TokenLists.{list1_at}
+use Rattle.line_grammar.specs.declared.tokens.Token.TheVariants.{Name}
+use Rattle.line_grammar.specs.declared.writing.Part.TheVariants.{Space}
+use Rattle.line_grammar.specs.Spelling.{tokens_in, AreApart, IsReadable, comma_separated, spaced_list}
+use Rattle.line_grammar.proofs.PartLemmas.{tokens_in-spaced, AreGood, AreGood-append, AreGood-spaced, IsLoose-nil, IsLoose-spaced, AreReadAgain, list1_at-written}
 use Rattle.cfd_semantics.specs.declared.pattern.Pattern.{Pattern}
 use Rattle.rule_model.specs.declared.decl.CfdDecl.{CfdDecl}
 use Rattle.rule_model.specs.declared.decl.CfdRow.{CfdRow}

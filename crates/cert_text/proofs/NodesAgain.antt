@@ -1,13 +1,13 @@
 -- Cells, variables and nodes that are written so are read again.
 use Rattle.std.proofs.Common.{◌≡◌, ℕ, List, [], ◌∷◌, ◌++◌, Some, None, refl, arith}
 use Rattle.std.proofs.lemmas.Bool.{le-leb}
-use Rattle.schema_core.specs.declared.tokens.Mark.TheVariants.{Equals}
-use Rattle.schema_core.specs.declared.tokens.Token.{Token}
-use Rattle.schema_core.specs.declared.writing.Part.{Part}
-use Rattle.schema_core.specs.declared.writing.Part.TheVariants.{Space}
-use Rattle.schema_core.specs.Names.{IsName}
-use Rattle.schema_core.specs.Spelling.{tokens_in, AreApart, IsReadable, name, text, mark}
-use Rattle.schema_core.proofs.PartLemmas.{tokens_then, AreGood, AreGood-append, AreApart-append, IsLoose-space}
+use Rattle.line_grammar.specs.declared.tokens.Mark.TheVariants.{Equals}
+use Rattle.line_grammar.specs.declared.tokens.Token.{Token}
+use Rattle.line_grammar.specs.declared.writing.Part.{Part}
+use Rattle.line_grammar.specs.declared.writing.Part.TheVariants.{Space}
+use Rattle.text_lists.specs.Names.{IsName}
+use Rattle.line_grammar.specs.Spelling.{tokens_in, AreApart, IsReadable, name, text, mark}
+use Rattle.line_grammar.proofs.PartLemmas.{tokens_then, AreGood, AreGood-append, AreApart-append, IsLoose-space}
 use Rattle.cert_text.specs.declared.answers.Kind.{Kind}
 use Rattle.cert_text.specs.declared.answers.Kind.TheVariants.{Consistency, Implication}
 use Rattle.cert_text.specs.declared.names.Which.{Which}

@@ -2,7 +2,7 @@
 use Rattle.std.proofs.Common.{◌≡◌, ℕ, List, ◌++◌, sym, ap, ◌∙◌, append_assoc, Ok, Err}
 use Rattle.std.specs.Prelude.{codes, Result, OnOk}
 use Rattle.std.specs.declared.alloc.AllocError.{AllocError}
-use Rattle.schema_core.specs.Spelling.{line_text}
+use Rattle.line_grammar.specs.Spelling.{line_text}
 use Rattle.rule_parser.specs.RuleText.{attr_parts}
 use Rattle.cert_text.specs.declared.cert.Question.{Question}
 use Rattle.cert_text.specs.declared.cert.Question.TheVariants.{Consistent}

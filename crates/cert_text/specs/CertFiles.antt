@@ -1,12 +1,12 @@
 -- Certificate files: the certificate that one spells, or its first faulty line. Lines come in order: a question, an answer,
 -- and behind it a second tuple or the nodes of one tree in preorder. No line follows, and none is missing.
 use Rattle.std.specs.Prelude.{ℕ, ◌+◌, ◌-◌, List, [], ◌∷◌, ◌++◌, length, Option, Some, None, Ok, if◌then◌else◌, ◌==◌}
-use Rattle.schema_core.specs.Faults.{Causes, Reading, faulty, ◌>>=◌}
-use Rattle.schema_core.specs.FileLines.{read_line}
-use Rattle.schema_core.specs.Groups.{read_lines}
-use Rattle.schema_core.specs.Lines.{lines}
-use Rattle.schema_core.specs.TokenLists.{Reader, none_after}
-use Rattle.schema_core.specs.declared.line.Line.{Line}
+use Rattle.line_grammar.specs.Faults.{Causes, Reading, faulty, ◌>>=◌}
+use Rattle.line_grammar.specs.FileLines.{read_line}
+use Rattle.line_grammar.specs.Groups.{read_lines}
+use Rattle.line_grammar.specs.Lines.{lines}
+use Rattle.line_grammar.specs.TokenLists.{Reader, none_after}
+use Rattle.line_grammar.specs.declared.line.Line.{Line}
 use Rattle.cert_text.specs.declared.answers.AnswerLine.{AnswerLine}
 use Rattle.cert_text.specs.declared.answers.AnswerLine.TheVariants.{Values, Closed, Spent}
 use Rattle.cert_text.specs.declared.answers.Kind.{Kind}

@@ -18,11 +18,11 @@
 -- or 2.ATTR. NUMBER is a number from 1, BUDGET one from 1 to 1,000,000, and VALUE a text.
 use Rattle.std.specs.Prelude.{ℕ, Bool, List, Option, Some, None, if◌then◌else◌, ◌==◌, ◌&&◌, nat_le, codes}
 use Rattle.std.specs.Str.{bytes_eq}
-use Rattle.schema_core.specs.Phrases.{◌>>=◌, name_at, number_at, text_at, after_word, only_if}
-use Rattle.schema_core.specs.Marks.{after_mark}
-use Rattle.schema_core.specs.TokenLists.{Reader, list1_at}
-use Rattle.schema_core.specs.declared.tokens.Mark.TheVariants.{Equals, Dot}
-use Rattle.schema_core.specs.declared.tokens.Token.{Token}
+use Rattle.line_grammar.specs.Phrases.{◌>>=◌, name_at, number_at, text_at, after_word, only_if}
+use Rattle.line_grammar.specs.Marks.{after_mark}
+use Rattle.line_grammar.specs.TokenLists.{Reader, list1_at}
+use Rattle.line_grammar.specs.declared.tokens.Mark.TheVariants.{Equals, Dot}
+use Rattle.line_grammar.specs.declared.tokens.Token.{Token}
 use Rattle.rule_parser.specs.RuleLines.{said, dep_at}
 use Rattle.cert_text.specs.declared.answers.AnswerLine.{AnswerLine}
 use Rattle.cert_text.specs.declared.answers.AnswerLine.TheVariants.{Values, Closed, Spent}

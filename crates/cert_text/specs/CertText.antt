@@ -3,10 +3,10 @@
 -- and `.`.
 use Rattle.std.specs.Prelude.{ℕ, List, [], ◌∷◌, ◌++◌, map, Option, Some, None, codes}
 use Rattle.std.specs.List.{flat_map}
-use Rattle.schema_core.specs.Spelling.{name, number, text, mark, spaced_list, file_text}
-use Rattle.schema_core.specs.declared.tokens.Mark.TheVariants.{Equals, Dot}
-use Rattle.schema_core.specs.declared.writing.Part.{Part}
-use Rattle.schema_core.specs.declared.writing.Part.TheVariants.{Space}
+use Rattle.line_grammar.specs.Spelling.{name, number, text, mark, spaced_list, file_text}
+use Rattle.line_grammar.specs.declared.tokens.Mark.TheVariants.{Equals, Dot}
+use Rattle.line_grammar.specs.declared.writing.Part.{Part}
+use Rattle.line_grammar.specs.declared.writing.Part.TheVariants.{Space}
 use Rattle.rule_model.specs.declared.decl.CfdDecl.{CfdDecl}
 use Rattle.rule_model.specs.declared.decl.CfdRow.{CfdRow}
 use Rattle.rule_parser.specs.RuleText.{value_parts, cfd_parts, cfd_row_line}

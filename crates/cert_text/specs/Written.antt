@@ -5,7 +5,7 @@ use Rattle.case_tree.specs.CaseTree.{CaseTree, IsOneTree, preorder}
 use Rattle.case_tree.specs.declared.tree.Node.{Node}
 use Rattle.case_tree.specs.declared.tree.Node.TheVariants as shape
 use Rattle.case_tree.specs.declared.tree.Reason.TheVariants as reasons
-use Rattle.schema_core.specs.Names.{IsName}
+use Rattle.text_lists.specs.Names.{IsName}
 use Rattle.rule_parser.specs.ReadRules.{IsDepDecl}
 use Rattle.cert_text.specs.declared.answers.AnswerLine.{AnswerLine}
 use Rattle.cert_text.specs.declared.answers.AnswerLine.TheVariants.{Values, Closed, Spent}

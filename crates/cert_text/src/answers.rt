@@ -1,7 +1,7 @@
 //! The kinds of questions, the first line of an answer, and what was read of a certificate so far.
 
 use crate::cert::{Asked, CertParts, TreeLines, TupleLine};
-use schema_core::Texts;
+use text_lists::Texts;
 
 /// Whether a question is about one tuple or about two.
 #[derive(Clone, Copy, Debug, PartialEq, Eq)]

@@ -5,8 +5,8 @@ ghost use Rattle.cert_text.specs.Written.{IsWrittenCert};
 
 use crate::names::NodeName;
 use rule_model::CfdDecl;
-use schema_core::{List, Text, Texts};
 use std::marker::Model;
+use text_lists::{List, Text, Texts};
 
 /// Whether the rules of a table are consistent, or imply a dependency. It is a declaration without a name, of one attribute
 /// on the right and one tableau row.

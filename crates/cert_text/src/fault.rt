@@ -2,7 +2,7 @@
 
 ghost use Rattle.cert_text.specs.CertFiles.{cert_causes};
 
-use schema_core::{LineCause, LineFault};
+use line_grammar::{LineCause, LineFault};
 
 /// What is wrong with a line of a certificate file.
 #[derive(Clone, Copy, Debug, PartialEq, Eq)]

@@ -18,8 +18,3 @@ pub use fault::{CertCause, CertFault};
 pub use names::{CellName, NodeName, ReasonName, VarName, Which};
 pub use parse::parse_cert;
 pub use print::{print_cert, push_cert, push_node};
-
-#[cfg(test)]
-mod tests;
-#[cfg(test)]
-mod written_certs;

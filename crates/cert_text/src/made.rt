@@ -2,7 +2,7 @@
 
 ghost use Rattle.std.specs.Prelude.{◌≡◌, IfOk, IfSome, All, map};
 ghost use Rattle.case_tree.specs.CaseTree.{IsOneTree};
-ghost use Rattle.schema_core.specs.Names.{IsName};
+ghost use Rattle.text_lists.specs.Names.{IsName};
 ghost use Rattle.cert_text.specs.Canonical.{node_lines, HasCanonicalLines, asked_first, witness_cert, counter_cert, case_cert};
 ghost use Rattle.cert_text.specs.CertFiles.{kind_of};
 ghost use Rattle.rule_parser.specs.ReadRules.{IsDepDecl};
@@ -11,8 +11,8 @@ ghost use Rattle.cert_text.specs.Written.{AreTexts, IsQuestion, IsBudget, IsNode
 use crate::cert::{Answer, Asked, Cert, CertParts, NodeLine, Question, TreeLines, TupleLine};
 use crate::names::NodeName;
 use rule_model::CfdDecl;
-use schema_core::{List, Text, Texts};
 use std::alloc::{AllocError, Global};
+use text_lists::{List, Text, Texts};
 
 /// The nodes, one on a line behind the question and the answer.
 fn node_lines(alloc: Global, nodes: List<NodeName>) -> Result<List<NodeLine>, AllocError>

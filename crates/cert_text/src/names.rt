@@ -1,6 +1,6 @@
 //! The parts of a tree of cases by their names.
 
-use schema_core::Text;
+use text_lists::Text;
 
 /// Whose value: that of the one tuple which a question of consistency is about, or of one of the two tuples which a
 /// question of implication is about.

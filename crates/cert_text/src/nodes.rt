@@ -1,7 +1,7 @@
 //! The nodes of a tree, one on a line.
 
 ghost use Rattle.std.specs.Prelude.{IfOk};
-ghost use Rattle.schema_core.specs.Phrases.{Reads};
+ghost use Rattle.line_grammar.specs.Phrases.{Reads};
 ghost use Rattle.cert_text.specs.CertLines.{clause_at, two_at, reason_for, reason_at, node_for, node_at};
 ghost use Rattle.cert_text.specs.Written.{IsReasonOf, IsNodeOf};
 ghost use Rattle.cert_text.specs.declared.answers.Kind.TheVariants.{Consistency, Implication};
@@ -9,8 +9,9 @@ ghost use Rattle.cert_text.specs.declared.answers.Kind.TheVariants.{Consistency,
 use crate::answers::Kind;
 use crate::names::{NodeName, ReasonName};
 use crate::variables::{cell_at, var_at};
-use schema_core::{Phrase, Text, Tokens, Unread};
+use line_grammar::{Phrase, Tokens, Unread};
 use std::alloc::Global;
+use text_lists::Text;
 
 /// The greatest number that can be written.
 pub const MOST_CLAUSES: u64 = 999_999_999_999;
@@ -21,7 +22,7 @@ pub struct OneTupleNode;
 /// A node of a tree over two tuples.
 pub struct TwoTuplesNode;
 
-fn clause_at(kind: Kind, tokens: &mut Tokens) -> Result<ReasonName, Unread>
+fn clause_at(kind: Kind, tokens: &mut Tokens<'_>) -> Result<ReasonName, Unread>
     ensures exact { Reads clause_at tokens.old tokens.new result }
     ensures fit { IfOk result (IsReasonOf kind) }
 {
@@ -32,7 +33,7 @@ fn clause_at(kind: Kind, tokens: &mut Tokens) -> Result<ReasonName, Unread>
     Ok(ReasonName::Clause(number))
 }
 
-fn two_at(kind: Kind, tokens: &mut Tokens) -> Result<ReasonName, Unread>
+fn two_at(kind: Kind, tokens: &mut Tokens<'_>) -> Result<ReasonName, Unread>
     ensures exact { Reads (two_at kind) tokens.old tokens.new result }
     ensures fit { IfOk result (IsReasonOf kind) }
 {
@@ -41,7 +42,7 @@ fn two_at(kind: Kind, tokens: &mut Tokens) -> Result<ReasonName, Unread>
     Ok(ReasonName::Two(one, other))
 }
 
-fn reason_for(kind: Kind, word: &Text, tokens: &mut Tokens) -> Result<ReasonName, Unread>
+fn reason_for(kind: Kind, word: &Text, tokens: &mut Tokens<'_>) -> Result<ReasonName, Unread>
     ensures exact { Reads (reason_for kind word.now) tokens.old tokens.new result }
     ensures fit { IfOk result (IsReasonOf kind) }
 {
@@ -56,7 +57,7 @@ fn reason_for(kind: Kind, word: &Text, tokens: &mut Tokens) -> Result<ReasonName
     }
 }
 
-fn reason_at(kind: Kind, tokens: &mut Tokens) -> Result<ReasonName, Unread>
+fn reason_at(kind: Kind, tokens: &mut Tokens<'_>) -> Result<ReasonName, Unread>
     ensures exact { Reads (reason_at kind) tokens.old tokens.new result }
     ensures fit { IfOk result (IsReasonOf kind) }
 {
@@ -64,7 +65,7 @@ fn reason_at(kind: Kind, tokens: &mut Tokens) -> Result<ReasonName, Unread>
     reason_for(kind, &word, tokens)
 }
 
-fn node_for(kind: Kind, word: &Text, tokens: &mut Tokens) -> Result<NodeName, Unread>
+fn node_for(kind: Kind, word: &Text, tokens: &mut Tokens<'_>) -> Result<NodeName, Unread>
     ensures exact { Reads (node_for kind word.now) tokens.old tokens.new result }
     ensures fit { IfOk result (IsNodeOf kind) }
 {
@@ -80,7 +81,7 @@ fn node_for(kind: Kind, word: &Text, tokens: &mut Tokens) -> Result<NodeName, Un
 }
 
 #[tactic(auto, unfolding(crate::specs::CertLines::node_at))]
-fn node_at(kind: Kind, tokens: &mut Tokens) -> Result<NodeName, Unread>
+fn node_at(kind: Kind, tokens: &mut Tokens<'_>) -> Result<NodeName, Unread>
     ensures exact { Reads (node_at kind) tokens.old tokens.new result }
     ensures fit { IfOk result (IsNodeOf kind) }
 {
@@ -95,7 +96,7 @@ impl Phrase for OneTupleNode {
 
     ghost is_fit = { IsNodeOf Consistency };
 
-    fn take(_alloc: Global, tokens: &mut Tokens) -> Result<NodeName, Unread> {
+    fn take(_alloc: Global, tokens: &mut Tokens<'_>) -> Result<NodeName, Unread> {
         node_at(Kind::Consistency, tokens)
     }
 }
@@ -107,7 +108,7 @@ impl Phrase for TwoTuplesNode {
 
     ghost is_fit = { IsNodeOf Implication };
 
-    fn take(_alloc: Global, tokens: &mut Tokens) -> Result<NodeName, Unread> {
+    fn take(_alloc: Global, tokens: &mut Tokens<'_>) -> Result<NodeName, Unread> {
         node_at(Kind::Implication, tokens)
     }
 }

@@ -1,12 +1,12 @@
 //! A certificate file as a certificate.
 
 ghost use Rattle.std.specs.Prelude.{⊤, ◌≡◌, ◌+◌, ◌≤◌, length, IfOk, IfErr};
-ghost use Rattle.schema_core.specs.Faults.{IsUnlessMemory, line_tells};
-ghost use Rattle.schema_core.specs.Lines.{lines};
+ghost use Rattle.line_grammar.specs.Faults.{IsUnlessMemory, line_tells};
+ghost use Rattle.line_grammar.specs.Lines.{lines};
 ghost use Rattle.cert_text.specs.CertLines.{answer_at, node_at};
 ghost use Rattle.cert_text.specs.CertFiles.{kind_of, read_whole, with_tuple, with_answer, with_line, whole, missing_behind, reads_cert};
 ghost use Rattle.cert_text.specs.Written.{IsQuestion, IsAnswerLine, IsNodeOf, IsTreeOf, IsDraft, IsWrittenCert, AreTexts};
-ghost use Rattle.schema_core.specs.declared.fault.LineFault.TheVariants.{Memory};
+ghost use Rattle.line_grammar.specs.declared.fault.LineFault.TheVariants.{Memory};
 ghost use Rattle.cert_text.specs.declared.answers.Draft.TheVariants.{Nodes};
 ghost use Rattle.cert_text.specs.declared.answers.Draft.{Draft as AnyDraft};
 
@@ -16,9 +16,10 @@ use crate::fault::{CertCause, CertFault};
 use crate::names::NodeName;
 use crate::nodes::{OneTupleNode, TwoTuplesNode};
 use crate::questions::{ConsistencyAnswer, ImplicationAnswer, NoLine, QuestionLine, SecondTuple};
-use schema_core::{Gather, Line, List, read_lines, split_line};
+use line_grammar::{Gather, Line, read_lines, split_line};
 use std::alloc::Global;
 use std::mem;
+use text_lists::List;
 
 /// Whether the question is about one tuple or about two.
 pub fn kind_of(question: &Question) -> Kind
@@ -30,8 +31,8 @@ pub fn kind_of(question: &Question) -> Kind
     }
 }
 
-fn read_answer(alloc: Global, kind: Kind, line: Line) -> Result<AnswerLine, CertFault>
-    ensures exact { IsUnlessMemory line_tells (read_whole (answer_at kind) line) result }
+fn read_answer(alloc: Global, kind: Kind, line: Line<'_>) -> Result<AnswerLine, CertFault>
+    ensures exact { IsUnlessMemory line_tells (read_whole (answer_at kind) line.entry) result }
     ensures fit { IfOk result IsAnswerLine }
 {
     match kind {
@@ -40,8 +41,8 @@ fn read_answer(alloc: Global, kind: Kind, line: Line) -> Result<AnswerLine, Cert
     }
 }
 
-fn read_node(alloc: Global, kind: Kind, line: Line) -> Result<NodeName, CertFault>
-    ensures exact { IsUnlessMemory line_tells (read_whole (node_at kind) line) result }
+fn read_node(alloc: Global, kind: Kind, line: Line<'_>) -> Result<NodeName, CertFault>
+    ensures exact { IsUnlessMemory line_tells (read_whole (node_at kind) line.entry) result }
     ensures fit { IfOk result (IsNodeOf kind) }
 {
     match kind {
@@ -115,11 +116,11 @@ fn with_node(
     asked: Asked,
     mut tree: TreeLines,
     missing: usize,
-    line: Line,
+    line: Line<'_>,
 ) -> Result<Draft, CertFault>
     requires question { IsQuestion asked.question }
     requires tree { IsTreeOf (kind_of asked.question) tree missing }
-    ensures exact { IsUnlessMemory line_tells (with_line (Nodes asked tree missing) line) result }
+    ensures exact { IsUnlessMemory line_tells (with_line (Nodes asked tree missing) line.entry) result }
     ensures fit { IfOk result IsDraft }
 {
     if missing == 0 {
@@ -134,9 +135,9 @@ fn with_node(
 
 /// What was read, with one more line.
 #[tactic(auto, unfolding(crate::specs::CertFiles::with_line))]
-fn with_line(alloc: Global, draft: Draft, line: Line) -> Result<Draft, CertFault>
+fn with_line(alloc: Global, draft: Draft, line: Line<'_>) -> Result<Draft, CertFault>
     requires { IsDraft draft }
-    ensures exact { IsUnlessMemory line_tells (with_line draft line) result }
+    ensures exact { IsUnlessMemory line_tells (with_line draft line.entry) result }
     ensures fit { IfOk result IsDraft }
 {
     let number = line.number;
@@ -168,7 +169,7 @@ fn with_line(alloc: Global, draft: Draft, line: Line) -> Result<Draft, CertFault
     }
 }
 
-impl Gather<Line> for Reader {
+impl<'a> Gather<Line<'a>> for Reader {
     type Cause = CertCause;
 
     ghost Gathered = { AnyDraft };
@@ -183,7 +184,7 @@ impl Gather<Line> for Reader {
 
     ghost is_fit = { λ _. IsDraft };
 
-    fn add(&mut self, alloc: Global, line: Line) -> Result<(), CertFault> {
+    fn add(&mut self, alloc: Global, line: Line<'a>) -> Result<(), CertFault> {
         let draft = mem::replace(&mut self.draft, Draft::Nothing);
         self.draft = with_line(alloc, draft, line)?;
         Ok(())

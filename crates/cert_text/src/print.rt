@@ -2,7 +2,7 @@
 
 ghost use Rattle.std.specs.Prelude.{◌≡◌, ◌++◌, ◌∷◌, [], map, OnOk, IfOk, Ok, decimal};
 ghost use Rattle.std.specs.List.{flat_map};
-ghost use Rattle.schema_core.specs.Spelling.{line_text, file_text};
+ghost use Rattle.line_grammar.specs.Spelling.{line_text, file_text};
 ghost use Rattle.rule_parser.specs.RuleText.{attr_parts};
 ghost use Rattle.cert_text.specs.CertFiles.{reads_cert};
 ghost use Rattle.cert_text.specs.Canonical.{with_canonical_lines};
@@ -14,10 +14,11 @@ use crate::cert::{Answer, Cert, NodeLine, Question};
 use crate::names::{CellName, NodeName, ReasonName, VarName, Which};
 use crate::parse::kind_of;
 use crate::questions::closed_word;
+use line_grammar::{push_number, push_quoted, push_spaced_list};
 use rule_model::{Cell, CfdDecl, CfdRow};
 use rule_parser::{Cells, Values, push_row, push_sides};
-use schema_core::{Text, push_number, push_quoted, push_spaced_list};
 use std::alloc::{AllocError, Global};
+use text_lists::Text;
 
 // ---- nodes
 

@@ -1,17 +1,18 @@
 //! The question of a certificate, and the first lines of its answer.
 
 ghost use Rattle.std.specs.Prelude.{◌≡◌, IfOk, None};
-ghost use Rattle.schema_core.specs.Phrases.{Reads, text_at};
-ghost use Rattle.schema_core.specs.TokenLists.{list1_at};
+ghost use Rattle.line_grammar.specs.Phrases.{Reads, text_at};
+ghost use Rattle.line_grammar.specs.TokenLists.{list1_at};
 ghost use Rattle.cert_text.specs.CertLines.{question_for, question_at, values_word, closed_word, budget_at, answer_for, answer_at, and_at};
 ghost use Rattle.cert_text.specs.Written.{AreTexts, IsQuestion, IsAnswerLine, IsDraft};
 ghost use Rattle.cert_text.specs.declared.answers.Kind.TheVariants.{Consistency, Implication};
 
 use crate::answers::{AnswerLine, Draft, Kind};
 use crate::cert::Question;
+use line_grammar::{Phrase, Quoted, Tokens, Unread};
 use rule_parser::DepLine;
-use schema_core::{Phrase, Quoted, Text, Texts, Tokens, Unread};
 use std::alloc::Global;
+use text_lists::{Text, Texts};
 
 /// The question.
 pub struct QuestionLine;
@@ -28,7 +29,7 @@ pub struct SecondTuple;
 /// Any further line, which may not stand there.
 pub struct NoLine;
 
-fn question_for(alloc: Global, word: &Text, tokens: &mut Tokens) -> Result<Question, Unread>
+fn question_for(alloc: Global, word: &Text, tokens: &mut Tokens<'_>) -> Result<Question, Unread>
     ensures exact { Reads (question_for word.now) tokens.old tokens.new result }
     ensures fit { IfOk result IsQuestion }
 {
@@ -49,7 +50,7 @@ impl Phrase for QuestionLine {
     ghost is_fit = { IsQuestion };
 
     #[tactic(auto, unfolding(crate::specs::CertLines::question_at))]
-    fn take(alloc: Global, tokens: &mut Tokens) -> Result<Question, Unread> {
+    fn take(alloc: Global, tokens: &mut Tokens<'_>) -> Result<Question, Unread> {
         let word = tokens.name()?;
         question_for(alloc, &word, tokens)
     }
@@ -74,14 +75,14 @@ pub fn closed_word(kind: Kind) -> &'static str
     }
 }
 
-fn texts(alloc: Global, tokens: &mut Tokens) -> Result<Texts, Unread>
+fn texts(alloc: Global, tokens: &mut Tokens<'_>) -> Result<Texts, Unread>
     ensures exact { Reads (list1_at text_at) tokens.old tokens.new result }
     ensures fit { IfOk result AreTexts }
 {
     tokens.list1::<Quoted>(alloc)
 }
 
-fn budget(tokens: &mut Tokens) -> Result<AnswerLine, Unread>
+fn budget(tokens: &mut Tokens<'_>) -> Result<AnswerLine, Unread>
     ensures exact { Reads budget_at tokens.old tokens.new result }
     ensures fit { IfOk result IsAnswerLine }
 {
@@ -96,7 +97,7 @@ fn answer_for(
     alloc: Global,
     kind: Kind,
     word: &Text,
-    tokens: &mut Tokens,
+    tokens: &mut Tokens<'_>,
 ) -> Result<AnswerLine, Unread>
     ensures exact { Reads (answer_for kind word.now) tokens.old tokens.new result }
     ensures fit { IfOk result IsAnswerLine }
@@ -113,7 +114,7 @@ fn answer_for(
 }
 
 #[tactic(auto, unfolding(crate::specs::CertLines::answer_at))]
-fn answer_at(alloc: Global, kind: Kind, tokens: &mut Tokens) -> Result<AnswerLine, Unread>
+fn answer_at(alloc: Global, kind: Kind, tokens: &mut Tokens<'_>) -> Result<AnswerLine, Unread>
     ensures exact { Reads (answer_at kind) tokens.old tokens.new result }
     ensures fit { IfOk result IsAnswerLine }
 {
@@ -128,7 +129,7 @@ impl Phrase for ConsistencyAnswer {
 
     ghost is_fit = { IsAnswerLine };
 
-    fn take(alloc: Global, tokens: &mut Tokens) -> Result<AnswerLine, Unread> {
+    fn take(alloc: Global, tokens: &mut Tokens<'_>) -> Result<AnswerLine, Unread> {
         answer_at(alloc, Kind::Consistency, tokens)
     }
 }
@@ -140,7 +141,7 @@ impl Phrase for ImplicationAnswer {
 
     ghost is_fit = { IsAnswerLine };
 
-    fn take(alloc: Global, tokens: &mut Tokens) -> Result<AnswerLine, Unread> {
+    fn take(alloc: Global, tokens: &mut Tokens<'_>) -> Result<AnswerLine, Unread> {
         answer_at(alloc, Kind::Implication, tokens)
     }
 }
@@ -153,7 +154,7 @@ impl Phrase for SecondTuple {
     ghost is_fit = { AreTexts };
 
     #[tactic(auto, unfolding(crate::specs::CertLines::and_at))]
-    fn take(alloc: Global, tokens: &mut Tokens) -> Result<Texts, Unread> {
+    fn take(alloc: Global, tokens: &mut Tokens<'_>) -> Result<Texts, Unread> {
         tokens.word("and")?;
         texts(alloc, tokens)
     }
@@ -166,7 +167,7 @@ impl Phrase for NoLine {
 
     ghost is_fit = { IsDraft };
 
-    fn take(_alloc: Global, _tokens: &mut Tokens) -> Result<Draft, Unread> {
+    fn take(_alloc: Global, _tokens: &mut Tokens<'_>) -> Result<Draft, Unread> {
         Err(Unread::Absent)
     }
 }

@@ -1,13 +1,13 @@
 //! Cells and variables, as they stand in the nodes of a tree.
 
 ghost use Rattle.std.specs.Prelude.{◌≡◌, IfOk};
-ghost use Rattle.schema_core.specs.Phrases.{Reads};
+ghost use Rattle.line_grammar.specs.Phrases.{Reads};
 ghost use Rattle.cert_text.specs.CertLines.{tuple_of, cell_at, value_at, var_at};
 ghost use Rattle.cert_text.specs.Written.{IsCellOf, IsVarOf};
 
 use crate::answers::Kind;
 use crate::names::{CellName, VarName, Which};
-use schema_core::{Mark, Tokens, Unread};
+use line_grammar::{Mark, Tokens, Unread};
 
 fn tuple_of(number: u64) -> Option<Which>
     ensures { result ≡ tuple_of number }
@@ -21,7 +21,7 @@ fn tuple_of(number: u64) -> Option<Which>
 
 /// CELL.
 #[tactic(auto, unfolding(crate::specs::CertLines::cell_at))]
-pub fn cell_at(kind: Kind, tokens: &mut Tokens) -> Result<CellName, Unread>
+pub fn cell_at(kind: Kind, tokens: &mut Tokens<'_>) -> Result<CellName, Unread>
     ensures exact { Reads (cell_at kind) tokens.old tokens.new result }
     ensures fit { IfOk result (IsCellOf kind) }
 {
@@ -42,7 +42,7 @@ pub fn cell_at(kind: Kind, tokens: &mut Tokens) -> Result<CellName, Unread>
 
 /// CELL=VALUE.
 #[tactic(auto, unfolding(crate::specs::CertLines::value_at))]
-fn value_at(kind: Kind, tokens: &mut Tokens) -> Result<VarName, Unread>
+fn value_at(kind: Kind, tokens: &mut Tokens<'_>) -> Result<VarName, Unread>
     ensures exact { Reads (value_at kind) tokens.old tokens.new result }
     ensures fit { IfOk result (IsVarOf kind) }
 {
@@ -54,7 +54,7 @@ fn value_at(kind: Kind, tokens: &mut Tokens) -> Result<VarName, Unread>
 
 /// VAR.
 #[tactic(auto, unfolding(crate::specs::CertLines::var_at))]
-pub fn var_at(kind: Kind, tokens: &mut Tokens) -> Result<VarName, Unread>
+pub fn var_at(kind: Kind, tokens: &mut Tokens<'_>) -> Result<VarName, Unread>
     ensures exact { Reads (var_at kind) tokens.old tokens.new result }
     ensures fit { IfOk result (IsVarOf kind) }
 {

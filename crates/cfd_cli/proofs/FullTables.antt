@@ -6,8 +6,8 @@ use Rattle.std.proofs.lemmas.List.{length-map}
 use Rattle.std.proofs.lemmas.Slice.Zip.{AllZip-long}
 use Rattle.std.proofs.lemmas.List.FromFn.{length-range_with_len}
 use Rattle.std.proofs.lemmas.List.Quantifiers.{position-Some}
-use Rattle.schema_core.specs.Faults.{GivesUnlessMemory}
-use Rattle.schema_core.specs.declared.limits.Limits.{Limits}
+use Rattle.line_grammar.specs.Faults.{GivesUnlessMemory}
+use Rattle.text_lists.specs.declared.limits.Limits.{Limits}
 use Rattle.schema_core.specs.declared.schema.Table.{Table}
 use Rattle.rule_model.specs.Books.{Book}
 use Rattle.bench_core.specs.Found.{unless_found}

@@ -3,7 +3,7 @@ use Rattle.std.proofs.Common.{◌≡◌, ℕ, ◌+◌, ◌<◌, ◌≤◌, List,
 use Rattle.std.specs.List.{All, AllZip}
 use Rattle.std.proofs.lemmas.List.{at_drop_more, at_drop_all, append-nil, take_more}
 use Rattle.schema_core.specs.Rows.{IsRowOf}
-use Rattle.schema_core.specs.declared.limits.Limits.{Limits}
+use Rattle.text_lists.specs.declared.limits.Limits.{Limits}
 use Rattle.schema_core.specs.declared.schema.Table.{Table}
 use Rattle.shelf_io.specs.Files.{Files}
 use Rattle.shelf_io.specs.Shelf.{ShelfTold}

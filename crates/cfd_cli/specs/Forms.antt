@@ -1,6 +1,6 @@
 -- What each form of words asks for.
 use Rattle.std.specs.Prelude.{ℕ, List, Option, None, Some, Ok, codes}
-use Rattle.schema_core.specs.declared.limits.Limits.{Limits}
+use Rattle.text_lists.specs.declared.limits.Limits.{Limits}
 use Rattle.call_words.specs.declared.form.Form.{Form}
 use Rattle.call_words.specs.declared.form.Form.TheVariants.{Check, Consistent, Generate, Implies, Report, Run}
 use Rattle.cli_output.specs.declared.status.Status.TheVariants.{Usage}

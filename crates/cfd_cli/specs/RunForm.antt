@@ -1,17 +1,20 @@
 -- The form `run PROJECT`: a transcript of the project's script over its tables as they are loaded.
-use Rattle.std.specs.Prelude.{ℕ, List}
-use Rattle.schema_core.specs.declared.limits.Limits.{Limits}
+use Rattle.std.specs.Prelude.{◌≡◌, ◌↔◌, ℕ, List}
+use Rattle.text_lists.specs.declared.limits.Limits.{Limits}
 use Rattle.bench_core.specs.History.{History}
-use Rattle.violation_report.specs.Listing.{listing}
+use Rattle.violation_report.specs.Listing.{IsSatisfied, listing}
 use Rattle.session.specs.Replies.{IsReply}
 use Rattle.cli_output.specs.Output.{Outputs, Task}
+use Rattle.cli_output.specs.declared.status.Status.TheVariants.{Clean}
+use Rattle.shelf_io.specs.Transcript.{IsTranscript}
 use Rattle.cfd_cli.specs.Project.{ProjectRead, fetch_project}
-use Rattle.cfd_cli.specs.Transcripts.{transcripts}
+use Rattle.cfd_cli.specs.Transcripts.{found_status}
 
+-- The status is Clean exactly where the rows of the last state satisfy all rules.
 abbrev pub run_outputs : ProjectRead → Outputs
-run_outputs project =
+run_outputs project bytes status =
     let start = project.tables in
-    transcripts (IsReply start.rules start.limits) (λ (history : History). listing start.rules history.present) start.history project.commands
+    (last : History) × IsTranscript (IsReply start.rules start.limits) start.history project.commands bytes last × (status ≡ found_status (listing start.rules last.present)) × (status ≡ Clean ↔ IsSatisfied start.rules last.present)
 
 -- the schema, the rules, the script and 64 tables are fetched at most
 abbrev pub run_task : Limits → List ℕ → Task

@@ -2,7 +2,6 @@
 //! What it writes is one of the outputs that are allowed for what the words ask (`specs/Forms.antt`).
 #![tactic(auto)]
 
-mod dropped;
 mod generate_form;
 mod program;
 mod project;
@@ -12,18 +11,3 @@ mod tables;
 
 pub use cli_output::Status;
 pub use program::{run, run_with};
-
-#[cfg(test)]
-mod cases;
-#[cfg(test)]
-mod example_tests;
-#[cfg(test)]
-mod fix_tests;
-#[cfg(test)]
-mod limit_tests;
-#[cfg(test)]
-mod project_tests;
-#[cfg(test)]
-mod rule_tests;
-#[cfg(test)]
-mod tests;

@@ -1,6 +1,6 @@
 //! The top call.
 ghost use Rattle.std.specs.Prelude.{◌≡◌, ◌<◌, ◌⊎◌, Some};
-ghost use Rattle.schema_core.specs.Limits.{AreLimits, standard};
+ghost use Rattle.text_lists.specs.Limits.{AreLimits, standard};
 ghost use Rattle.cfd_cli.specs.Forms.{form_task, task_of, usage_line};
 ghost use Rattle.cli_output.specs.Output.{Output, UsesDevices, Writes};
 ghost use Rattle.call_words.specs.Words.{HasForm, IsFit};

@@ -1,7 +1,7 @@
 //! A project's files, in the order in which they are fetched and read: schema, rules, tables, script. `left` is
 //! everywhere how many bytes the files that are still to come may have together.
 ghost use Rattle.std.specs.Prelude.{◌≡◌};
-ghost use Rattle.schema_core.specs.Limits.{AreLimits};
+ghost use Rattle.text_lists.specs.Limits.{AreLimits};
 ghost use Rattle.session.specs.Scripts.{script_of};
 ghost use Rattle.cli_output.specs.Fetching.{Fetches, Reads, about};
 ghost use Rattle.cli_output.specs.RuleFiles.{spelled};

@@ -1,6 +1,6 @@
 //! The form `report PROJECT`: the list of the state that the project's script leads to, as JSON.
 ghost use Rattle.std.specs.Prelude.{◌≡◌, IfOk};
-ghost use Rattle.schema_core.specs.Limits.{AreLimits};
+ghost use Rattle.text_lists.specs.Limits.{AreLimits};
 ghost use Rattle.violation_report.specs.Listing.{listing};
 ghost use Rattle.violation_report.specs.Report.{report_text};
 ghost use Rattle.cli_output.specs.Output.{Ends, Output, UsesDevices, Writes};
@@ -8,14 +8,13 @@ ghost use Rattle.cfd_cli.specs.Project.{read_of};
 ghost use Rattle.cfd_cli.specs.ReportForm.{report_of, report_outputs, report_task};
 ghost use Rattle.cfd_cli.specs.Transcripts.{found_status};
 
-use crate::dropped::Dropped;
 use crate::project::{Project, fetch_project};
 use bench_core::Bench;
 use cli_output::{Status, end_by, end_with};
 use probe_steps::Steps;
 use schema_core::{Limits, Text};
 use session::serve;
-use shelf_io::{Shelf, Sink};
+use shelf_io::{Shelf, Sink, SteadySink};
 use std::alloc::{AllocError, Global};
 use std::sync::ledger::Ledger;
 use violation_report::{json_report, list};
@@ -53,7 +52,8 @@ fn report<O: Sink, L: Ledger>(
         mut bench,
         commands,
     } = project;
-    match serve(alloc, &mut bench, &commands, &mut Dropped, steps) {
+    let mut unheard = SteadySink::new();
+    match serve(alloc, &mut bench, &commands, &mut unheard, steps) {
         Ok(()) => tell(alloc, &bench, out, steps),
         Err(_) => Status::Memory,
     }

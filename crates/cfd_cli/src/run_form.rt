@@ -1,5 +1,5 @@
 //! The form `run PROJECT`: answers the project's script.
-ghost use Rattle.schema_core.specs.Limits.{AreLimits};
+ghost use Rattle.text_lists.specs.Limits.{AreLimits};
 ghost use Rattle.violation_report.specs.Listing.{listing};
 ghost use Rattle.cli_output.specs.Output.{Ends, Output, UsesDevices, Writes};
 ghost use Rattle.cfd_cli.specs.Project.{read_of};

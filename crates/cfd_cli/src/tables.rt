@@ -1,7 +1,7 @@
 //! The files of the tables, and the bench of what they hold.
 ghost use Rattle.std.specs.Prelude.{◌≡◌, length, map, All, IfOk};
 ghost use Rattle.std.specs.List.{AllZip};
-ghost use Rattle.schema_core.specs.Limits.{AreLimits};
+ghost use Rattle.text_lists.specs.Limits.{AreLimits};
 ghost use Rattle.schema_core.specs.Rows.{IsRowOf};
 ghost use Rattle.bench_core.specs.Loading.{AreTables, loaded};
 ghost use Rattle.csv_tables.specs.TableFiles.{table_of};

@@ -10,6 +10,3 @@ mod witness;
 
 pub use decider::{Consistency, DecideFault, consistent};
 pub use question::consistency_clauses;
-
-#[cfg(test)]
-mod tests;

@@ -10,7 +10,7 @@ use Rattle.case_tree.specs.CaseTree.{IsIn}
 use Rattle.case_tree.proofs.Lists.{All-left, All-right}
 use Rattle.cell_values.specs.declared.values.CellValues.{CellValues}
 use Rattle.cell_values.specs.Standing.{counts_as, Agrees}
-use Rattle.schema_core.specs.Repeats.{AreDistinct}
+use Rattle.text_lists.specs.Repeats.{AreDistinct}
 use Rattle.cell_values.proofs.Meaning.{AreValues, IsCovered, is_constant, is_other}
 use Rattle.cfd_implication.specs.Question.{value_cell, attr_cells, var_cells}
 use Rattle.cfd_implication.proofs.Truths.{text_of}

@@ -17,6 +17,3 @@ pub use answer::Implication;
 pub use decider::{implies, implies_from};
 pub use question::{clauses_from, implication_clauses};
 pub use side::Side;
-
-#[cfg(test)]
-mod tests;

@@ -1,7 +1,7 @@
 //! A conditional functional dependency X -> A: attributes on both sides, and a pattern tableau.
 
 use crate::pattern::Pattern;
-use schema_core::List;
+use text_lists::List;
 
 /// A tableau row of a dependency: a cell for each attribute of X, and one for A.
 #[derive(Debug, Drop)]

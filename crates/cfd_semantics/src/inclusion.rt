@@ -1,6 +1,6 @@
 //! A conditional inclusion dependency R1[X; Xp] in R2[Y; Yp]: attributes of two tables, and a tableau of constants.
 
-use schema_core::List;
+use text_lists::List;
 
 /// A tableau row of an inclusion: a constant for each attribute of Xp, and for each of Yp.
 #[derive(Debug, Drop)]

@@ -16,6 +16,3 @@ pub use orphan::{orphaned, orphans};
 pub use pattern::Pattern;
 pub use tuple::Row;
 pub use violation::{Violation, violating, violations};
-
-#[cfg(test)]
-mod tests;

@@ -10,8 +10,8 @@ ghost use Rattle.cfd_semantics.specs.Renaming.{AreOrphansByNumbers};
 
 use crate::inclusion::{Inclusion, InclusionRow};
 use crate::tuple::{Row, has_all, has_at, same_at};
-use schema_core::List;
 use std::alloc::{AllocError, Global};
+use text_lists::List;
 
 /// The orphans of an inclusion: the left rows that nothing answers, one tableau row after the other, each with the number
 /// of its tableau row.

@@ -1,6 +1,6 @@
 //! The cells of a pattern tableau.
 
-use schema_core::List;
+use text_lists::List;
 
 /// What a cell asks of a value: nothing, to be the constant, to be in the set, or not to be in it.
 #[derive(Debug, Drop)]

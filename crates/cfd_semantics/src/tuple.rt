@@ -7,7 +7,7 @@ ghost use Rattle.cfd_semantics.specs.Pattern.{matches, all_match};
 ghost use Rattle.cfd_semantics.specs.Tuple.{values_at, same_values};
 
 use crate::pattern::Pattern;
-use schema_core::List;
+use text_lists::List;
 
 /// A row of a table: its id and its tuple.
 pub type Row<V> = (u64, List<V>);

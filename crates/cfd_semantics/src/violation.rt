@@ -11,8 +11,8 @@ ghost use Rattle.cfd_semantics.specs.Renaming.{AreViolationsByNumbers};
 use crate::dependency::{Dependency, TableauRow};
 use crate::pattern::Pattern;
 use crate::tuple::{Row, matches_at, same_at, value_at};
-use schema_core::List;
 use std::alloc::{AllocError, Global};
+use text_lists::List;
 
 /// A violation of a tableau row: the row, and its least partner where the two are a pair.
 #[derive(Clone, Copy, PartialEq, Eq, Debug)]

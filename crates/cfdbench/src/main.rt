@@ -3,13 +3,13 @@
 #![tactic(auto)]
 
 use cfd_cli::{Status, run};
-use schema_core::{List, Text, Texts};
 use shelf_io::{FolderShelf, StdSink};
 use std::alloc::AllocError;
 use std::env;
 use std::io::ErrorKind;
 use std::process::ExitCode;
 use std::rt::Env;
+use text_lists::{List, Text, Texts};
 
 // The words after the program's name. Where one of them isn't UTF-8 there are none, which have no form either.
 fn words_of<R: Env + AllocGlobal>(rt: &R) -> Result<Texts, AllocError> {

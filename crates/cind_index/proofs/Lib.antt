@@ -6,4 +6,4 @@ pub mod RowFacts
 pub mod SideFacts
 pub mod WatchFacts
 pub mod OrphanFacts
-pub mod WalkFacts
+pub mod OwnEntries

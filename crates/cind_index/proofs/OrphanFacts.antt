@@ -30,7 +30,7 @@ use Rattle.cind_index.specs.KeysHeld.{Ids, KeyedRows, is_under, lefts, rights, A
 use Rattle.cind_index.specs.Orphans.{AreOrphans, IsDirtyCount}
 use Rattle.row_store.specs.Watch.{IsWide}
 use Rattle.cind_index.specs.Entries.{ids_in}
-use Rattle.cind_index.specs.Laws.{values_there}
+use Rattle.cind_index.proofs.OwnEntries.{values_there}
 use Rattle.cind_index.proofs.SideFacts.{wide_front, wide_back}
 use Rattle.cind_index.proofs.MapFacts.{equal_lists, same_list}
 use Rattle.cind_index.proofs.PairFacts.{never, clash, any_at, found_at}

@@ -1,6 +1,6 @@
 -- Some row has pattern values exactly where a row is held with them; and what that makes of dirty keys.
 use Rattle.std.proofs.Common.{◌≡◌, ℕ, ◌↔◌, ◌⊎◌, true, false, not, ◌&&◌, ◌||◌, List, [], ◌∷◌, ◌++◌, length, Option, Some, None, refl, sym, ap, ◌∙◌, subst, inl, inr, arith}
-use Rattle.std.specs.Prelude.{◌==◌, IsTrue, nat_lt}
+use Rattle.std.specs.Prelude.{◌==◌, IsTrue, IsSome, IfNone, nat_lt}
 use Rattle.std.specs.List.{list_any, Contains}
 use Rattle.std.specs.Option.{option_map_or}
 use Rattle.std.specs.Ordering.{nat_cmp, is_eq}
@@ -18,8 +18,10 @@ use Rattle.cind_index.specs.declared.side_rows.SideRows.{SideRows}
 use Rattle.cind_index.specs.declared.side_rows.SideRows.TheVariants.{Empty, Lone, LoneWith, Rows}
 use Rattle.cind_index.specs.declared.pattern_rows.PatternRows.{PatternRows}
 use Rattle.cind_index.specs.declared.pattern_rows.PatternRows.TheVariants.{Nothing, Single, Several}
+use Rattle.cind_index.specs.declared.both_sides.BothSides.{BothSides}
 use Rattle.cind_index.specs.declared.key_rows.KeyRows.{KeyRows}
-use Rattle.cind_index.specs.RowsHeld.{is_in, is_filled, rows_for, has_by, has_some_by, has, has_some, rows_on, lacks_answer, is_dirty, HaveTheSame, ChangesOn}
+use Rattle.cind_index.specs.declared.key_rows.KeyRows.TheVariants.{NoRows, LoneLeft, LoneRight, LeftWith, RightWith, OneEach, Boxed}
+use Rattle.cind_index.specs.RowsHeld.{side_of, both_sides, is_boxed, across, is_few, IsLeftOf, is_in, is_filled, rows_for, has_by, has_some_by, has, has_some, rows_on, lacks_answer, is_dirty, HaveTheSame, ChangesOn}
 use Rattle.cind_index.proofs.PairFacts.{same_truth}
 
 -- ---- lists of row ids
@@ -129,3 +131,43 @@ appended_rows old new self rows row which is =
       (λ inside. elim (by_append.0 (subst (λ xs. Contains xs row) is inside)) [ inl first ↦ inl first | inr second ↦ inr (test ∙ by_test.1 second) ]),
       (λ either. subst (λ xs. Contains xs row) (sym is) (by_append.1 (elim either [ inl first ↦ inl first | inr second ↦ inr (by_test.0 (sym test ∙ second)) ]))),
     )
+
+-- ---- rows in place
+
+-- two sides that are these
+sides_are : (sides : BothSides) (lefts rights : SideRows) → sides.lefts ≡ lefts → sides.rights ≡ rights → ◌≡◌ {A = BothSides} (record { lefts = lefts; rights = rights }) sides
+sides_are sides lefts rights left right = λ i. record { lefts = sym left i; rights = sym right i }
+
+abbrev StandInPlace : BothSides → Type 0
+StandInPlace sides = (rows : KeyRows) × (is_boxed rows ≡ false) × (both_sides rows ≡ sides)
+
+-- what isn't a box stands in place
+pub placed_unless : (rows : KeyRows) → ((sides : _) → rows ≡ Boxed sides → ⊥) → is_boxed rows ≡ false
+placed_unless NoRows never = refl
+placed_unless (LoneLeft l) never = refl
+placed_unless (LoneRight r) never = refl
+placed_unless (LeftWith v l) never = refl
+placed_unless (RightWith v r) never = refl
+placed_unless (OneEach l r) never = refl
+placed_unless (Boxed sides) never = absurd (never sides refl)
+
+-- what stands in place still does when a row goes
+pub left_in_place : (rows : KeyRows) (side : Side) (new : BothSides) → is_boxed rows ≡ false → (is_few (rows_on rows side) ≡ true → IsLeftOf (rows_on rows side) (side_of new side)) → side_of new (across side) ≡ rows_on rows (across side) → StandInPlace new
+left_in_place NoRows Left new placed here beside = elim (here refl) [ inl same ↦ (NoRows, refl, sides_are new Empty Empty same beside) | inr gone ↦ (NoRows, refl, sides_are new Empty Empty gone beside) ]
+left_in_place NoRows Right new placed here beside = elim (here refl) [ inl same ↦ (NoRows, refl, sides_are new Empty Empty beside same) | inr gone ↦ (NoRows, refl, sides_are new Empty Empty beside gone) ]
+left_in_place (LoneLeft l) Left new placed here beside = elim (here refl) [ inl same ↦ (LoneLeft l, refl, sides_are new (Lone l) Empty same beside) | inr gone ↦ (NoRows, refl, sides_are new Empty Empty gone beside) ]
+left_in_place (LoneLeft l) Right new placed here beside = elim (here refl) [ inl same ↦ (LoneLeft l, refl, sides_are new (Lone l) Empty beside same) | inr gone ↦ (LoneLeft l, refl, sides_are new (Lone l) Empty beside gone) ]
+left_in_place (LoneRight r) Left new placed here beside = elim (here refl) [ inl same ↦ (LoneRight r, refl, sides_are new Empty (Lone r) same beside) | inr gone ↦ (LoneRight r, refl, sides_are new Empty (Lone r) gone beside) ]
+left_in_place (LoneRight r) Right new placed here beside = elim (here refl) [ inl same ↦ (LoneRight r, refl, sides_are new Empty (Lone r) beside same) | inr gone ↦ (NoRows, refl, sides_are new Empty Empty beside gone) ]
+left_in_place (LeftWith v l) Left new placed here beside = elim (here refl) [ inl same ↦ (LeftWith v l, refl, sides_are new (LoneWith v l) Empty same beside) | inr gone ↦ (NoRows, refl, sides_are new Empty Empty gone beside) ]
+left_in_place (LeftWith v l) Right new placed here beside = elim (here refl) [ inl same ↦ (LeftWith v l, refl, sides_are new (LoneWith v l) Empty beside same) | inr gone ↦ (LeftWith v l, refl, sides_are new (LoneWith v l) Empty beside gone) ]
+left_in_place (RightWith v r) Left new placed here beside = elim (here refl) [ inl same ↦ (RightWith v r, refl, sides_are new Empty (LoneWith v r) same beside) | inr gone ↦ (RightWith v r, refl, sides_are new Empty (LoneWith v r) gone beside) ]
+left_in_place (RightWith v r) Right new placed here beside = elim (here refl) [ inl same ↦ (RightWith v r, refl, sides_are new Empty (LoneWith v r) beside same) | inr gone ↦ (NoRows, refl, sides_are new Empty Empty beside gone) ]
+left_in_place (OneEach l r) Left new placed here beside = elim (here refl) [ inl same ↦ (OneEach l r, refl, sides_are new (Lone l) (Lone r) same beside) | inr gone ↦ (LoneRight r, refl, sides_are new Empty (Lone r) gone beside) ]
+left_in_place (OneEach l r) Right new placed here beside = elim (here refl) [ inl same ↦ (OneEach l r, refl, sides_are new (Lone l) (Lone r) beside same) | inr gone ↦ (LoneLeft l, refl, sides_are new (Lone l) Empty beside gone) ]
+left_in_place (Boxed sides) side new placed here beside = absurd (cc)
+
+-- so they are found in place
+pub found_in_place : (found : Option KeyRows) (sides : BothSides) → IfNone found ((rows : KeyRows) → is_boxed rows ≡ false → both_sides rows ≡ sides → ⊥) → StandInPlace sides → IsSome found
+found_in_place None sides none stand = absurd (none stand.0 stand.1 stand.2)
+found_in_place (Some rows) sides none stand = refl

@@ -12,7 +12,8 @@ use Rattle.cind_index.specs.declared.side.Side.{Side}
 use Rattle.cind_index.specs.declared.index.CindIndex.{CindIndex}
 use Rattle.cind_index.specs.Entries.{CindMade, ids_in, is_entry, key_on, pattern_on, table_on, gives_on, attributes_on}
 use Rattle.cind_index.specs.KeysHeld.{KeyedRows, held, HoldsMore, HoldsLess, HasKeyAt}
-use Rattle.cind_index.specs.Laws.{two_parts, same_number, number_itself, values_there, gives_its_entry, given_has_row}
+use Rattle.cind_index.specs.Laws.{two_parts, same_number, given_has_row}
+use Rattle.cind_index.proofs.OwnEntries.{number_itself, values_there, gives_its_entry}
 use Rattle.cind_index.specs.Index.{given}
 use Rattle.cind_index.proofs.MapFacts.{same_list, equal_lists}
 use Rattle.cind_index.proofs.PairFacts.{never, clash}

@@ -4,4 +4,3 @@ pub mod KeysHeld
 pub mod Orphans
 pub mod Index
 pub mod Laws
-pub mod Walk

@@ -1,5 +1,5 @@
 -- The rows of one side with one key, by their pattern values; and the rows of both sides with one key.
-use Rattle.std.specs.Prelude.{◌≡◌, ℕ, ◌==◌, ◌&&◌, ◌||◌, not, nat_lt, Bool, true, false, List, [], ◌∷◌, Option, length}
+use Rattle.std.specs.Prelude.{◌≡◌, ◌⊎◌, ℕ, ◌==◌, ◌&&◌, ◌||◌, not, nat_lt, Bool, true, false, List, [], ◌∷◌, Option, length}
 use Rattle.std.specs.List.{list_any}
 use Rattle.std.specs.Option.{option_map_or}
 use Rattle.std.specs.Ordering.{nat_cmp}
@@ -66,6 +66,11 @@ has_some (Lone own) pattern = bytes_eq pattern []
 has_some (LoneWith value own) pattern = bytes_eq pattern (value ∷ [])
 has_some (Rows rows) pattern = has_some_by rows.value pattern
 
+-- no row, or one that stands in place
+abbrev pub is_few : SideRows → Bool
+is_few (Rows rows) = false
+is_few rows = true
+
 -- ---- changes
 
 -- the row came in with these pattern values, or went away with them, and nothing else changed
@@ -95,6 +100,10 @@ HaveTheSame old new = IsSame (has old) (has new)
 
 abbrev pub HasNothing : SideRows → Type 0
 HasNothing rows = (ids : List ℕ) (row : ℕ) → has rows ids row ≡ false
+
+-- what is left of a side once a lone row may have gone
+abbrev pub IsLeftOf : SideRows → SideRows → Type 0
+IsLeftOf old new = (new ≡ old) ⊎ (new ≡ Empty)
 
 -- ---- both sides
 

@@ -1,6 +1,6 @@
 //! The rows of both sides with one key, each side by itself.
-ghost use Rattle.std.specs.Prelude.{◌≡◌, ◌==◌, ◌&&◌, ℕ, List, not, IsTrue, IfOk, OnOk, OnErr};
-ghost use Rattle.cind_index.specs.RowsHeld.{has, side_of, HasRowMore, HasRowLess, HaveTheSame, HasNothing, ChangesSide};
+ghost use Rattle.std.specs.Prelude.{◌≡◌, true, ◌==◌, ◌&&◌, ℕ, List, not, IsTrue, IfOk, OnOk, OnErr};
+ghost use Rattle.cind_index.specs.RowsHeld.{has, side_of, across, is_few, IsLeftOf, HasRowMore, HasRowLess, HaveTheSame, HasNothing, ChangesSide};
 
 use crate::side::Side;
 use crate::side_rows::SideRows;
@@ -45,7 +45,11 @@ impl BothSides {
 
     /// Takes a row away from one side.
     pub(crate) fn take(&mut self, side: Side, pattern: &[ValueId], row: RowId)
-        ensures { ChangesSide side (HasRowLess pattern.now row) self.old self.new }
+        ensures less { ChangesSide side (HasRowLess pattern.now row) self.old self.new }
+
+        // A lone row stays as it is, or goes.
+        ensures here { is_few (side_of self.old side) ≡ true → IsLeftOf (side_of self.old side) (side_of self.new side) }
+        ensures beside { side_of self.new (across side) ≡ side_of self.old (across side) }
     {
         match side {
             Side::Left => self.lefts.take(pattern, row),

@@ -1,13 +1,14 @@
 //! The rows of both sides with one key. A lone row with at most one pattern value, or one without pattern values on each side,
 //! stands in place, without memory; others stand in a box of their own.
-ghost use Rattle.std.specs.Prelude.{◌≡◌, ◌⊎◌, false, ◌==◌, ◌&&◌, [], ℕ, List, not, ◌↔◌, IsTrue, IfOk, IfSome, OnOk, OnErr, Contains};
+ghost use Rattle.std.specs.Prelude.{◌≡◌, ◌⊎◌, false, ◌==◌, ◌&&◌, ℕ, List, not, ◌↔◌, IsTrue, IfOk, IfSome, IfNone, OnOk, OnErr, Contains};
 ghost use Rattle.std.specs.Str.{bytes_eq};
 ghost use Rattle.cind_index.specs.RowsHeld.{has, has_some, both_sides, is_boxed, rows_on, across, lacks_answer, is_dirty, HasRowMore, HasRowLess, HaveTheSame, HasNothing, ChangesOn};
 ghost use Rattle.cind_index.specs.declared.side.Side.TheVariants.{Left, Right};
+ghost use Rattle.cind_index.specs.declared.key_rows.KeyRows.{KeyRows};
 
 use crate::both_sides::BothSides;
 use crate::side::Side;
-use crate::side_rows::{SideRows, is_it_with, is_one, push_lone};
+use crate::side_rows::{SideRows, is_one, push_lone};
 use cfd_semantics::InclusionRow;
 use row_store::RowId;
 use std::alloc::{AllocError, Global};
@@ -99,26 +100,17 @@ impl KeyRows {
     pub(crate) fn take(&mut self, side: Side, pattern: &[ValueId], row: RowId)
         ensures { ChangesOn side (HasRowLess pattern.now row) self.old self.new }
     {
-        match self {
-            KeyRows::NoRows => {}
-            KeyRows::LoneLeft(left) => *self = left_without(*left, side, pattern, row),
-            KeyRows::LoneRight(right) => *self = right_without(*right, side, pattern, row),
-            KeyRows::LeftWith(value, left) => {
-                *self = left_with_without(*value, *left, side, pattern, row)
+        if let KeyRows::Boxed(sides) = self {
+            sides.take(side, pattern, row);
+            if let Some(rows) = unboxed(sides) {
+                *self = rows;
             }
-            KeyRows::RightWith(value, right) => {
-                *self = right_with_without(*value, *right, side, pattern, row)
-            }
-            KeyRows::OneEach(left, right) => {
-                *self = each_without(*left, *right, side, pattern, row)
-            }
-            KeyRows::Boxed(sides) => {
-                sides.take(side, pattern, row);
-                if let Some(rows) = unboxed(sides) {
-                    *self = rows;
-                }
-            }
+            return;
         }
+        // What stands in place still does when a row goes.
+        let mut sides = self.in_place();
+        sides.take(side, pattern, row);
+        *self = unboxed(&sides).unwrap();
     }
 
     /// Whether there is no row on either side.
@@ -209,7 +201,8 @@ fn packed(alloc: Global, sides: BothSides) -> Result<KeyRows, AllocError>
 
 // The two sides in place, where they can stand there.
 fn unboxed(sides: &BothSides) -> Option<KeyRows>
-    ensures { IfSome result (λ rows. both_sides rows ≡ sides.now) }
+    ensures some { IfSome result (λ rows. both_sides rows ≡ sides.now) }
+    ensures none { IfNone result ((rows : KeyRows) → is_boxed rows ≡ false → both_sides rows ≡ sides.now → ⊥) }
 {
     match (&sides.lefts, &sides.rights) {
         (SideRows::Empty, SideRows::Empty) => Some(KeyRows::NoRows),
@@ -224,74 +217,4 @@ fn unboxed(sides: &BothSides) -> Option<KeyRows>
         (SideRows::Lone(left), SideRows::Lone(right)) => Some(KeyRows::OneEach(*left, *right)),
         _ => None,
     }
-}
-
-// What stays of a lone left row after a row was taken away.
-fn left_without(left: RowId, side: Side, pattern: &[ValueId], row: RowId) -> KeyRows
-    ensures { ChangesOn side (HasRowLess pattern.now row) (KeyRows.LoneLeft left) result }
-{
-    match side {
-        Side::Left if is_it(left, pattern, row) => KeyRows::NoRows,
-        _ => KeyRows::LoneLeft(left),
-    }
-}
-
-// What stays of a lone right row after a row was taken away.
-fn right_without(right: RowId, side: Side, pattern: &[ValueId], row: RowId) -> KeyRows
-    ensures { ChangesOn side (HasRowLess pattern.now row) (KeyRows.LoneRight right) result }
-{
-    match side {
-        Side::Right if is_it(right, pattern, row) => KeyRows::NoRows,
-        _ => KeyRows::LoneRight(right),
-    }
-}
-
-// What stays of a lone left row with one pattern value after a row was taken away.
-fn left_with_without(
-    value: ValueId,
-    left: RowId,
-    side: Side,
-    pattern: &[ValueId],
-    row: RowId,
-) -> KeyRows
-    ensures { ChangesOn side (HasRowLess pattern.now row) (KeyRows.LeftWith value left) result }
-{
-    match side {
-        Side::Left if is_it_with(value, left, pattern, row) => KeyRows::NoRows,
-        _ => KeyRows::LeftWith(value, left),
-    }
-}
-
-// What stays of a lone right row with one pattern value after a row was taken away.
-fn right_with_without(
-    value: ValueId,
-    right: RowId,
-    side: Side,
-    pattern: &[ValueId],
-    row: RowId,
-) -> KeyRows
-    ensures { ChangesOn side (HasRowLess pattern.now row) (KeyRows.RightWith value right) result }
-{
-    match side {
-        Side::Right if is_it_with(value, right, pattern, row) => KeyRows::NoRows,
-        _ => KeyRows::RightWith(value, right),
-    }
-}
-
-// What stays of one row on each side after a row was taken away.
-fn each_without(left: RowId, right: RowId, side: Side, pattern: &[ValueId], row: RowId) -> KeyRows
-    ensures { ChangesOn side (HasRowLess pattern.now row) (KeyRows.OneEach left right) result }
-{
-    match side {
-        Side::Left if is_it(left, pattern, row) => KeyRows::LoneRight(right),
-        Side::Right if is_it(right, pattern, row) => KeyRows::LoneLeft(left),
-        _ => KeyRows::OneEach(left, right),
-    }
-}
-
-// Whether a lone row is the one with these pattern values.
-fn is_it(own: RowId, pattern: &[ValueId], row: RowId) -> bool
-    ensures { result ≡ (bytes_eq pattern.now [] && row == own) }
-{
-    pattern.is_empty() && row == own
 }

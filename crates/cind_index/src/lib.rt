@@ -20,6 +20,3 @@ mod watch;
 
 pub use cfd_semantics::Inclusion;
 pub use index::{CindIndex, IdPairRow};
-
-#[cfg(test)]
-mod tests;

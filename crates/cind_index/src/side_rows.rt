@@ -1,8 +1,8 @@
 //! The rows of one side with one key. A lone row with at most one pattern value stands in place, without memory; others
 //! stand by their pattern values, in a box of their own.
-ghost use Rattle.std.specs.Prelude.{◌≡◌, ◌⊎◌, ◌==◌, ◌&&◌, [], ◌∷◌, ℕ, List, not, ◌↔◌, IsTrue, IfOk, IfSome, OnOk, OnErr, Contains};
+ghost use Rattle.std.specs.Prelude.{◌≡◌, true, ◌⊎◌, ◌==◌, ◌&&◌, [], ◌∷◌, ℕ, List, not, ◌↔◌, IsTrue, IfOk, IfSome, OnOk, OnErr, Contains};
 ghost use Rattle.std.specs.Str.{bytes_eq};
-ghost use Rattle.cind_index.specs.RowsHeld.{has, has_by, has_some, HasRowMore, HasRowLess, HaveTheSame, HasNothing, IsOnly, IsMore, IsSame};
+ghost use Rattle.cind_index.specs.RowsHeld.{has, has_by, has_some, HasRowMore, HasRowLess, HaveTheSame, HasNothing, IsLeftOf, is_few, IsOnly, IsMore, IsSame};
 
 use crate::pattern_rows::PatternRows;
 use crate::row_set::RowSet;
@@ -97,7 +97,10 @@ impl SideRows {
 
     /// Takes the row away. Takes no memory.
     pub(crate) fn take(&mut self, pattern: &[ValueId], row: RowId)
-        ensures { HasRowLess pattern.now row self.old self.new }
+        ensures less { HasRowLess pattern.now row self.old self.new }
+
+        // A lone row stays as it is, or goes.
+        ensures lone { is_few self.old ≡ true → IsLeftOf self.old self.new }
     {
         match self {
             SideRows::Empty => {}
@@ -146,8 +149,8 @@ pub(crate) fn is_one(pattern: &[ValueId], value: ValueId) -> bool
     }
 }
 
-/// Whether a lone row with one pattern value is this one with these.
-pub(crate) fn is_it_with(value: ValueId, own: RowId, pattern: &[ValueId], row: RowId) -> bool
+// Whether a lone row with one pattern value is this one with these.
+fn is_it_with(value: ValueId, own: RowId, pattern: &[ValueId], row: RowId) -> bool
     ensures { result ≡ (bytes_eq pattern.now (value ∷ []) && row == own) }
 {
     is_one(pattern, value) && row == own

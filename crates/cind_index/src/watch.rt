@@ -1,8 +1,8 @@
 //! The index kept in step with rows. A row gives an entry on each side whose table is its own.
-ghost use Rattle.std.specs.Prelude.{◌≡◌, ◌+◌, ◌≤◌, ◌==◌, ◌&&◌, ◌||◌, ℕ, false, true, not, []};
+ghost use Rattle.std.specs.Prelude.{◌==◌, ◌||◌};
 ghost use Rattle.cind_index.specs.Entries.{CindMade, CindEntry, table_on, gives_entry, attributes_of};
 ghost use Rattle.cind_index.specs.KeysHeld.{held};
-ghost use Rattle.cind_index.specs.Laws.{given_names_row, needed_where_given};
+ghost use Rattle.cind_index.specs.Laws.{given_names_row, unneeded_gives_none};
 ghost use Rattle.cind_index.specs.declared.side.Side.TheVariants.{Left, Right};
 
 use crate::index::CindIndex;
@@ -76,5 +76,5 @@ impl Watch for CindIndex {
 
     ghost names_row = { given_names_row };
 
-    ghost needed_exactly = { needed_where_given };
+    ghost unneeded = { unneeded_gives_none };
 }

@@ -1,6 +1,6 @@
 -- Fetching step after step: what calls that were made one after the other promise together.
 use Rattle.std.proofs.Common.{◌≡◌, ℕ, ◌+◌, ◌≤◌, Result, Some, Ok, Err, IfOk, IfSome, refl, sym, ap, subst, ◌∙◌, arith}
-use Rattle.schema_core.specs.Faults.{GivesUnlessMemory}
+use Rattle.line_grammar.specs.Faults.{GivesUnlessMemory}
 use Rattle.shelf_io.specs.Files.{Files}
 use Rattle.shelf_io.specs.Shelf.{ShelfTold}
 use Rattle.cli_output.specs.declared.fetching.Stop.{Stop}

@@ -3,7 +3,7 @@ use Rattle.std.proofs.Common.{◌≡◌, ℕ, List, Option, None, Some, Ok, Err,
 use Rattle.shelf_io.specs.Files.{Files}
 use Rattle.shelf_io.specs.Sink.{SinkTold}
 use Rattle.shelf_io.proofs.Transcripts.{Appends-wider, FrontOf-wider}
-use Rattle.schema_core.specs.declared.limits.Limits.{Limits}
+use Rattle.text_lists.specs.declared.limits.Limits.{Limits}
 use Rattle.cli_output.specs.declared.fetching.Stop.{Stop}
 use Rattle.cli_output.specs.declared.fetching.Stop.TheVariants as stop
 use Rattle.cli_output.specs.declared.status.Status.{Status}

@@ -3,8 +3,8 @@ use Rattle.std.specs.Prelude.{◌≡◌, ℕ, ◌+◌, ◌-◌, ◌≤◌, List,
 use Rattle.shelf_io.specs.Files.{Files, file_at}
 use Rattle.shelf_io.specs.Rising.{Rose}
 use Rattle.shelf_io.specs.Shelf.{ShelfTold}
-use Rattle.schema_core.specs.Faults.{GivesUnlessMemory}
-use Rattle.schema_core.specs.declared.limits.Limits.{Limits}
+use Rattle.line_grammar.specs.Faults.{GivesUnlessMemory}
+use Rattle.text_lists.specs.declared.limits.Limits.{Limits}
 use Rattle.cli_output.specs.declared.refusal.Cause.{Cause}
 use Rattle.cli_output.specs.declared.refusal.Cause.TheVariants.{Absent, TooLarge}
 use Rattle.cli_output.specs.declared.refusal.Refusal.{Refusal}

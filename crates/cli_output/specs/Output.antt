@@ -4,7 +4,7 @@ use Rattle.shelf_io.specs.Files.{Files}
 use Rattle.shelf_io.specs.Rising.{Rose}
 use Rattle.shelf_io.specs.Shelf.{ShelfTold}
 use Rattle.shelf_io.specs.Sink.{Appends, FrontOf, SinkTold}
-use Rattle.schema_core.specs.declared.limits.Limits.{Limits}
+use Rattle.text_lists.specs.declared.limits.Limits.{Limits}
 use Rattle.cli_output.specs.declared.status.Status.{Status}
 use Rattle.cli_output.specs.declared.status.Status.TheVariants.{Refused, ReadFault, WriteFault, Memory}
 use Rattle.cli_output.specs.declared.fetching.Stop.{Stop}

@@ -1,8 +1,8 @@
 -- The one line that a refusal writes: `refused WHAT CAUSE`.
 use Rattle.std.specs.Prelude.{ℕ, List, ◌++◌, codes, decimal}
-use Rattle.schema_core.specs.Tokens.{quoted}
-use Rattle.schema_core.specs.declared.limits.Limit.{Limit}
-use Rattle.schema_core.specs.declared.limits.Limit.TheVariants as limit
+use Rattle.line_grammar.specs.Tokens.{quoted}
+use Rattle.text_lists.specs.declared.limits.Limit.{Limit}
+use Rattle.text_lists.specs.declared.limits.Limit.TheVariants as limit
 use Rattle.schema_core.specs.declared.schema.SchemaCause.{SchemaCause}
 use Rattle.schema_core.specs.declared.schema.SchemaCause.TheVariants as schema
 use Rattle.rule_model.specs.declared.fault.RuleFault.{RuleFault}

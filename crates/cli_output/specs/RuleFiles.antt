@@ -1,8 +1,8 @@
 -- The schema and the rules of a project, in the order in which their files are fetched and read.
 use Rattle.std.specs.Prelude.{ℕ, List, [], Option, None, Some, Result, Ok, Err}
-use Rattle.schema_core.specs.Faults.{Reading}
+use Rattle.line_grammar.specs.Faults.{Reading}
 use Rattle.schema_core.specs.SchemaFiles as schema_file
-use Rattle.schema_core.specs.declared.limits.Limits.{Limits}
+use Rattle.text_lists.specs.declared.limits.Limits.{Limits}
 use Rattle.schema_core.specs.declared.schema.Schema.{Schema}
 use Rattle.rule_model.specs.Books.{Book}
 use Rattle.rule_parser.specs.RuleFiles as rule_file

@@ -1,6 +1,6 @@
 //! Files off the shelf, within the limits on their bytes.
 ghost use Rattle.std.specs.Prelude.{◌≡◌, Err};
-ghost use Rattle.schema_core.specs.Limits.{AreLimits};
+ghost use Rattle.text_lists.specs.Limits.{AreLimits};
 ghost use Rattle.cli_output.specs.Fetching.{Fetches, Reads, file};
 
 use crate::refusal::{Cause, Refusal};

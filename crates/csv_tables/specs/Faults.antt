@@ -1,6 +1,6 @@
 -- What the calls that may refuse a table file tell.
 use Rattle.std.specs.Prelude.{◌≡◌, Option, Some, None, Result}
-use Rattle.schema_core.specs.Faults.{UnlessMemory}
+use Rattle.line_grammar.specs.Faults.{UnlessMemory}
 use Rattle.csv_tables.specs.declared.fault.TableFault.{TableFault}
 use Rattle.csv_tables.specs.declared.fault.TableFault.TheVariants.{Memory}
 

@@ -5,7 +5,7 @@ use Rattle.std.specs.List.{list_all, list_any}
 use Rattle.std.specs.Option.{option_or}
 use Rattle.std.specs.Str.{bytes_eq, is_utf8}
 use Rattle.schema_core.specs.Schemas.{admits, attr_place}
-use Rattle.schema_core.specs.declared.limits.Limits.{Limits}
+use Rattle.text_lists.specs.declared.limits.Limits.{Limits}
 use Rattle.schema_core.specs.declared.schema.Attr.{Attr}
 use Rattle.schema_core.specs.declared.schema.Table.{Table}
 use Rattle.csv_tables.specs.Records.{file_records}

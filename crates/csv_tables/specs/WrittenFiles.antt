@@ -3,7 +3,7 @@ use Rattle.std.specs.Prelude.{◌≡◌, ◌≤◌, ◌∷◌, ℕ, List, length
 use Rattle.csv.specs.Writing.{default_writer, fields_written, has_written, row_text, writer_setup}
 use Rattle.csv.specs.declared.writer.Writer.{Writer}
 use Rattle.schema_core.specs.Schemas.{names_of_attrs}
-use Rattle.schema_core.specs.declared.limits.Limits.{Limits}
+use Rattle.text_lists.specs.declared.limits.Limits.{Limits}
 use Rattle.schema_core.specs.declared.schema.Attr.{Attr}
 use Rattle.schema_core.specs.declared.schema.Table.{Table}
 use Rattle.schema_core.specs.Rows.{IsRowOf}

@@ -5,7 +5,7 @@ ghost use Rattle.std.specs.List.{list_all};
 ghost use Rattle.std.specs.Result.{result_err};
 ghost use Rattle.std.specs.Str.{is_utf8};
 ghost use Rattle.csv.specs.Records.{fields_of};
-ghost use Rattle.schema_core.specs.Faults.{UnlessMemory};
+ghost use Rattle.line_grammar.specs.Faults.{UnlessMemory};
 ghost use Rattle.schema_core.specs.Schemas.{admits};
 ghost use Rattle.csv_tables.specs.Columns.{ArePlacesOf};
 ghost use Rattle.csv_tables.specs.Faults.{IsFirstFault, table_tells};

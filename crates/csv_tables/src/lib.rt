@@ -13,6 +13,3 @@ mod writing;
 pub use fault::TableFault;
 pub use reading::read_table;
 pub use writing::write_table;
-
-#[cfg(test)]
-mod tests;

@@ -4,8 +4,8 @@ ghost use Rattle.std.specs.Prelude.{◌≡◌, ◌≤◌, IfOk, All, length, map
 ghost use Rattle.csv.specs.Reading.{AreRecords, default_config, strip_bom};
 ghost use Rattle.csv.specs.Records.{fields_of};
 ghost use Rattle.csv.specs.declared.parser.State.TheVariants as st;
-ghost use Rattle.schema_core.specs.Faults.{IsUnlessMemory};
-ghost use Rattle.schema_core.specs.Limits.{AreLimits};
+ghost use Rattle.line_grammar.specs.Faults.{IsUnlessMemory};
+ghost use Rattle.text_lists.specs.Limits.{AreLimits};
 ghost use Rattle.csv_tables.specs.Faults.{IsFirstFault, table_tells};
 ghost use Rattle.csv_tables.specs.Records.{file_records};
 ghost use Rattle.schema_core.specs.Rows.{IsRowOf};

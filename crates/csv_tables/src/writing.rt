@@ -7,7 +7,7 @@ ghost use Rattle.std.specs.Str.{is_utf8};
 ghost use Rattle.csv.specs.Records.{fields_of, partial_of};
 ghost use Rattle.csv.specs.Writing.{default_writer, row_text, text_written};
 ghost use Rattle.schema_core.specs.Schemas.{IsValidTable, names_of_attrs};
-ghost use Rattle.schema_core.specs.declared.limits.Limits.{Limits};
+ghost use Rattle.text_lists.specs.declared.limits.Limits.{Limits};
 ghost use Rattle.csv_tables.specs.TableFiles.{table_of};
 ghost use Rattle.csv_tables.specs.WrittenFiles.{AreRowsOf, StandsBetween, records_text, table_text};
 

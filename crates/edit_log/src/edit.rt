@@ -1,6 +1,6 @@
 //! An edit of one row, as the user asks for it: tables and attributes by name, values as texts.
 use row_store::RowId;
-use schema_core::text::{Text, Texts};
+use text_lists::text::{Text, Texts};
 
 #[derive(Debug, Drop)]
 pub enum Edit {

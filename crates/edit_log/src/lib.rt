@@ -8,6 +8,3 @@ mod log;
 pub use change::Change;
 pub use edit::Edit;
 pub use log::Log;
-
-#[cfg(test)]
-mod tests;

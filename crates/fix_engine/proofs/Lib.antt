@@ -5,6 +5,5 @@ pub mod OverTexts
 pub mod FixedRows
 pub mod VerdictFacts
 pub mod Asking
-pub mod TestMasters
 pub mod Judging
 pub mod Judged

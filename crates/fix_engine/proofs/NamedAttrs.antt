@@ -9,7 +9,7 @@ use Rattle.std.proofs.lemmas.Bool.Decides.{eqb_tells}
 use Rattle.std.proofs.lemmas.List.Folds.{list_any-append}
 use Rattle.std.proofs.lemmas.Option.{slice_get-get_or, slice_get-map, slice_get_cases, slice_get_read, slice_get_within, get_or_from_slice_get, none-some, same_Some}
 use Rattle.std.proofs.lemmas.Slice.Eq.{bytes_eq-Decides}
-use Rattle.schema_core.specs.Repeats.{AreDistinct}
+use Rattle.text_lists.specs.Repeats.{AreDistinct}
 use Rattle.schema_core.specs.Schemas.{names_of_attrs}
 use Rattle.schema_core.specs.Lookups.{attrs_at}
 use Rattle.schema_core.specs.declared.schema.Attr.{Attr}

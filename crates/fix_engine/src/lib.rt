@@ -12,6 +12,3 @@ mod vouching;
 pub use fault::FixFault;
 pub use fixing::fix;
 pub use verdict::Verdict;
-
-#[cfg(test)]
-mod tests;

@@ -1,9 +1,5 @@
 //! Verdicts.
 
-ghost use Rattle.std.specs.Prelude.{◌≤◌, ◌↔◌, IsTrue};
-ghost use Rattle.fix_engine.specs.Fixes.{HasAll};
-ghost use Rattle.rule_runs.specs.Marks.{marked};
-
 use rule_runs::{Marks, Move, Run};
 use schema_core::List;
 use value_pool::ValueId;
@@ -22,31 +18,4 @@ pub enum Verdict {
         second: Run,
         attr: usize,
     },
-}
-
-impl Verdict {
-    ghost use Rattle.fix_engine.specs.Verdicts.{SaysCertain};
-
-    /// Whether the fix is certain, over a table with so many attributes.
-    pub fn is_certain(&self, width: usize) -> bool
-        requires { width ≤ 64 }
-        ensures { IsTrue result ↔ SaysCertain width self.now }
-    {
-        match self {
-            Verdict::Unique { covered, .. } => has_all(*covered, width),
-            Verdict::Conflict { .. } => false,
-        }
-    }
-}
-
-fn has_all(marks: Marks, width: usize) -> bool
-    requires { width ≤ 64 }
-    ensures { IsTrue result ↔ HasAll width (marked marks) }
-{
-    for attr in 0..width {
-        if !marks.has(attr) {
-            return false;
-        }
-    }
-    true
 }

@@ -1,7 +1,7 @@
 //! The attributes that are vouched for, by their names.
 
 ghost use Rattle.std.specs.Prelude.{◌≡◌, ◌≤◌, ◌↔◌, ℕ, length, IsNone, IfSome, Any};
-ghost use Rattle.schema_core.specs.Repeats.{AreDistinct};
+ghost use Rattle.text_lists.specs.Repeats.{AreDistinct};
 ghost use Rattle.schema_core.specs.Schemas.{names_of_attrs};
 ghost use Rattle.rule_runs.specs.Marks.{marked};
 ghost use Rattle.fix_engine.specs.Questions.{IsNoAttr, is_vouched};

@@ -5,24 +5,24 @@ use Rattle.std.specs.Option.{option_map, option_to_list}
 use Rattle.std.specs.Str.{IsAscii}
 use Rattle.std.proofs.lemmas.Bool.{and_parts, ltb-true}
 use Rattle.std.proofs.lemmas.Str.{IsUtf8-from_ascii, is_utf8-from_IsUtf8}
-use Rattle.schema_core.specs.Limits.{standard}
+use Rattle.text_lists.specs.Limits.{standard}
 use Rattle.schema_core.specs.SchemaFiles.{add_attr, add_group, empty_schema, reads, schema_causes}
-use Rattle.schema_core.specs.Groups.{cut, read_cut, read_groups}
-use Rattle.schema_core.specs.FileLines.{begins_with, content_of, lines_from}
-use Rattle.schema_core.specs.Lines.{lines}
-use Rattle.schema_core.specs.Tokens.{is_passed, line_tokens, mark_at, text_from, token_at, tokens_from}
+use Rattle.line_grammar.specs.Groups.{cut, read_cut, read_groups}
+use Rattle.line_grammar.specs.FileLines.{begins_with, content_of, lines_from}
+use Rattle.line_grammar.specs.Lines.{lines}
+use Rattle.line_grammar.specs.Tokens.{is_passed, line_tokens, mark_at, text_from, token_at, tokens_from}
 use Rattle.schema_core.specs.SchemaLines.{attr_at, head_at}
-use Rattle.schema_core.specs.declared.line.Content.TheVariants as content
-use Rattle.schema_core.specs.declared.line.Line.{Line}
-use Rattle.schema_core.specs.declared.tokens.LineTokens.{LineTokens}
-use Rattle.schema_core.specs.declared.tokens.LineTokens.TheVariants.{NotUtf8, Passed, Tokens}
-use Rattle.schema_core.specs.declared.tokens.Mark.TheVariants.{Comma}
-use Rattle.schema_core.specs.declared.tokens.Token.{Token}
-use Rattle.schema_core.specs.declared.tokens.Token.TheVariants.{Name, Quoted, Sign}
+use Rattle.line_grammar.specs.declared.line.Content.TheVariants as content
+use Rattle.line_grammar.specs.declared.line.Line.{Line}
+use Rattle.line_grammar.specs.declared.tokens.LineTokens.{LineTokens}
+use Rattle.line_grammar.specs.declared.tokens.LineTokens.TheVariants.{NotUtf8, Passed, Tokens}
+use Rattle.line_grammar.specs.declared.tokens.Mark.TheVariants.{Comma}
+use Rattle.line_grammar.specs.declared.tokens.Token.{Token}
+use Rattle.line_grammar.specs.declared.tokens.Token.TheVariants.{Name, Quoted, Sign}
 use Rattle.schema_core.specs.declared.schema.Attr.{Attr}
 use Rattle.schema_core.specs.declared.schema.Domain.TheVariants.{AnyText, Finite}
 use Rattle.schema_core.specs.declared.schema.Schema.{Schema}
-use Rattle.schema_core.specs.Faults.{Reading}
+use Rattle.line_grammar.specs.Faults.{Reading}
 use Rattle.schema_core.specs.declared.schema.SchemaCause.{SchemaCause}
 use Rattle.rule_model.specs.Books.{Book}
 use Rattle.generator.specs.Project.{AreRules, schema_text}

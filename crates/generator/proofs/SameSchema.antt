@@ -1,12 +1,12 @@
 -- A rule book is over the schema that its file is read over.
 use Rattle.std.proofs.Common.{◌≡◌, ℕ, List, [], ◌∷◌, Option, Some, None, Ok, Err, codes, refl, sym, ap, ◌∙◌}
-use Rattle.schema_core.specs.Faults.{Reading, ◌>>=◌}
-use Rattle.schema_core.specs.FileLines.{begins_with, file_lines, no_lines, read_line}
-use Rattle.schema_core.specs.Groups.{Cut, cut, in_turn, read_cut, read_groups}
-use Rattle.schema_core.specs.TokenLists.{none_after}
-use Rattle.schema_core.specs.declared.group.Group.{Group}
-use Rattle.schema_core.specs.declared.line.Line.{Line}
-use Rattle.schema_core.specs.declared.limits.Limits.{Limits}
+use Rattle.line_grammar.specs.Faults.{Reading, ◌>>=◌}
+use Rattle.line_grammar.specs.FileLines.{begins_with, file_lines, no_lines, read_line}
+use Rattle.line_grammar.specs.Groups.{Cut, cut, in_turn, read_cut, read_groups}
+use Rattle.line_grammar.specs.TokenLists.{none_after}
+use Rattle.line_grammar.specs.declared.group.Group.{Group}
+use Rattle.line_grammar.specs.declared.line.Line.{Line}
+use Rattle.text_lists.specs.declared.limits.Limits.{Limits}
 use Rattle.schema_core.specs.declared.schema.Schema.{Schema}
 use Rattle.rule_model.specs.Books.{Book, book_fault, with_decl}
 use Rattle.rule_model.specs.declared.decl.Decl.{Decl}

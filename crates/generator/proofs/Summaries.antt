@@ -1,7 +1,7 @@
 -- What is told of the edits, put together from its parts.
 use Rattle.std.proofs.Common.{◌≡◌, ℕ, List, [], ◌∷◌, ◌++◌, length, unwrap_or, Some, Result, Ok, Err, IfOk, OnOk, codes, ap, subst, ◌∙◌}
-use Rattle.schema_core.specs.Limits.{standard}
-use Rattle.schema_core.specs.declared.limits.Limits.{Limits}
+use Rattle.text_lists.specs.Limits.{standard}
+use Rattle.text_lists.specs.declared.limits.Limits.{Limits}
 use Rattle.shelf_io.specs.Transcript.{Answers}
 use Rattle.shelf_io.proofs.Transcripts.{answers-one}
 use Rattle.rule_model.specs.Books.{Book}

@@ -1,7 +1,7 @@
 -- The generated project: its schema and its rules, and the rows of its two tables.
 use Rattle.std.specs.Prelude.{◌≡◌, ℕ, ◌%◌, List, [], ◌∷◌, ◌++◌, map, Ok, codes, decimal}
 use Rattle.std.specs.List.{range_with_len}
-use Rattle.schema_core.specs.Limits.{standard}
+use Rattle.text_lists.specs.Limits.{standard}
 use Rattle.schema_core.specs.SchemaFiles as schema_files
 use Rattle.rule_model.specs.Books.{Book}
 use Rattle.rule_parser.specs.RuleFiles as rule_files

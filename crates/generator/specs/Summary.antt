@@ -1,7 +1,7 @@
 -- What the edits of the generated tables lead to, and what is told of it: a line after each thousand of them.
 use Rattle.std.specs.Prelude.{◌≡◌, ℕ, List, ◌++◌, length, codes, decimal}
-use Rattle.schema_core.specs.Limits.{standard}
-use Rattle.schema_core.specs.declared.limits.Limits.{Limits}
+use Rattle.text_lists.specs.Limits.{standard}
+use Rattle.text_lists.specs.declared.limits.Limits.{Limits}
 use Rattle.shelf_io.specs.Transcript.{IsTranscript}
 use Rattle.rule_model.specs.Books.{Book}
 use Rattle.bench_core.specs.History.{History}

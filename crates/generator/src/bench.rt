@@ -1,7 +1,7 @@
 //! The generated project before its first edit.
 
 ghost use Rattle.std.specs.Prelude.{◌≡◌, IfOk, OnOk};
-ghost use Rattle.schema_core.specs.Limits.{standard};
+ghost use Rattle.text_lists.specs.Limits.{standard};
 ghost use Rattle.generator.specs.Project.{AreRules, Begins, rows};
 
 use crate::draws::Draws;

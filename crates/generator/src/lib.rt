@@ -12,6 +12,3 @@ pub use bench::draw_bench;
 pub use draws::Draws;
 pub use edits::{Thousand, draw_thousands};
 pub use summary::{Summary, generate};
-
-#[cfg(test)]
-mod tests;

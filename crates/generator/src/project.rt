@@ -1,7 +1,7 @@
 //! The schema, the rules and the rows of the generated project.
 
 ghost use Rattle.std.specs.Prelude.{◌≡◌, IfOk, Ok, decimal};
-ghost use Rattle.schema_core.specs.Limits.{standard};
+ghost use Rattle.text_lists.specs.Limits.{standard};
 ghost use Rattle.schema_core.specs.SchemaFiles as schema_files;
 ghost use Rattle.schema_core.specs.Schemas.{IsValidSchema};
 ghost use Rattle.generator.specs.Project.{AreRules, lettered, master_row, master_rows, row, rows, schema_text};

@@ -11,4 +11,4 @@ pub mod PartnerFacts
 pub mod ListedFacts
 pub mod DirtyPlaces
 pub mod CollectFacts
-pub mod TestFacts
+pub mod OwnEntries

@@ -15,7 +15,7 @@ use Rattle.group_index.specs.declared.group.Group.{Group}
 use Rattle.group_index.specs.GroupSet.{GroupsMade, GroupSet}
 use Rattle.group_index.specs.Answers.{IsPartnerOf, IsPartnerOfRow}
 use Rattle.group_index.specs.Keys.{ids_at}
-use Rattle.group_index.specs.Laws.{HasAll, entry_at, entry_there}
+use Rattle.group_index.proofs.OwnEntries.{HasAll, entry_at, entry_there}
 use Rattle.group_index.specs.Pairs.{Pair, pairs_of, has_pair}
 use Rattle.group_index.specs.Groups.{KeyedGroup, KeyedGroups, set_of, is_in, IsPartnerIn}
 use Rattle.group_index.specs.Leads.{IsLeastOther, IsAmong}

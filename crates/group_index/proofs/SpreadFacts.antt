@@ -15,7 +15,7 @@ use Rattle.group_index.specs.declared.group.Group.{Group}
 use Rattle.group_index.specs.contracts.spread.SpreadPartialEq.TheImpl.{ghosts}
 use Rattle.group_index.specs.declared.spread.Spread.{Spread}
 use Rattle.group_index.specs.declared.spread.Spread.TheVariants.{Nothing, Alike, Mixed}
-use Rattle.group_index.specs.Pairs.{Pair, pairs_of, IsSpread, is_mixed, disagree, is_dirty, is_dirty_by}
+use Rattle.group_index.specs.Pairs.{Pair, pairs_of, IsSpread, is_mixed, disagree, is_dirty}
 use Rattle.group_index.specs.Groups.{KeyedGroup, KeyedGroups, is_dirty_at, AreMarked, AreMarkedBut, IsMarkedBy}
 use Rattle.group_index.proofs.GroupFacts.{set_value_at, set_here}
 use Rattle.group_index.proofs.PairFacts.{pair_cmp, set_has, has_from, member_from, any_same, none_pass}
@@ -71,6 +71,12 @@ module _ (s : BTreeSet Pair) (least greatest : Pair) (has_least : contains pair_
 
 -- ---- dirty groups
 
+-- what the spread tells of it
+abbrev told_by : List (TableauRow ℕ) → List ℕ → Spread → Bool
+told_by rows x Nothing = false
+told_by rows x (Alike a) = list_any (λ t. all_match nat_eq t.x x && not (matches nat_eq t.a a)) rows
+told_by rows x Mixed = list_any (λ t. all_match nat_eq t.x x) rows
+
 never : (b : Bool) → (b && false) ≡ false
 never true = refl
 never false = refl
@@ -80,7 +86,7 @@ unmixed pairs a same =
     none_pass (λ p. list_any (λ q. not (nat_eq p.0 q.0)) pairs) pairs (λ p inside. none_pass (λ q. not (nat_eq p.0 q.0)) pairs (λ q beside. let one = same p inside in let other = same q beside in grind (arith, nat_tests)))
 
 module _ (rows : List (TableauRow ℕ)) (x : List ℕ) (pairs : List Pair) where
-  pub dirty_by_spread : (spread : Spread) → IsSpread pairs spread → is_dirty rows x pairs ≡ is_dirty_by rows x spread
+  pub dirty_by_spread : (spread : Spread) → IsSpread pairs spread → is_dirty rows x pairs ≡ told_by rows x spread
   dirty_by_spread Nothing none =
       none_pass (λ t. all_match nat_eq t.x x && disagree t.a pairs) rows (λ t inside. ap (λ b. all_match nat_eq t.x x && b) (agrees t.a) ∙ never (all_match nat_eq t.x x))
     where
@@ -110,32 +116,33 @@ module _ (rows : List (TableauRow ℕ)) (x : List ℕ) (pairs : List Pair) where
       differs cell =
           ap (λ b. b || list_any (λ r. not (matches nat_eq cell r.0)) pairs) (any_from_found (λ r. list_any (λ o. not (nat_eq r.0 o.0)) pairs) pairs p has_p (any_from_found (λ o. not (nat_eq p.0 o.0)) pairs q has_q differ))
 
+-- groups with one key whose A ids spread alike are dirty alike
+pub dirty_alike : (rows : List (TableauRow ℕ)) (x : List ℕ) (pairs others : List Pair) (spread : Spread) → IsSpread pairs spread → IsSpread others spread → is_dirty rows x pairs ≡ is_dirty rows x others
+dirty_alike rows x pairs others spread is also = dirty_by_spread rows x pairs spread is ∙ sym (dirty_by_spread rows x others spread also)
+
 -- ---- marks
 
-module _ (rows : List (TableauRow ℕ)) (groups : KeyedGroups) (place : ℕ) where
-  -- a mark that is right for how A ids are spread
-  pub marked_by_spread : (at : KeyedGroup) (spread : Spread) → slice_get groups.pairs place ≡ Some at → IsSpread (pairs_of at.1) spread → IsMarkedBy rows groups place spread → AreMarkedBut rows groups place → AreMarked rows groups
-  marked_by_spread at spread there is by others = record {
-    marked = λ i g below stands. elim (cases_eq i place) [
-      | inl same ↦
-          let own : at ≡ g = same_Some at g (sym there ∙ ap (slice_get groups.pairs) (sym same) ∙ stands) in
-          ap (is_dirty_at rows) (sym own) ∙ dirty_by_spread rows at.0.items (pairs_of at.1) spread is ∙ (by at there).0 (subst (λ n. n < groups.marked) same below)
-      | inr apart ↦ others.0 i g apart below stands
-    ];
-    unmarked = λ i g past stands. elim (cases_eq i place) [
-      | inl same ↦
-          let own : at ≡ g = same_Some at g (sym there ∙ ap (slice_get groups.pairs) (sym same) ∙ stands) in
-          ap (is_dirty_at rows) (sym own) ∙ dirty_by_spread rows at.0.items (pairs_of at.1) spread is ∙ (by at there).1 (subst (λ n. groups.marked ≤ n) same past)
-      | inr apart ↦ others.1 i g apart past stands
-    ];
-  }
+-- a mark that is right for how A ids are spread
+pub marked_by_spread : (rows : List (TableauRow ℕ)) (groups : KeyedGroups) (place : ℕ) (at : KeyedGroup) (spread : Spread) → slice_get groups.pairs place ≡ Some at → IsSpread (pairs_of at.1) spread → IsMarkedBy rows groups place spread
+    → AreMarkedBut rows groups place → AreMarked rows groups
+marked_by_spread rows groups place at spread there is by others = record {
+  marked = λ i g below stands. elim (cases_eq i place) [
+    | inl same ↦ ap (is_dirty_at rows) (sym (own i g same stands)) ∙ (by at (pairs_of at.1) there is).0 (subst (λ n. n < groups.marked) same below)
+    | inr apart ↦ others.0 i g apart below stands
+  ];
+  unmarked = λ i g past stands. elim (cases_eq i place) [
+    | inl same ↦ ap (is_dirty_at rows) (sym (own i g same stands)) ∙ (by at (pairs_of at.1) there is).1 (subst (λ n. groups.marked ≤ n) same past)
+    | inr apart ↦ others.1 i g apart past stands
+  ];
+}
+  where
+    own : (i : ℕ) (g : KeyedGroup) → i ≡ place → slice_get groups.pairs i ≡ Some g → at ≡ g
+    own i g same stands = same_Some at g (sym there ∙ ap (slice_get groups.pairs) (sym same) ∙ stands)
 
 -- a mark that was right stays right for how A ids were spread, whatever group stands there now
 pub marked_as_before : (rows : List (TableauRow ℕ)) (groups : KeyedGroups) (place : ℕ) (at : KeyedGroup) (w : Group) (spread : Spread) → slice_get groups.pairs place ≡ Some at → IsSpread (pairs_of at.1) spread → AreMarked rows groups
     → IsMarkedBy rows (record { pairs = set_value_at groups.pairs place w; marked = groups.marked }) place spread
-marked_as_before rows groups place at w spread there is are now stands =
+marked_as_before rows groups place at w spread there is are now pairs stands spreads =
     let own : ◌≡◌ {A = KeyedGroup} (at.0, w) now = same_Some (at.0, w) now (sym (set_here groups.pairs place at.0 at.1 w there) ∙ stands) in
-    let by = dirty_by_spread rows at.0.items (pairs_of at.1) spread is in (
-      (λ below. ap (λ (g : KeyedGroup). is_dirty_by rows g.0.items spread) (sym own) ∙ sym by ∙ are.marked place at below there),
-      (λ past. ap (λ (g : KeyedGroup). is_dirty_by rows g.0.items spread) (sym own) ∙ sym by ∙ are.unmarked place at past there),
-    )
+    let was : is_dirty rows now.0.items pairs ≡ is_dirty_at rows at = ap (λ (g : KeyedGroup). is_dirty rows g.0.items pairs) (sym own) ∙ dirty_alike rows at.0.items pairs (pairs_of at.1) spread spreads is in
+    ((λ below. was ∙ are.marked place at below there), (λ past. was ∙ are.unmarked place at past there))

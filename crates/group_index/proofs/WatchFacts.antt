@@ -10,7 +10,7 @@ use Rattle.row_store.specs.Watch.{entries_of, AddsEntries, RemovesEntries, IsWid
 use Rattle.group_index.specs.GroupSet.{GroupsMade, GroupSet, is_entry, holds_entry, gives_entry, attributes_of}
 use Rattle.group_index.specs.Keys.{ids_at, gives_alike}
 use Rattle.group_index.specs.Groups.{KeyedGroups, set_of, is_in, IsEntered, IsLeft}
-use Rattle.group_index.specs.Laws.{HasAll, entry_at, given, own_entry}
+use Rattle.group_index.proofs.OwnEntries.{HasAll, entry_at, given, own_entry}
 use Rattle.group_index.proofs.GroupFacts.{equal_ids, same_ids, both_true, both_so, clash, isnt, found_in, is_entry_parts}
 
 pub wide_from : (made : GroupsMade) (groups : KeyedGroups) (s : GroupSet) (table : ℕ) (ids : List ℕ) → set_of made groups ≡ s → table ≡ made.table → IsWide (attributes_of s.made table) ids → HasAll made ids

@@ -10,7 +10,7 @@ use Rattle.group_index.specs.declared.group.Group.{Group}
 use Rattle.group_index.specs.declared.spread.Spread.{Spread}
 use Rattle.group_index.specs.GroupSet.{GroupsMade, GroupSet, is_entry}
 use Rattle.group_index.specs.Answers.{IsPartnerOf}
-use Rattle.group_index.specs.Pairs.{pairs_of, is_dirty, is_dirty_by}
+use Rattle.group_index.specs.Pairs.{Pair, pairs_of, is_dirty, IsSpread}
 
 -- a key with its group, and all of them
 abbrev pub KeyedGroup : Type 0
@@ -62,10 +62,10 @@ AreMarkedBut rows groups but =
     ((place : ℕ) (at : KeyedGroup) → place ≢ but → place < groups.marked → slice_get groups.pairs place ≡ Some at → IsTrue (is_dirty_at rows at))
     × ((place : ℕ) (at : KeyedGroup) → place ≢ but → groups.marked ≤ place → slice_get groups.pairs place ≡ Some at → is_dirty_at rows at ≡ false)
 
--- the group at a place is marked where, with such A ids, it is dirty
+-- the group at a place is marked where one with its key and A ids that spread so is dirty
 abbrev pub IsMarkedBy : List (TableauRow ℕ) → KeyedGroups → ℕ → Spread → Type 0
-IsMarkedBy rows groups place spread = (at : KeyedGroup) → slice_get groups.pairs place ≡ Some at
-    → (place < groups.marked → IsTrue (is_dirty_by rows at.0.items spread)) × (groups.marked ≤ place → is_dirty_by rows at.0.items spread ≡ false)
+IsMarkedBy rows groups place spread = (at : KeyedGroup) (pairs : List Pair) → slice_get groups.pairs place ≡ Some at → IsSpread pairs spread
+    → (place < groups.marked → IsTrue (is_dirty rows at.0.items pairs)) × (groups.marked ≤ place → is_dirty rows at.0.items pairs ≡ false)
 
 -- the key stands at the place
 abbrev pub HasKeyAt : KeyedGroups → ℕ → List ℕ → Type 0

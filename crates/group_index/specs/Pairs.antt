@@ -1,5 +1,5 @@
 -- What a group holds: A ids, each with a row. When such a group is dirty, and what comes next in it.
-use Rattle.std.specs.Prelude.{◌≡◌, ◌≢◌, ℕ, ◌<◌, ◌≤◌, ◌⊎◌, Bool, false, ◌==◌, ◌&&◌, ◌||◌, not, nat_eq, List, [], ◌∷◌, Contains, Option, Some, None}
+use Rattle.std.specs.Prelude.{◌≡◌, ◌≢◌, ℕ, ◌<◌, ◌≤◌, ◌⊎◌, Bool, ◌==◌, ◌&&◌, ◌||◌, not, nat_eq, List, [], ◌∷◌, Contains, Option, Some, None}
 use Rattle.std.specs.List.{list_any}
 use Rattle.cfd_semantics.specs.declared.pattern.Pattern.{Pattern}
 use Rattle.cfd_semantics.specs.declared.dependency.TableauRow.{TableauRow}
@@ -77,9 +77,3 @@ abbrev pub IsSpread : List Pair → Spread → Type 0
 IsSpread pairs Nothing = (q : Pair) → Contains pairs q → ⊥
 IsSpread pairs (Alike a) = ((row : ℕ) × Contains pairs (a, row)) × ((q : Pair) → Contains pairs q → q.0 ≡ a)
 IsSpread pairs Mixed = (p : Pair) × (q : Pair) × Contains pairs p × Contains pairs q × (p.0 ≢ q.0)
-
--- whether a group with this key and such A ids is dirty
-abbrev pub is_dirty_by : List (TableauRow ℕ) → List ℕ → Spread → Bool
-is_dirty_by rows x Nothing = false
-is_dirty_by rows x (Alike a) = list_any (λ t. all_match nat_eq t.x x && not (matches nat_eq t.a a)) rows
-is_dirty_by rows x Mixed = list_any (λ t. all_match nat_eq t.x x) rows

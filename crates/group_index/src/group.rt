@@ -22,6 +22,9 @@ impl Group {
     pub(crate) fn put(&mut self, alloc: Global, a: ValueId, row: RowId) -> Result<(), AllocError>
         ensures ok { OnOk result (IsPut (pairs_of self.old) (pairs_of self.new) (a, row)) }
         ensures err { OnErr result (HaveTheSame (pairs_of self.old) (pairs_of self.new)) }
+
+        // Only a new row can fail.
+        ensures absent { OnErr result (has_pair (pairs_of self.old) (a, row) ≡ false) }
     {
         match self {
             Group::Many(pairs) => {

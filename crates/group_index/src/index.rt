@@ -1,10 +1,10 @@
 //! The index: what it was made with, its groups, and what it answers.
-ghost use Rattle.std.specs.Prelude.{◌≡◌, ◌+◌, ◌<◌, ◌≤◌, ◌==◌, ◌&&◌, ℕ, List, [], ◌∷◌, length, All, IfOk, false, nat_eq};
+ghost use Rattle.std.specs.Prelude.{◌≡◌, ◌+◌, ◌<◌, ◌≤◌, ◌==◌, ℕ, List, [], length, IfOk};
 ghost use Rattle.row_store.specs.Tuple.{ids_of};
 ghost use Rattle.row_store.specs.Watch.{IsWide};
 ghost use Rattle.cfd_semantics.specs.Violation.{Entry};
 ghost use Rattle.group_index.specs.GroupSet.{GroupSet, GroupsMade, holds_entry, gives_entry, attributes_of};
-ghost use Rattle.group_index.specs.Laws.{gives_names_row, needed_where_given};
+ghost use Rattle.group_index.specs.Laws.{gives_names_row, unneeded_gives_none};
 ghost use Rattle.group_index.specs.Answers.{AreDirty, IsSettled, AreViolationsOf, AreThoseOfTheList, IsPartnerOfRow};
 
 use crate::groups::{Groups, least_partner, put_entry, take_entry};
@@ -14,11 +14,11 @@ use cfd_semantics::{Dependency, Pattern, TableauRow, Violation};
 use marked_map::MarkedMap;
 use probe_steps::Steps;
 use row_store::{RowId, Tuple, Watch};
-use schema_core::List;
 use smallvec::SmallVec;
 use std::alloc::{AllocError, Global};
 use std::marker::Model;
 use std::sync::ledger::Ledger;
+use text_lists::List;
 use value_pool::ValueId;
 
 /// A cell of a tableau, over the ids of values.
@@ -203,5 +203,5 @@ impl Watch for GroupIndex {
 
     ghost names_row = { λ how table row ids entry given. gives_names_row how table row ids entry given };
 
-    ghost needed_exactly = { λ how table. needed_where_given how table };
+    ghost unneeded = { unneeded_gives_none };
 }

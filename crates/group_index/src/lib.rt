@@ -3,7 +3,8 @@
 //! the rows give, with the number of its dirty groups, those in which some row violates some tableau row.
 //!
 //! A change of a row costs a hash and a search in an ordered set of its group, however many rows the group has, and a look at
-//! each tableau row only where the group comes, or where its A ids become alike, mixed, or another one. The dirty groups are marked, and only they are gone through for the violations.
+//! each tableau row only where the group comes, or where its A ids become alike, mixed, or another one. The dirty groups are
+//! marked, and only they are gone through for the violations.
 #![tactic(auto)]
 
 mod group;
@@ -15,6 +16,3 @@ mod spread;
 mod violations;
 
 pub use index::{GroupIndex, IdCell, IdRow};
-
-#[cfg(test)]
-mod tests;

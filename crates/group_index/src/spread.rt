@@ -1,8 +1,8 @@
 //! How the A ids of a group spread: all that it takes, beside the key, to tell whether the group is dirty.
-ghost use Rattle.std.specs.Prelude.{◌≡◌, ◌&&◌, not, nat_eq};
+ghost use Rattle.std.specs.Prelude.{◌≡◌, ◌&&◌, not, nat_eq, List};
 ghost use Rattle.std.specs.List.{list_any};
 ghost use Rattle.cfd_semantics.specs.Pattern.{matches, all_match};
-ghost use Rattle.group_index.specs.Pairs.{pairs_of, IsSpread, is_dirty_by};
+ghost use Rattle.group_index.specs.Pairs.{Pair, pairs_of, IsSpread, is_dirty};
 
 use crate::group::Group;
 use crate::index::IdRow;
@@ -30,10 +30,10 @@ impl Spread {
         }
     }
 
-    /// Whether a row of such a group violates some tableau row: it matches it on X, and has an A id that doesn't match, or
-    /// two A ids, of which one doesn't match or both differ.
+    /// Whether a row of a group with this key and such A ids violates some tableau row: it matches it on X, and has an A id
+    /// that doesn't match, or two A ids, of which one doesn't match or both differ.
     pub(crate) fn is_dirty(self, rows: &[IdRow], x: &[ValueId]) -> bool
-        ensures { result ≡ is_dirty_by rows.now x.now self }
+        ensures { (pairs : List Pair) → IsSpread pairs self → result ≡ is_dirty rows.now x.now pairs }
     {
         match self {
             Spread::Nothing => false,

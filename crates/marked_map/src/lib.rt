@@ -192,8 +192,3 @@ impl<K: Eq + Hash, V> MarkedMap<K, V> {
         self.map.swap_remove_index(place).unwrap()
     }
 }
-
-#[cfg(test)]
-mod tests;
-#[cfg(test)]
-mod uses;

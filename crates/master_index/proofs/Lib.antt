@@ -6,4 +6,3 @@ pub mod MasterRowFacts
 pub mod TableRows
 pub mod MasterSteps
 pub mod MatchFacts
-pub mod TestLists

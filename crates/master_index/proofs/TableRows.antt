@@ -171,3 +171,17 @@ module _ (stores : List Store) (table : ℕ) (was now : Store) (within : table <
           ap (λ n. cond (r == row) None (finite.get (rows_at stores n) r)) here ∙ ap (λ rows. cond (r == row) None (finite.get rows r)) was_there
           ∙ ap (λ b. cond b None (finite.get was.rows r)) (sym (tie r row)) ∙ sym (finite.get-remove nat_cmp_total was.rows row r) ∙ ap (λ rows. finite.get rows r) (sym taken)
       by t r false is = refl
+
+-- ---- a row that is there, and the store of its table
+module _ (stores : List Store) (t r : ℕ) (there : IsSome (finite.get (rows_of_tables stores) (t, r))) (store : Store) (at : store ≡ get_or stores t store) where
+  pub row_stands : IsSome (finite.get store.rows r)
+  row_stands = subst IsSome (row_in stores t r store (table_there stores t r there) at) there
+
+  pub row_was : (ids : List ℕ) → finite.get store.rows r ≡ Some ids → finite.get (rows_of_tables stores) (t, r) ≡ Some ids
+  row_was ids is = row_in stores t r store (table_there stores t r there) at ∙ is
+
+  pub row_gone : (now : Store) → now.rows ≡ finite.remove store.rows r → rows_of_tables (set stores t now) ≡ finite.remove (rows_of_tables stores) (t, r)
+  row_gone now is = row_taken stores t store now (table_there stores t r there) at r is
+
+  pub row_changed : (now : Store) (ids : List ℕ) → now.rows ≡ finite.insert store.rows r ids → rows_of_tables (set stores t now) ≡ finite.insert (rows_of_tables stores) (t, r) ids
+  row_changed now ids is = row_put stores t store now (table_there stores t r there) at r ids is

@@ -1,12 +1,11 @@
 //! The rows of one master table by the ids in some of its columns, kept in step with the rows.
-ghost use Rattle.std.specs.Prelude.{◌≡◌, ◌+◌, ◌≤◌, ◌<◌, ◌==◌, ◌&&◌, ℕ, List, length, All, IfOk, IsTrue, ◌↔◌, false, []};
+ghost use Rattle.std.specs.Prelude.{◌≡◌, ◌≤◌, ◌<◌, ◌==◌, ◌&&◌, ℕ, List, length, All, IfOk, IsTrue, ◌↔◌, false};
 ghost use Rattle.std.specs.Str.{bytes_eq};
 ghost use Rattle.row_store.specs.Tuple.{ids_of};
 ghost use Rattle.master_index.specs.ColumnRows.{AreOrderly, ids_in, is_under, rows_under};
 ghost use Rattle.master_index.specs.ColumnWatch.{ColumnEntry, ColumnsMade, gives_entry, attributes_of};
-ghost use Rattle.std.proofs.Common.{arith, refl};
+ghost use Rattle.std.proofs.Common.{arith};
 ghost use Rattle.std.proofs.lemmas.Bool.Decides.{nat_tests};
-ghost use Rattle.std.proofs.lemmas.Slice.Eq.{bytes_eq-Decides};
 
 use crate::column_list::ColumnList;
 use crate::column_rows::{ColumnRows, put_row, rows_with, take_row};
@@ -126,11 +125,7 @@ impl Watch for ColumnIndex {
 
     ghost names_row = { λ how table row ids entry given. (Prim.grind (arith, nat_tests), Prim.grind (arith, nat_tests)) };
 
-    // A row of the table gives its own ids, whatever they are.
-    ghost needed_exactly = { λ how table. (
-      λ unneeded row ids entry. Prim.grind (arith, nat_tests),
-      λ none. Prim.grind (arith, nat_tests, none 0 [] (record { ids = ids_in [] how.columns; row = 0 }), (bytes_eq-Decides (ids_in [] how.columns) (ids_in [] how.columns)).1 refl),
-    ) };
+    ghost unneeded = { λ how table row ids entry unneeded. Prim.grind (arith, nat_tests) };
 }
 
 // Writes the ids of a tuple in the columns into a key that has the room.

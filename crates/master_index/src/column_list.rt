@@ -1,6 +1,6 @@
 //! A list of columns, as an editing rule looks at them.
 
-use schema_core::List;
+use text_lists::List;
 
 /// Columns of a master table, by which its rows are looked up.
 #[derive(Debug, Drop)]

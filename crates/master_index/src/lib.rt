@@ -17,6 +17,3 @@ mod tables;
 
 pub use column_list::ColumnList;
 pub use index::MasterIndex;
-
-#[cfg(test)]
-mod tests;

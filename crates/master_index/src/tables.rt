@@ -48,6 +48,7 @@ impl Tables {
         self.stores[table].put_back(row, tuple);
     }
 
+    #[tactic(auto, using(crate::proofs::TableRows::table_there, crate::proofs::TableRows::row_stands, crate::proofs::TableRows::row_was, crate::proofs::TableRows::row_gone, crate::proofs::TableRows::row_changed))]
     /// Takes a row away, and gives its tuple.
     pub(crate) fn take(&mut self, table: usize, row: RowId) -> Tuple
         requires { IsSome (finite.get (rows_of_tables self.old.stores.items) (table, row)) }
@@ -57,6 +58,7 @@ impl Tables {
         self.stores[table].take(row)
     }
 
+    #[tactic(auto, using(crate::proofs::TableRows::table_there, crate::proofs::TableRows::row_stands, crate::proofs::TableRows::row_was, crate::proofs::TableRows::row_gone, crate::proofs::TableRows::row_changed))]
     /// Puts the tuple in place of the row's, and gives the old one.
     pub(crate) fn replace(&mut self, table: usize, row: RowId, tuple: Tuple) -> Tuple
         requires { IsSome (finite.get (rows_of_tables self.old.stores.items) (table, row)) }

@@ -2,14 +2,14 @@
 --
 --     NAME: LIST1(NUMBER)
 use Rattle.std.specs.Prelude.{ℕ, List, [], ◌∷◌, ◌++◌, Some, Ok}
-use Rattle.schema_core.specs.Faults as Fault
-use Rattle.schema_core.specs.FileLines as FileLine
-use Rattle.schema_core.specs.Groups.{read_lines}
-use Rattle.schema_core.specs.Phrases.{◌>>=◌, name_at, number_at}
-use Rattle.schema_core.specs.Marks.{after_mark}
-use Rattle.schema_core.specs.TokenLists.{Reader, list1_at, none_after}
-use Rattle.schema_core.specs.declared.line.Line.{Line}
-use Rattle.schema_core.specs.declared.tokens.Mark.TheVariants.{Colon}
+use Rattle.line_grammar.specs.Faults as Fault
+use Rattle.line_grammar.specs.FileLines as FileLine
+use Rattle.line_grammar.specs.Groups.{read_lines}
+use Rattle.line_grammar.specs.Phrases.{◌>>=◌, name_at, number_at}
+use Rattle.line_grammar.specs.Marks.{after_mark}
+use Rattle.line_grammar.specs.TokenLists.{Reader, list1_at, none_after}
+use Rattle.line_grammar.specs.declared.line.Line.{Line}
+use Rattle.line_grammar.specs.declared.tokens.Mark.TheVariants.{Colon}
 use Rattle.number_lists.specs.declared.lists.NumberCause.{NumberCause}
 use Rattle.number_lists.specs.declared.lists.NumberCause.TheVariants.{NotUtf8, BadLine}
 use Rattle.number_lists.specs.declared.rules.NumberList.{NumberList}

@@ -1,9 +1,9 @@
 -- A number that is read takes a token.
 use Rattle.std.proofs.Common.{◌≡◌, ℕ, ◌<◌, List, [], ◌∷◌, length, Some, ap, arith}
 use Rattle.std.proofs.lemmas.Option.{none-some, some_pair_parts}
-use Rattle.schema_core.specs.Phrases.{number_at}
-use Rattle.schema_core.specs.declared.tokens.Token.{Token}
-use Rattle.schema_core.specs.declared.tokens.Token.TheVariants.{Name, Number, Quoted, Sign}
+use Rattle.line_grammar.specs.Phrases.{number_at}
+use Rattle.line_grammar.specs.declared.tokens.Token.{Token}
+use Rattle.line_grammar.specs.declared.tokens.Token.TheVariants.{Name, Number, Quoted, Sign}
 
 pub number_at-takes : (tokens rest : List Token) (x : ℕ) → number_at tokens ≡ Some (x, rest) → length rest < length tokens
 number_at-takes [] rest x e = absurd (none-some _ e)

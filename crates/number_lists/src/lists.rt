@@ -3,11 +3,12 @@
 ghost use Rattle.std.specs.Prelude.{⊤, ◌≡◌};
 ghost use Rattle.number_lists.specs.NumberLists.{number_causes, with_line, lists_of};
 ghost use Rattle.number_lists.specs.declared.rules.NumberList.{NumberList as AnyList};
-ghost use Rattle.schema_core.specs.Faults.{IsUnlessMemory, line_tells};
+ghost use Rattle.line_grammar.specs.Faults.{IsUnlessMemory, line_tells};
 
 use crate::rules::{ListLine, NumberList};
-use schema_core::{Gather, Line, LineCause, LineFault, List, read_lines};
+use line_grammar::{Gather, Line, LineCause, LineFault, read_lines};
 use std::alloc::Global;
+use text_lists::List;
 
 /// What is wrong with a line. This grammar has no other causes than every grammar has.
 #[derive(Clone, Copy, Debug, PartialEq, Eq)]
@@ -37,7 +38,7 @@ struct Lists {
     lists: List<NumberList>,
 }
 
-impl Gather<Line> for Lists {
+impl<'a> Gather<Line<'a>> for Lists {
     type Cause = NumberCause;
 
     ghost use Rattle.std.specs.Prelude.{List};
@@ -54,7 +55,7 @@ impl Gather<Line> for Lists {
 
     ghost is_fit = { λ _ _. ⊤ };
 
-    fn add(&mut self, alloc: Global, line: Line) -> Result<(), NumberFault> {
+    fn add(&mut self, alloc: Global, line: Line<'a>) -> Result<(), NumberFault> {
         let list = line.read::<ListLine, NumberCause>(alloc)?;
         self.lists.push(list)?;
         Ok(())

@@ -3,10 +3,11 @@
 ghost use Rattle.std.specs.Prelude.{⊤};
 ghost use Rattle.number_lists.specs.NumberLists.{list_at_front};
 ghost use Rattle.number_lists.specs.Numbers.{number_at-takes};
-ghost use Rattle.schema_core.specs.Phrases.{number_at};
+ghost use Rattle.line_grammar.specs.Phrases.{number_at};
 
-use schema_core::{List, ListItem, Mark, Phrase, Text, Tokens, Unread};
+use line_grammar::{ListItem, Mark, Phrase, Tokens, Unread};
 use std::alloc::Global;
+use text_lists::{List, Text};
 
 /// A line of the file.
 #[derive(Debug, Drop)]
@@ -28,7 +29,7 @@ impl Phrase for Number {
 
     ghost is_fit = { λ _. ⊤ };
 
-    fn take(_alloc: Global, tokens: &mut Tokens) -> Result<u64, Unread> {
+    fn take(_alloc: Global, tokens: &mut Tokens<'_>) -> Result<u64, Unread> {
         tokens.number()
     }
 }
@@ -45,7 +46,7 @@ impl Phrase for ListLine {
     ghost is_fit = { λ _. ⊤ };
 
     #[tactic(auto, unfolding(crate::specs::NumberLists::list_at_front))]
-    fn take(alloc: Global, tokens: &mut Tokens) -> Result<NumberList, Unread> {
+    fn take(alloc: Global, tokens: &mut Tokens<'_>) -> Result<NumberList, Unread> {
         let name = tokens.name()?;
         tokens.mark(Mark::Colon)?;
         let numbers = tokens.list1::<Number>(alloc)?;

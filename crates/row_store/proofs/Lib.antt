@@ -4,5 +4,3 @@ pub mod Walk
 pub mod Zips
 pub mod TakenBack
 pub mod InStep
-pub mod OneTable
-pub mod PutBack

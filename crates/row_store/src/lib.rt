@@ -15,6 +15,3 @@ pub use rows::Rows;
 pub use store::{RowId, RowStore, Tuple};
 pub use watch::Watch;
 pub use watches::{add_to_all, remove_from_all};
-
-#[cfg(test)]
-mod tests;

@@ -1,5 +1,5 @@
 //! What is kept in step with the rows of tables, as an index is.
-ghost use Rattle.std.specs.Prelude.{◌≡◌, ◌↔◌, ◌+◌, ◌≤◌, ◌||◌, ℕ, Bool, true, false, List, OnOk, OnErr};
+ghost use Rattle.std.specs.Prelude.{◌≡◌, ◌+◌, ◌≤◌, ◌||◌, ℕ, Bool, true, false, List, OnOk, OnErr};
 ghost use Rattle.std.specs.Option.{ForSome};
 ghost use Rattle.row_store.specs.Tuple.{ids_of, ids_behind};
 ghost use Rattle.row_store.specs.Watch.{entries_of, AddsEntries, RemovesEntries, IsWide};
@@ -83,7 +83,6 @@ pub trait Watch {
     ghost names_row: { (how : Made) (table row : ℕ) (ids : List ℕ) (entry : Entry) → gives how table row ids entry ≡ true →
         (table_of how entry ≡ table) × (row_of how entry ≡ row) };
 
-    // A table is needed exactly where some row of it gives some entry.
-    ghost needed_exactly: { (how : Made) (table : ℕ) →
-        (needed how table ≡ false) ↔ ((row : ℕ) (ids : List ℕ) (entry : Entry) → gives how table row ids entry ≡ false) };
+    // Rows of a table that isn't needed give no entries.
+    ghost unneeded: { (how : Made) (table row : ℕ) (ids : List ℕ) (entry : Entry) → needed how table ≡ false → gives how table row ids entry ≡ false };
 }

@@ -1,6 +1,6 @@
 -- The form `check PROJECT CERT`: whether a certificate holds over the rules of a project.
 use Rattle.std.specs.Prelude.{◌≡◌, ℕ, List, ◌++◌, Ok, codes, decimal}
-use Rattle.schema_core.specs.declared.limits.Limits.{Limits}
+use Rattle.text_lists.specs.declared.limits.Limits.{Limits}
 use Rattle.cert_text.specs.CertFiles.{reads_cert}
 use Rattle.cert_text.specs.declared.cert.CertParts.{CertParts}
 use Rattle.cert_text.specs.declared.fault.CertCause.{CertCause}

@@ -1,6 +1,6 @@
 -- The form `implies PROJECT DEP BUDGET`: a certificate of whether the rules of a project imply a dependency.
 use Rattle.std.specs.Prelude.{ℕ, List, Ok}
-use Rattle.schema_core.specs.declared.limits.Limits.{Limits}
+use Rattle.text_lists.specs.declared.limits.Limits.{Limits}
 use Rattle.rule_model.specs.Books.{book_deps}
 use Rattle.rule_parser.specs.RuleFiles.{reads_dep}
 use Rattle.case_search.specs.Enough.{enough_of}

@@ -1,6 +1,6 @@
 //! The form `check PROJECT CERT`: whether a certificate holds over the rules of a project.
 ghost use Rattle.std.specs.Prelude.{◌≡◌, IfOk};
-ghost use Rattle.schema_core.specs.Limits.{AreLimits};
+ghost use Rattle.text_lists.specs.Limits.{AreLimits};
 ghost use Rattle.cert_text.specs.CertFiles.{reads_cert};
 ghost use Rattle.cli_output.specs.Fetching.{Fetches, Reads, about};
 ghost use Rattle.cli_output.specs.Output.{Ends, IsWhole, Only, Output, UsesDevices, Writes};

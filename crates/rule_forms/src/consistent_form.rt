@@ -1,6 +1,6 @@
 //! The form `consistent PROJECT TABLE BUDGET`: whether the dependencies of a table are consistent.
 ghost use Rattle.std.specs.Prelude.{◌≡◌, ◌≤◌, IfOk, IsSome};
-ghost use Rattle.schema_core.specs.Limits.{AreLimits};
+ghost use Rattle.text_lists.specs.Limits.{AreLimits};
 ghost use Rattle.schema_core.specs.Schemas.{table_place};
 ghost use Rattle.cli_output.specs.Fetching.{Fetches, Reads, about};
 ghost use Rattle.cli_output.specs.Output.{Ends, Output, UsesDevices, Writes};

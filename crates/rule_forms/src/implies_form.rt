@@ -1,6 +1,6 @@
 //! The form `implies PROJECT DEP BUDGET`: whether the rules of a project imply a dependency.
 ghost use Rattle.std.specs.Prelude.{◌≡◌, ◌≤◌, length, IfOk};
-ghost use Rattle.schema_core.specs.Limits.{AreLimits};
+ghost use Rattle.text_lists.specs.Limits.{AreLimits};
 ghost use Rattle.rule_model.specs.Rules.{IsValidDep};
 ghost use Rattle.rule_parser.specs.RuleFiles.{reads_dep};
 ghost use Rattle.cli_output.specs.Fetching.{Fetches, Reads, about};

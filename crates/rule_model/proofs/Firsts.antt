@@ -6,8 +6,8 @@ use Rattle.std.specs.Option.{option_or}
 use Rattle.rule_model.specs.declared.fault.RuleFault.{RuleFault}
 use Rattle.rule_model.specs.declared.fault.AddFault.{AddFault}
 use Rattle.rule_model.specs.declared.fault.AddFault.TheVariants.{Rule, Memory}
-use Rattle.schema_core.specs.Faults.{IsUnlessMemory}
-use Rattle.schema_core.specs.Firsts.{first_of, first_in}
+use Rattle.line_grammar.specs.Faults.{IsUnlessMemory}
+use Rattle.text_lists.specs.Firsts.{first_of, first_in}
 use Rattle.rule_model.specs.Judged.{unless_fault}
 use Rattle.rule_model.specs.Faults.{verdict, rule_tells, Finds}
 

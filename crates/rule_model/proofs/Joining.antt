@@ -6,10 +6,10 @@ use Rattle.std.proofs.lemmas.List.{append-nil, length-append, get_or_append_left
 use Rattle.std.proofs.lemmas.List.Concat.{flat_map-append}
 use Rattle.std.proofs.lemmas.List.Elements.{All-append, All-push, All-nil}
 use Rattle.std.proofs.lemmas.List.Sums.{sum_by-append}
-use Rattle.schema_core.specs.Limits.{AreLimits}
+use Rattle.text_lists.specs.Limits.{AreLimits}
 use Rattle.schema_core.specs.Schemas.{IsValidSchema}
-use Rattle.schema_core.specs.declared.limits.Limits.{Limits}
-use Rattle.schema_core.specs.declared.limits.Limit.TheVariants.{Deps, Cinds, Edits, TableauRows}
+use Rattle.text_lists.specs.declared.limits.Limits.{Limits}
+use Rattle.text_lists.specs.declared.limits.Limit.TheVariants.{Deps, Cinds, Edits, TableauRows}
 use Rattle.schema_core.specs.declared.schema.Schema.{Schema}
 use Rattle.rule_model.specs.declared.decl.Decl.{Decl}
 use Rattle.rule_model.specs.declared.dep.Dep.{Dep}

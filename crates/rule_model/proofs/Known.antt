@@ -5,7 +5,7 @@ use Rattle.std.specs.List.{AllByRecursion, list_any, zip}
 use Rattle.std.specs.Option.{is_some}
 use Rattle.std.specs.Str.{bytes_eq}
 use Rattle.schema_core.specs.Schemas.{table_place}
-use Rattle.schema_core.specs.Repeats.{AreDistinct}
+use Rattle.text_lists.specs.Repeats.{AreDistinct}
 use Rattle.schema_core.specs.declared.schema.Attr.{Attr}
 use Rattle.schema_core.specs.declared.schema.Table.{Table}
 use Rattle.schema_core.specs.declared.schema.Schema.{Schema}
@@ -16,7 +16,7 @@ use Rattle.std.proofs.lemmas.List.Quantifiers.{position-Some}
 use Rattle.std.proofs.lemmas.Slice.Eq.{bytes_eq-Decides}
 use Rattle.schema_core.specs.Lookups.{table_number, place_of, attr_number, attr_numbers}
 use Rattle.rule_model.specs.Rules.{AreAttrsOf}
-use Rattle.schema_core.specs.Firsts.{first_in}
+use Rattle.text_lists.specs.Firsts.{first_in}
 use Rattle.rule_model.specs.Faults.{unknown_table_name, unknown_name, unknown_in, unknown_in_pair}
 use Rattle.rule_model.proofs.Passing.{both_none, none_in, holds_if_none, each_weaker, none_equals}
 

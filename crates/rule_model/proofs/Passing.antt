@@ -3,13 +3,13 @@ use Rattle.std.proofs.Common.{◌≡◌, ◌≢◌, ℕ, zero, suc, ◌<◌, ◌
 use Rattle.std.specs.List.{AllByRecursion, list_any, list_all, find}
 use Rattle.std.specs.Option.{option_map, option_or}
 use Rattle.std.specs.Str.{bytes_eq}
-use Rattle.schema_core.specs.Repeats.{AreDistinct}
+use Rattle.text_lists.specs.Repeats.{AreDistinct}
 use Rattle.std.proofs.lemmas.Bool.{cases_lt, false≢true}
 use Rattle.std.proofs.lemmas.List.{get_or_append_left, get_or_at, length-append}
 use Rattle.std.proofs.lemmas.Slice.Eq.{bytes_eq-Decides}
 use Rattle.rule_model.specs.declared.fault.RuleFault.{RuleFault}
-use Rattle.schema_core.specs.Firsts.{first_of, first_in}
-use Rattle.schema_core.specs.Repeats.{repeated_after, first_repeated}
+use Rattle.text_lists.specs.Firsts.{first_of, first_in}
+use Rattle.text_lists.specs.Repeats.{repeated_after, first_repeated}
 use Rattle.rule_model.specs.Faults.{unless}
 
 -- neither of two tests finds anything

@@ -6,7 +6,7 @@ use Rattle.std.specs.Str.{bytes_eq}
 use Rattle.std.proofs.lemmas.List.{at_drop_more, take_more, append-nil}
 use Rattle.std.proofs.lemmas.List.Folds.{list_any-append}
 use Rattle.rule_model.specs.declared.fault.RuleFault.TheVariants.{RepeatedAttr}
-use Rattle.schema_core.specs.Repeats.{repeated_after}
+use Rattle.text_lists.specs.Repeats.{repeated_after}
 use Rattle.rule_model.specs.Faults.{repeated_in}
 
 pub in_both : (front rest : List (List ℕ)) (text : List ℕ) → list_any (λ other. bytes_eq other text) (front ++ rest) ≡ (list_any (λ other. bytes_eq other text) front || list_any (λ other. bytes_eq other text) rest)

@@ -2,9 +2,9 @@
 use Rattle.std.proofs.Common.{◌≡◌, ℕ, suc, Bool, true, false, not, ◌||◌, List, [], ◌∷◌, length, None, Contains, refl, arith}
 use Rattle.std.specs.List.{AllByRecursion, AllZip, list_any, zip}
 use Rattle.std.specs.Str.{bytes_eq}
-use Rattle.schema_core.specs.Names.{IsConstant}
+use Rattle.text_lists.specs.Names.{IsConstant}
 use Rattle.schema_core.specs.Schemas.{admits, Admits}
-use Rattle.schema_core.specs.Repeats.{AreDistinct}
+use Rattle.text_lists.specs.Repeats.{AreDistinct}
 use Rattle.schema_core.specs.declared.schema.Domain.{Domain}
 use Rattle.schema_core.specs.declared.schema.Domain.TheVariants.{AnyText, Finite}
 use Rattle.schema_core.specs.declared.schema.Attr.{Attr}

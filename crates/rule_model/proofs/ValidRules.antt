@@ -7,9 +7,9 @@ use Rattle.std.proofs.lemmas.Bool.{eqb-true}
 use Rattle.std.proofs.lemmas.List.{length-map, map-append}
 use Rattle.std.proofs.lemmas.List.Elements.{All-from_recursion, recursion_from_All, All-nil}
 use Rattle.std.proofs.lemmas.List.FromFn.{get_or-map-range_with_len, length-map-range_with_len}
-use Rattle.schema_core.specs.Names.{IsConstant}
-use Rattle.schema_core.specs.Repeats.{AreDistinct}
-use Rattle.schema_core.specs.declared.limits.Limits.{Limits}
+use Rattle.text_lists.specs.Names.{IsConstant}
+use Rattle.text_lists.specs.Repeats.{AreDistinct}
+use Rattle.text_lists.specs.declared.limits.Limits.{Limits}
 use Rattle.schema_core.specs.declared.schema.Attr.{Attr}
 use Rattle.schema_core.specs.declared.schema.Schema.{Schema}
 use Rattle.cfd_semantics.specs.declared.pattern.Pattern.TheVariants.{Any}
@@ -26,7 +26,7 @@ use Rattle.schema_core.specs.Lookups.{attrs_of, attr_number, attr_numbers, domai
 use Rattle.rule_model.specs.Rules.{row_at, dep_at, cind_of, edit_of, deps_of, cinds_of, edits_of, numbered_pattern, pattern_attrs, IsCellOf, IsValidRow, IsValidDep, IsValidInclusionRow, IsValidCind, IsValidEditRule}
 use Rattle.rule_model.specs.declared.fault.RuleFault.{RuleFault}
 use Rattle.rule_model.specs.Counts.{counts_of}
-use Rattle.schema_core.specs.Firsts.{first_of, first_in}
+use Rattle.text_lists.specs.Firsts.{first_of, first_in}
 use Rattle.rule_model.specs.Faults.{unknown_table_name, unknown_table, not_master, unknown_name, unknown_in, unknown_in_pair, unknown_in_pairs, unknown_attr, repeated_in, repeated_attr, no_match_column, target_in_x, is_as_wide, is_inclusion_row_as_wide, width_mismatch, outside_in_cell, outside_constant, outside_in_row, outside_in_inclusion_row, outside_in_pattern, outside_domain, repeated_in_cell, repeated_in_row, repeated_constant, domain_mismatch, duplicate_rule, too_many, schema_tests, fault_of}
 use Rattle.rule_model.proofs.Passing.{both_none, none_of, none_in, map_none, holds_if_none, both_true, all_pass, not_true, distinct_if_none}
 use Rattle.rule_model.proofs.Known.{IsKnown, table_if_none, known_if_none, all_known_if_none, pairs_known, both_known, numbers_within, numbers_distinct, number_outside}

@@ -1,9 +1,9 @@
 -- Rule books: declarations without fault, and the rules that they stand for.
 use Rattle.std.specs.Prelude.{◌≡◌, ℕ, Bool, true, false, ◌||◌, ◌<◌, List, [], ◌∷◌, ◌++◌, length, take, All, slice_index_or, Option, None}
 use Rattle.std.specs.List.{flat_map, list_any}
-use Rattle.schema_core.specs.Limits.{AreLimits}
+use Rattle.text_lists.specs.Limits.{AreLimits}
 use Rattle.schema_core.specs.Schemas.{IsValidSchema}
-use Rattle.schema_core.specs.declared.limits.Limits.{Limits}
+use Rattle.text_lists.specs.declared.limits.Limits.{Limits}
 use Rattle.schema_core.specs.declared.schema.Schema.{Schema}
 use Rattle.cfd_semantics.specs.declared.pattern.Pattern.{Pattern}
 use Rattle.cfd_semantics.specs.declared.pattern.Pattern.TheVariants.{Any, Is, In, NotIn}

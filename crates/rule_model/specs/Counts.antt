@@ -1,6 +1,6 @@
 -- How many rules of each kind and how many tableau rows declarations stand for, and the limits on them.
 use Rattle.std.specs.Prelude.{◌+◌, ◌≤◌, List, sum_by}
-use Rattle.schema_core.specs.declared.limits.Limits.{Limits}
+use Rattle.text_lists.specs.declared.limits.Limits.{Limits}
 use Rattle.rule_model.specs.declared.decl.Decl.{Decl}
 use Rattle.rule_model.specs.declared.counts.Counts.{Counts}
 use Rattle.rule_model.specs.Declarations.{dep_count, cind_count, edit_count, row_count}

@@ -1,7 +1,7 @@
 -- Declarations as they are written, and what each has to be before it is judged.
 use Rattle.std.specs.Prelude.{ℕ, ◌≤◌, List, [], ◌∷◌, length, All}
-use Rattle.schema_core.specs.Names.{IsName, IsConstant}
-use Rattle.schema_core.specs.declared.bounds.TheConstants.{SET_MEMBERS}
+use Rattle.text_lists.specs.Names.{IsName, IsConstant}
+use Rattle.text_lists.specs.declared.bounds.TheConstants.{SET_MEMBERS}
 use Rattle.cfd_semantics.specs.declared.pattern.Pattern.{Pattern}
 use Rattle.cfd_semantics.specs.declared.pattern.Pattern.TheVariants.{Any, Is, In, NotIn}
 use Rattle.cfd_semantics.specs.declared.inclusion.InclusionRow.{InclusionRow}

@@ -5,9 +5,9 @@ use Rattle.std.specs.Option.{option_map, option_or, is_some}
 use Rattle.std.specs.List.{list_any, list_all, zip}
 use Rattle.std.specs.Str.{bytes_eq}
 use Rattle.schema_core.specs.Schemas.{admits, table_place}
-use Rattle.schema_core.specs.declared.limits.Limits.{Limits}
-use Rattle.schema_core.specs.declared.limits.Limit.{Limit}
-use Rattle.schema_core.specs.declared.limits.Limit.TheVariants.{Deps, Cinds, Edits, TableauRows}
+use Rattle.text_lists.specs.declared.limits.Limits.{Limits}
+use Rattle.text_lists.specs.declared.limits.Limit.{Limit}
+use Rattle.text_lists.specs.declared.limits.Limit.TheVariants.{Deps, Cinds, Edits, TableauRows}
 use Rattle.schema_core.specs.declared.schema.Domain.{Domain}
 use Rattle.schema_core.specs.declared.schema.Domain.TheVariants.{AnyText, Finite}
 use Rattle.schema_core.specs.declared.schema.Attr.{Attr}
@@ -26,9 +26,9 @@ use Rattle.rule_model.specs.declared.fault.AddFault.{AddFault}
 use Rattle.rule_model.specs.declared.fault.AddFault.TheVariants.{Rule, Memory}
 use Rattle.rule_model.specs.declared.counts.Counts.{Counts}
 use Rattle.rule_model.specs.Counts.{counts_of}
-use Rattle.schema_core.specs.Faults.{IsUnlessMemory}
-use Rattle.schema_core.specs.Firsts.{first_of, first_in}
-use Rattle.schema_core.specs.Repeats.{first_repeated}
+use Rattle.line_grammar.specs.Faults.{IsUnlessMemory}
+use Rattle.text_lists.specs.Firsts.{first_of, first_in}
+use Rattle.text_lists.specs.Repeats.{first_repeated}
 use Rattle.rule_model.specs.Declarations.{name_of, constants_of, edit_constants_of}
 use Rattle.schema_core.specs.Lookups.{table_number, attrs_of, master_at, place_of, domain_of}
 use Rattle.rule_model.specs.Rules.{pattern_attrs}

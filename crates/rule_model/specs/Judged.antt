@@ -5,7 +5,7 @@ use Rattle.rule_model.specs.declared.decl.CfdDecl.{CfdDecl}
 use Rattle.rule_model.specs.declared.decl.Decl.TheVariants.{Cfd}
 use Rattle.rule_model.specs.declared.dep.Dep.{Dep}
 use Rattle.rule_model.specs.declared.fault.RuleFault.{RuleFault}
-use Rattle.schema_core.specs.Firsts.{first_of}
+use Rattle.text_lists.specs.Firsts.{first_of}
 use Rattle.rule_model.specs.Rules.{dep_at}
 use Rattle.rule_model.specs.Faults.{schema_tests}
 

@@ -1,10 +1,10 @@
 -- The rules that a declaration stands for, and which rules are valid over a schema.
 use Rattle.std.specs.Prelude.{◌≡◌, ℕ, ◌≤◌, ◌<◌, IsTrue, List, [], ◌∷◌, ◌++◌, length, map, All, Contains, slice_index, slice_index_or}
 use Rattle.std.specs.List.{AllZip, range_with_len}
-use Rattle.schema_core.specs.Names.{IsConstant}
-use Rattle.schema_core.specs.declared.bounds.TheConstants.{SET_MEMBERS}
+use Rattle.text_lists.specs.Names.{IsConstant}
+use Rattle.text_lists.specs.declared.bounds.TheConstants.{SET_MEMBERS}
 use Rattle.schema_core.specs.Schemas.{Admits}
-use Rattle.schema_core.specs.Repeats.{AreDistinct}
+use Rattle.text_lists.specs.Repeats.{AreDistinct}
 use Rattle.schema_core.specs.declared.schema.Domain.{Domain}
 use Rattle.schema_core.specs.declared.schema.Attr.{Attr}
 use Rattle.schema_core.specs.declared.schema.Schema.{Schema}

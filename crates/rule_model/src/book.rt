@@ -1,7 +1,7 @@
 //! The rule book.
 
 ghost use Rattle.std.specs.Prelude.{◌≡◌, ◌++◌, [], ◌∷◌, OnOk, OnErr};
-ghost use Rattle.schema_core.specs.Limits.{AreLimits};
+ghost use Rattle.text_lists.specs.Limits.{AreLimits};
 ghost use Rattle.schema_core.specs.Schemas.{IsValidSchema};
 ghost use Rattle.rule_model.specs.Declarations.{IsWritten};
 ghost use Rattle.rule_model.specs.Rules.{with_rules_of};

@@ -8,7 +8,7 @@ ghost use Rattle.schema_core.specs.declared.schema.Domain.TheVariants.{AnyText};
 ghost use Rattle.rule_model.specs.Counts.{counts_of};
 ghost use Rattle.schema_core.specs.Lookups.{attrs_of, domain_of};
 ghost use Rattle.rule_model.specs.Faults.{Finds, is_within, domain_mismatch, schema_tests, fault_of};
-ghost use Rattle.schema_core.specs.Firsts.{first_of};
+ghost use Rattle.text_lists.specs.Firsts.{first_of};
 
 use crate::cells::{constants_fit, sets_are_distinct, widths_fit};
 use crate::counts::Counts;

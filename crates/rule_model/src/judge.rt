@@ -3,8 +3,8 @@
 ghost use Rattle.std.specs.Prelude.{◌<◌, length, All, IfOk};
 ghost use Rattle.rule_model.specs.Declarations.{IsWrittenRow};
 ghost use Rattle.rule_model.specs.Faults.{rule_tells, Finds, schema_tests};
-ghost use Rattle.schema_core.specs.Faults.{IsUnlessMemory};
-ghost use Rattle.schema_core.specs.Firsts.{first_of};
+ghost use Rattle.line_grammar.specs.Faults.{IsUnlessMemory};
+ghost use Rattle.text_lists.specs.Firsts.{first_of};
 ghost use Rattle.rule_model.specs.Judged.{judged_dep};
 ghost use Rattle.rule_model.specs.Rules.{IsValidDep};
 

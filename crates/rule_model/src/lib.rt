@@ -26,6 +26,3 @@ pub use dep::{Dep, DepRow};
 pub use edit_rule::{EditCell, EditRule};
 pub use fault::{AddFault, RuleFault};
 pub use judge::judge_dep;
-
-#[cfg(test)]
-mod tests;

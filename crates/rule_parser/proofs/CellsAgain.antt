@@ -5,16 +5,16 @@ use Rattle.std.specs.List.{AllByRecursion}
 use Rattle.std.proofs.lemmas.Bool.{le-leb}
 use Rattle.std.proofs.lemmas.List.{append-nil}
 use Rattle.std.proofs.lemmas.List.Elements.{recursion_from_All}
-use Rattle.schema_core.specs.Names.{IsName, IsConstant}
-use Rattle.schema_core.specs.Phrases.{constant_at, list_until}
-use Rattle.schema_core.specs.TokenLists.{list1_at, list_at}
-use Rattle.schema_core.specs.declared.tokens.Mark.TheVariants.{OpenBrace, CloseBrace, Bars}
-use Rattle.schema_core.specs.declared.tokens.Token.{Token}
-use Rattle.schema_core.specs.declared.tokens.Token.TheVariants.{Name, Sign}
-use Rattle.schema_core.specs.declared.writing.Part.{Part}
-use Rattle.schema_core.specs.declared.writing.Part.TheVariants.{Space}
-use Rattle.schema_core.specs.Spelling.{tokens_in, AreApart, IsReadable, mark, comma_separated, spaced_list}
-use Rattle.schema_core.proofs.PartLemmas.{tokens_then, tokens_in-append, tokens_in-spaced, AreGood, AreGood-append, AreGood-list, AreGood-spaced, IsLoose, IsLoose-nil, IsLoose-space, IsLoose-mark, AreApart-list, IsLoose-spaced, behind_mark, AreReadAgain, list1_at-written, list_at-written, list_until-written, is_constant-true, constants_again, constants_some, constants_good}
+use Rattle.text_lists.specs.Names.{IsName, IsConstant}
+use Rattle.line_grammar.specs.Phrases.{constant_at, list_until}
+use Rattle.line_grammar.specs.TokenLists.{list1_at, list_at}
+use Rattle.line_grammar.specs.declared.tokens.Mark.TheVariants.{OpenBrace, CloseBrace, Bars}
+use Rattle.line_grammar.specs.declared.tokens.Token.{Token}
+use Rattle.line_grammar.specs.declared.tokens.Token.TheVariants.{Name, Sign}
+use Rattle.line_grammar.specs.declared.writing.Part.{Part}
+use Rattle.line_grammar.specs.declared.writing.Part.TheVariants.{Space}
+use Rattle.line_grammar.specs.Spelling.{tokens_in, AreApart, IsReadable, mark, comma_separated, spaced_list}
+use Rattle.line_grammar.proofs.PartLemmas.{tokens_then, tokens_in-append, tokens_in-spaced, AreGood, AreGood-append, AreGood-list, AreGood-spaced, IsLoose, IsLoose-nil, IsLoose-space, IsLoose-mark, AreApart-list, IsLoose-spaced, behind_mark, AreReadAgain, list1_at-written, list_at-written, list_until-written, is_constant-true, constants_again, constants_some, constants_good}
 use Rattle.cfd_semantics.specs.declared.pattern.Pattern.{Pattern}
 use Rattle.cfd_semantics.specs.declared.pattern.Pattern.TheVariants.{Any, Is, In, NotIn}
 use Rattle.cfd_semantics.specs.declared.inclusion.InclusionRow.{InclusionRow}

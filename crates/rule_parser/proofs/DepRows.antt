@@ -2,7 +2,7 @@
 use Rattle.std.proofs.Common.{◌≡◌, length, Option, Some, None, sym, ap, ◌∙◌}
 use Rattle.std.specs.Prelude.{Ok}
 use Rattle.std.proofs.lemmas.List.{length-map}
-use Rattle.schema_core.specs.Firsts.{first_of}
+use Rattle.text_lists.specs.Firsts.{first_of}
 use Rattle.schema_core.specs.declared.schema.Schema.{Schema}
 use Rattle.rule_model.specs.declared.decl.CfdDecl.{CfdDecl}
 use Rattle.rule_model.specs.declared.decl.Decl.TheVariants.{Cfd}

@@ -4,23 +4,23 @@ use Rattle.std.specs.Prelude.{Ok}
 use Rattle.std.specs.List.{flat_map, AllByRecursion, AllZip}
 use Rattle.std.proofs.lemmas.List.{append-nil}
 use Rattle.std.proofs.lemmas.List.Elements.{recursion_from_All, All-from_recursion}
-use Rattle.schema_core.specs.Names.{IsName, IsConstant}
-use Rattle.schema_core.specs.Faults.{◌>>=◌}
-use Rattle.schema_core.specs.FileLines.{content_of, found_at}
-use Rattle.schema_core.specs.Phrases.{list_until}
+use Rattle.text_lists.specs.Names.{IsName, IsConstant}
+use Rattle.line_grammar.specs.Faults.{◌>>=◌}
+use Rattle.line_grammar.specs.FileLines.{content_of, found_at}
+use Rattle.line_grammar.specs.Phrases.{list_until}
 use Rattle.schema_core.specs.Schemas.{IsValidSchema}
-use Rattle.schema_core.specs.TokenLists.{none_after}
-use Rattle.schema_core.specs.Tokens.{line_tokens}
-use Rattle.schema_core.specs.declared.tokens.Mark.TheVariants.{OpenBracket, CloseBracket, Arrow, Bars}
-use Rattle.schema_core.specs.declared.tokens.Token.TheVariants.{Name, Sign}
-use Rattle.schema_core.specs.declared.writing.Part.{Part}
-use Rattle.schema_core.specs.declared.writing.Part.TheVariants.{Space}
+use Rattle.line_grammar.specs.TokenLists.{none_after}
+use Rattle.line_grammar.specs.Tokens.{line_tokens}
+use Rattle.line_grammar.specs.declared.tokens.Mark.TheVariants.{OpenBracket, CloseBracket, Arrow, Bars}
+use Rattle.line_grammar.specs.declared.tokens.Token.TheVariants.{Name, Sign}
+use Rattle.line_grammar.specs.declared.writing.Part.{Part}
+use Rattle.line_grammar.specs.declared.writing.Part.TheVariants.{Space}
 use Rattle.schema_core.specs.declared.schema.Domain.{Domain}
 use Rattle.schema_core.specs.declared.schema.Attr.{Attr}
 use Rattle.schema_core.specs.declared.schema.Schema.{Schema}
-use Rattle.schema_core.specs.Spelling.{line_text, tokens_in, IsReadable, mark, comma_separated}
-use Rattle.schema_core.proofs.PartLemmas.{tokens_in-append, AreGood-append, list_until-written}
-use Rattle.schema_core.proofs.SpelledLines.{line_tokens-written}
+use Rattle.line_grammar.specs.Spelling.{line_text, tokens_in, IsReadable, mark, comma_separated}
+use Rattle.line_grammar.proofs.PartLemmas.{tokens_in-append, AreGood-append, list_until-written}
+use Rattle.line_grammar.proofs.SpelledLines.{line_tokens-written}
 use Rattle.cfd_semantics.specs.declared.pattern.Pattern.{Pattern}
 use Rattle.cfd_semantics.specs.declared.pattern.Pattern.TheVariants.{Any, Is, In, NotIn}
 use Rattle.cfd_semantics.specs.declared.dependency.TableauRow.{TableauRow}

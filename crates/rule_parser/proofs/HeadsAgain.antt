@@ -3,18 +3,18 @@ use Rattle.std.proofs.Common.{◌≡◌, ℕ, ◌<◌, ◌≤◌, true, List, []
 use Rattle.std.specs.Prelude.{codes, map}
 use Rattle.std.specs.List.{AllByRecursion, zip}
 use Rattle.std.proofs.lemmas.List.{append-nil}
-use Rattle.schema_core.specs.Names.{IsName}
-use Rattle.schema_core.specs.Phrases.{name_at, list_until}
-use Rattle.schema_core.specs.Marks.{after_mark, same_mark}
-use Rattle.schema_core.specs.TokenLists.{list1_at, list_at}
-use Rattle.schema_core.specs.declared.tokens.Mark.{Mark}
-use Rattle.schema_core.specs.declared.tokens.Mark.TheVariants.{Colon, Comma, OpenBracket, CloseBracket, Semicolon, Equals, Arrow}
-use Rattle.schema_core.specs.declared.tokens.Token.{Token}
-use Rattle.schema_core.specs.declared.tokens.Token.TheVariants.{Name, Sign}
-use Rattle.schema_core.specs.declared.writing.Part.{Part}
-use Rattle.schema_core.specs.declared.writing.Part.TheVariants.{Space}
-use Rattle.schema_core.specs.Spelling.{tokens_in, AreApart, IsReadable, name, mark, comma_separated, spaced_list}
-use Rattle.schema_core.proofs.PartLemmas.{tokens_in-append, tokens_in-spaced, AreGood, AreGood-append, AreGood-list, AreGood-spaced, IsLoose, IsLoose-nil, IsLoose-mark, AreApart-append, AreApart-list, IsLoose-spaced, behind_mark, AreReadAgain, list1_at-written, list_at-written, list_until-written, names_again, names_some, names_good}
+use Rattle.text_lists.specs.Names.{IsName}
+use Rattle.line_grammar.specs.Phrases.{name_at, list_until}
+use Rattle.line_grammar.specs.Marks.{after_mark, same_mark}
+use Rattle.line_grammar.specs.TokenLists.{list1_at, list_at}
+use Rattle.line_grammar.specs.declared.tokens.Mark.{Mark}
+use Rattle.line_grammar.specs.declared.tokens.Mark.TheVariants.{Colon, Comma, OpenBracket, CloseBracket, Semicolon, Equals, Arrow}
+use Rattle.line_grammar.specs.declared.tokens.Token.{Token}
+use Rattle.line_grammar.specs.declared.tokens.Token.TheVariants.{Name, Sign}
+use Rattle.line_grammar.specs.declared.writing.Part.{Part}
+use Rattle.line_grammar.specs.declared.writing.Part.TheVariants.{Space}
+use Rattle.line_grammar.specs.Spelling.{tokens_in, AreApart, IsReadable, name, mark, comma_separated, spaced_list}
+use Rattle.line_grammar.proofs.PartLemmas.{tokens_in-append, tokens_in-spaced, AreGood, AreGood-append, AreGood-list, AreGood-spaced, IsLoose, IsLoose-nil, IsLoose-mark, AreApart-append, AreApart-list, IsLoose-spaced, behind_mark, AreReadAgain, list1_at-written, list_at-written, list_until-written, names_again, names_some, names_good}
 use Rattle.rule_model.specs.declared.decl.CfdDecl.{CfdDecl}
 use Rattle.rule_model.specs.declared.decl.CindDecl.{CindDecl}
 use Rattle.rule_model.specs.declared.decl.EditDecl.{EditDecl}

@@ -8,14 +8,14 @@ use Rattle.std.proofs.lemmas.Bool.{cond-false, or_left, or_right, eq-eqb}
 use Rattle.std.proofs.lemmas.List.{length-map, get_or-map}
 use Rattle.std.proofs.lemmas.List.Elements.{recursion_from_All}
 use Rattle.std.proofs.lemmas.Slice.Eq.{bytes_eq-Decides}
-use Rattle.schema_core.specs.Firsts.{first_of, first_in}
-use Rattle.schema_core.specs.Repeats.{AreDistinct, first_repeated}
+use Rattle.text_lists.specs.Firsts.{first_of, first_in}
+use Rattle.text_lists.specs.Repeats.{AreDistinct, first_repeated}
 use Rattle.schema_core.specs.Schemas.{Admits, admits, table_place, IsValidSchema, names_of_attrs}
 use Rattle.schema_core.specs.declared.schema.Domain.{Domain}
 use Rattle.schema_core.specs.declared.schema.Domain.TheVariants.{AnyText, Finite}
 use Rattle.schema_core.specs.declared.schema.Attr.{Attr}
 use Rattle.schema_core.specs.declared.schema.Schema.{Schema}
-use Rattle.schema_core.proofs.RepeatLemmas.{bytes_eq-tells, first_repeated-none}
+use Rattle.text_lists.proofs.RepeatLemmas.{bytes_eq-tells, first_repeated-none}
 use Rattle.cfd_semantics.specs.declared.pattern.Pattern.{Pattern}
 use Rattle.cfd_semantics.specs.declared.pattern.Pattern.TheVariants.{Any, Is, In, NotIn}
 use Rattle.cfd_semantics.specs.declared.dependency.TableauRow.{TableauRow}

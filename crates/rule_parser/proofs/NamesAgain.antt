@@ -9,7 +9,7 @@ use Rattle.std.proofs.lemmas.List.Elements.{All-nil}
 use Rattle.std.proofs.lemmas.List.Quantifiers.{position-Some}
 use Rattle.std.proofs.lemmas.Option.{slice_get_within, get_or_from_slice_get}
 use Rattle.std.proofs.lemmas.Slice.Eq.{bytes_eq-Decides}
-use Rattle.schema_core.specs.Names.{IsName}
+use Rattle.text_lists.specs.Names.{IsName}
 use Rattle.schema_core.specs.Schemas.{table_place, IsValidAttr, IsValidTable, IsValidSchema}
 use Rattle.schema_core.specs.declared.schema.Domain.TheVariants.{AnyText}
 use Rattle.schema_core.specs.declared.schema.Attr.{Attr}

@@ -10,8 +10,8 @@ use Rattle.std.proofs.lemmas.List.{length-map}
 use Rattle.std.proofs.lemmas.List.Sums.{position_or_len_is}
 use Rattle.std.proofs.lemmas.Option.{slice_get-get_or}
 use Rattle.std.proofs.lemmas.Slice.Eq.{bytes_eq-Decides}
-use Rattle.schema_core.specs.Names.{IsName}
-use Rattle.schema_core.specs.Repeats.{AreDistinct}
+use Rattle.text_lists.specs.Names.{IsName}
+use Rattle.text_lists.specs.Repeats.{AreDistinct}
 use Rattle.schema_core.specs.Schemas.{table_place, IsValidAttr, IsValidSchema, names_of_attrs}
 use Rattle.schema_core.specs.declared.schema.Domain.TheVariants.{AnyText}
 use Rattle.schema_core.specs.declared.schema.Attr.{Attr}

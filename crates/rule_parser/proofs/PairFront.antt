@@ -1,35 +1,55 @@
 -- What a pair begins with.
-use Rattle.std.proofs.Common.{◌≡◌, ℕ, Bool, true, false, ◌&&◌, List, [], ◌∷◌, Option, Some, None, refl}
-use Rattle.std.specs.Prelude.{is_some, slice_get, if◌then◌else◌}
-use Rattle.schema_core.specs.Phrases.{◌>>=◌, name_at}
-use Rattle.schema_core.specs.Marks.{same_mark}
-use Rattle.schema_core.specs.declared.tokens.Mark.TheVariants.{Equals}
-use Rattle.schema_core.specs.declared.tokens.Token.{Token}
-use Rattle.schema_core.specs.declared.tokens.Token.TheVariants.{Name, Number, Quoted, Sign}
-use Rattle.rule_parser.specs.RuleLines.{pair_at, is_name, is_equals}
+use Rattle.std.proofs.Common.{◌≡◌, ℕ, true, false, List, [], ◌∷◌, Option, Some, None, refl, ap, sym, ◌∙◌}
+use Rattle.std.specs.Prelude.{is_some}
+use Rattle.std.proofs.lemmas.Option.{none-some, same_Some}
+use Rattle.line_grammar.specs.Phrases.{◌>>=◌, name_at, after_name}
+use Rattle.line_grammar.specs.Marks.{after_mark}
+use Rattle.line_grammar.specs.declared.tokens.Mark.TheVariants.{Equals}
+use Rattle.line_grammar.specs.declared.tokens.Token.{Token}
+use Rattle.line_grammar.specs.declared.tokens.Token.TheVariants.{Name, Number, Quoted, Sign}
+use Rattle.rule_parser.specs.RuleLines.{pair_at}
 
 with_master : List ℕ → List ℕ × List Token → Option ((List ℕ × List ℕ) × List Token)
 with_master name master = Some ((name, master.0), master.1)
 
--- a name behind a mark that may be the right one
-behind_mark : (name : List ℕ) (same : Bool) (rest : List Token)
-    → is_some ((if same then Some rest else None) >>= λ behind. name_at behind >>= with_master name) ≡ (same && is_name (slice_get rest 0))
+master_at : (name : List ℕ) (rest : List Token) → is_some (name_at rest >>= with_master name) ≡ is_some (after_name rest)
 unfolding with_master
-behind_mark name true [] = refl
-behind_mark name true (Name other ∷ rest) = refl
-behind_mark name true (Number n ∷ rest) = refl
-behind_mark name true (Quoted text ∷ rest) = refl
-behind_mark name true (Sign mark ∷ rest) = refl
-behind_mark name false rest = refl
+master_at name [] = refl
+master_at name (Name other ∷ rest) = refl
+master_at name (Number n ∷ rest) = refl
+master_at name (Quoted text ∷ rest) = refl
+master_at name (Sign mark ∷ rest) = refl
 
-pub pair_begins : (tokens : List Token) → is_some (pair_at tokens) ≡ (is_name (slice_get tokens 0) && is_equals (slice_get tokens 1) && is_name (slice_get tokens 2))
+-- what a name is followed by
+behind_name : (tokens behind : List Token) → after_name tokens ≡ Some behind
+    → (name : List ℕ) × (is_some (pair_at tokens) ≡ is_some (after_mark Equals behind >>= λ rest. name_at rest >>= with_master name))
 unfolding pair_at with_master
-pair_begins [] = refl
-pair_begins (Number n ∷ tokens) = refl
-pair_begins (Quoted text ∷ tokens) = refl
-pair_begins (Sign mark ∷ tokens) = refl
-pair_begins (Name name ∷ []) = refl
-pair_begins (Name name ∷ Name other ∷ tokens) = refl
-pair_begins (Name name ∷ Number n ∷ tokens) = refl
-pair_begins (Name name ∷ Quoted text ∷ tokens) = refl
-pair_begins (Name name ∷ Sign mark ∷ tokens) = behind_mark name (same_mark mark Equals) tokens
+behind_name [] behind found = absurd (none-some _ found)
+behind_name (Name name ∷ tokens) behind found = (name, ap (λ (ts : List Token). is_some (after_mark Equals ts >>= λ rest. name_at rest >>= with_master name)) (same_Some _ _ found))
+behind_name (Number n ∷ tokens) behind found = absurd (none-some _ found)
+behind_name (Quoted text ∷ tokens) behind found = absurd (none-some _ found)
+behind_name (Sign mark ∷ tokens) behind found = absurd (none-some _ found)
+
+pub no_name : (tokens : List Token) → after_name tokens ≡ None → is_some (pair_at tokens) ≡ false
+unfolding pair_at
+no_name [] none = refl
+no_name (Name name ∷ tokens) none = absurd (none-some _ (sym none))
+no_name (Number n ∷ tokens) none = refl
+no_name (Quoted text ∷ tokens) none = refl
+no_name (Sign mark ∷ tokens) none = refl
+
+pub no_equals : (tokens behind : List Token) → after_name tokens ≡ Some behind → after_mark Equals behind ≡ None → is_some (pair_at tokens) ≡ false
+no_equals tokens behind found none =
+    let pair = behind_name tokens behind found in
+    pair.1 ∙ ap (λ (o : Option (List Token)). is_some (o >>= λ rest. name_at rest >>= with_master pair.0)) none
+
+behind_equals : (tokens behind rest : List Token) → after_name tokens ≡ Some behind → after_mark Equals behind ≡ Some rest → is_some (pair_at tokens) ≡ is_some (after_name rest)
+behind_equals tokens behind rest found equals =
+    let pair = behind_name tokens behind found in
+    pair.1 ∙ ap (λ (o : Option (List Token)). is_some (o >>= λ after. name_at after >>= with_master pair.0)) equals ∙ master_at pair.0 rest
+
+pub no_master : (tokens behind rest : List Token) → after_name tokens ≡ Some behind → after_mark Equals behind ≡ Some rest → after_name rest ≡ None → is_some (pair_at tokens) ≡ false
+no_master tokens behind rest found equals none = behind_equals tokens behind rest found equals ∙ ap is_some none
+
+pub pair_begins : (tokens behind rest after : List Token) → after_name tokens ≡ Some behind → after_mark Equals behind ≡ Some rest → after_name rest ≡ Some after → is_some (pair_at tokens) ≡ true
+pair_begins tokens behind rest after found equals master = behind_equals tokens behind rest found equals ∙ ap is_some master

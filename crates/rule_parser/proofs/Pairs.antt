@@ -5,7 +5,7 @@ use Rattle.std.specs.List.{flat_map, zip}
 use Rattle.std.proofs.lemmas.Grind.{flat_map-append}
 use Rattle.std.proofs.lemmas.List.{append-nil, take_more, take_all}
 use Rattle.std.proofs.lemmas.Slice.Zip.{get_or-zip, length-zip}
-use Rattle.schema_core.specs.Spelling.{part_text, line_text, after_comma}
+use Rattle.line_grammar.specs.Spelling.{part_text, line_text, after_comma}
 use Rattle.rule_parser.specs.RuleText.{pair_parts}
 
 zip_more : (xs ys : List (List ℕ)) (i : ℕ) (x y : List ℕ) → i < length xs → i < length ys → x ≡ get_or xs i x → y ≡ get_or ys i y → take (i + 1) (zip xs ys) ≡ take i (zip xs ys) ++ (x, y) ∷ []

@@ -2,10 +2,10 @@
 use Rattle.std.proofs.Common.{◌≡◌, List, [], ◌∷◌, ◌++◌, refl, ap, sym, ◌∙◌, append_assoc}
 use Rattle.std.specs.Prelude.{Ok, Err}
 use Rattle.std.proofs.lemmas.List.{append-nil}
-use Rattle.schema_core.specs.Faults.{Reading, Faulty, ◌>>=◌}
-use Rattle.schema_core.specs.FileLines.{read_line}
-use Rattle.schema_core.specs.TokenLists.{Reader, none_after}
-use Rattle.schema_core.specs.declared.line.Line.{Line}
+use Rattle.line_grammar.specs.Faults.{Reading, Faulty, ◌>>=◌}
+use Rattle.line_grammar.specs.FileLines.{read_line}
+use Rattle.line_grammar.specs.TokenLists.{Reader, none_after}
+use Rattle.line_grammar.specs.declared.line.Line.{Line}
 use Rattle.rule_parser.specs.declared.fault.ParseCause.{ParseCause}
 use Rattle.rule_parser.specs.RuleFiles.{rule_causes, rows_of}
 

@@ -6,15 +6,15 @@ use Rattle.std.proofs.Math.Seq.{get_or-append_seam, take-append_seam}
 use Rattle.std.proofs.lemmas.Bool.{eqb-true}
 use Rattle.std.proofs.lemmas.List.{append-nil, take_all}
 use Rattle.std.proofs.lemmas.List.Elements.{recursion_from_All}
-use Rattle.schema_core.specs.Faults.{◌>>=◌}
-use Rattle.schema_core.specs.FileLines.{first_is, found_at}
-use Rattle.schema_core.specs.TokenLists.{Reader, none_after}
-use Rattle.schema_core.specs.Groups.{read_groups}
-use Rattle.schema_core.specs.Spelling.{file_text, tokens_in, IsReadable}
+use Rattle.line_grammar.specs.Faults.{◌>>=◌}
+use Rattle.line_grammar.specs.FileLines.{first_is, found_at}
+use Rattle.line_grammar.specs.TokenLists.{Reader, none_after}
+use Rattle.line_grammar.specs.Groups.{read_groups}
+use Rattle.line_grammar.specs.Spelling.{file_text, tokens_in, IsReadable}
 use Rattle.schema_core.specs.Schemas.{IsValidSchema}
-use Rattle.schema_core.specs.declared.writing.Part.{Part}
+use Rattle.line_grammar.specs.declared.writing.Part.{Part}
 use Rattle.schema_core.specs.declared.schema.Schema.{Schema}
-use Rattle.schema_core.proofs.WrittenFiles.{written_lines, Written, lines_of, group_at, IsGroup, Takes, read_groups-written}
+use Rattle.line_grammar.proofs.WrittenFiles.{written_lines, Written, lines_of, group_at, IsGroup, Takes, read_groups-written}
 use Rattle.cfd_semantics.specs.declared.inclusion.InclusionRow.{InclusionRow}
 use Rattle.rule_model.specs.declared.decl.CfdRow.{CfdRow}
 use Rattle.rule_model.specs.declared.decl.CfdDecl.{CfdDecl}

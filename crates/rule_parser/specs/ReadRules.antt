@@ -1,6 +1,6 @@
 -- What is true of a declaration as far as its head says it.
 use Rattle.std.specs.Prelude.{◌≡◌, ◌≤◌, ℕ, List, [], length, All}
-use Rattle.schema_core.specs.Names.{IsName}
+use Rattle.text_lists.specs.Names.{IsName}
 use Rattle.rule_model.specs.declared.decl.CfdDecl.{CfdDecl}
 use Rattle.rule_model.specs.declared.decl.CfdRow.{CfdRow}
 use Rattle.rule_model.specs.declared.decl.Decl.{Decl}

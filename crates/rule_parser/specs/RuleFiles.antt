@@ -1,16 +1,16 @@
 -- Rule files: the rule book that one spells, or its first faulty line with the first cause. A head and the `row` lines
 -- behind it are a group, and a group is a declaration.
 use Rattle.std.specs.Prelude.{ℕ, List, [], ◌∷◌, Option, Some, None, Ok, Err, Result, codes}
-use Rattle.schema_core.specs.Faults.{Causes, Reading, faulty, ◌>>=◌}
-use Rattle.schema_core.specs.FileLines.{read_line, read_content, no_lines, content_of}
-use Rattle.schema_core.specs.Groups.{read_groups}
-use Rattle.schema_core.specs.Tokens.{line_tokens}
-use Rattle.schema_core.specs.TokenLists.{Reader, none_after}
-use Rattle.schema_core.specs.declared.tokens.Token.{Token}
-use Rattle.schema_core.specs.declared.line.Content.{Content}
-use Rattle.schema_core.specs.declared.line.Line.{Line}
-use Rattle.schema_core.specs.declared.group.Group.{Group}
-use Rattle.schema_core.specs.declared.limits.Limits.{Limits}
+use Rattle.line_grammar.specs.Faults.{Causes, Reading, faulty, ◌>>=◌}
+use Rattle.line_grammar.specs.FileLines.{read_line, read_content, no_lines, content_of}
+use Rattle.line_grammar.specs.Groups.{read_groups}
+use Rattle.line_grammar.specs.Tokens.{line_tokens}
+use Rattle.line_grammar.specs.TokenLists.{Reader, none_after}
+use Rattle.line_grammar.specs.declared.tokens.Token.{Token}
+use Rattle.line_grammar.specs.declared.line.Content.{Content}
+use Rattle.line_grammar.specs.declared.line.Line.{Line}
+use Rattle.line_grammar.specs.declared.group.Group.{Group}
+use Rattle.text_lists.specs.declared.limits.Limits.{Limits}
 use Rattle.schema_core.specs.declared.schema.Schema.{Schema}
 use Rattle.rule_model.specs.declared.decl.Decl.{Decl}
 use Rattle.rule_model.specs.declared.decl.Decl.TheVariants.{Cfd, Cind, Edit}

@@ -16,13 +16,13 @@
 --     TABLE: [LIST(ATTR)] -> [ATTR] row LIST(CELL) || CELL
 use Rattle.std.specs.Prelude.{ℕ, nat_le, Bool, true, false, List, [], ◌∷◌, length, map, Option, Some, None, if◌then◌else◌, option_map, codes}
 use Rattle.std.specs.Str.{bytes_eq}
-use Rattle.schema_core.specs.Phrases.{◌>>=◌, name_at, constant_at, after_word, only_if, list_until}
-use Rattle.schema_core.specs.Marks.{after_mark, same_mark}
-use Rattle.schema_core.specs.TokenLists.{Reader, list1_at, list_at}
-use Rattle.schema_core.specs.declared.bounds.TheConstants.{SET_MEMBERS}
-use Rattle.schema_core.specs.declared.tokens.Mark.TheVariants.{Colon, OpenBracket, CloseBracket, Semicolon, Equals, Differs, Arrow, Bars, Underscore, OpenBrace, CloseBrace}
-use Rattle.schema_core.specs.declared.tokens.Token.{Token}
-use Rattle.schema_core.specs.declared.tokens.Token.TheVariants.{Name, Sign}
+use Rattle.line_grammar.specs.Phrases.{◌>>=◌, name_at, constant_at, after_word, only_if, list_until}
+use Rattle.line_grammar.specs.Marks.{after_mark, same_mark}
+use Rattle.line_grammar.specs.TokenLists.{Reader, list1_at, list_at}
+use Rattle.text_lists.specs.declared.bounds.TheConstants.{SET_MEMBERS}
+use Rattle.line_grammar.specs.declared.tokens.Mark.TheVariants.{Colon, OpenBracket, CloseBracket, Semicolon, Equals, Differs, Arrow, Bars, Underscore, OpenBrace, CloseBrace}
+use Rattle.line_grammar.specs.declared.tokens.Token.{Token}
+use Rattle.line_grammar.specs.declared.tokens.Token.TheVariants.{Name, Sign}
 use Rattle.cfd_semantics.specs.declared.pattern.Pattern.{Pattern}
 use Rattle.cfd_semantics.specs.declared.pattern.Pattern.TheVariants.{Any, Is, In, NotIn}
 use Rattle.cfd_semantics.specs.declared.inclusion.InclusionRow.{InclusionRow}
@@ -166,15 +166,6 @@ pair_at tokens = do
   rest ← after_mark Equals attr.1
   master ← name_at rest
   Some ((attr.0, master.0), master.1)
-
--- the tokens of a pair
-abbrev pub is_name : Option Token → Bool
-is_name (Some (Name name)) = true
-is_name _ = false
-
-abbrev pub is_equals : Option Token → Bool
-is_equals (Some (Sign mark)) = same_mark mark Equals
-is_equals _ = false
 
 -- the pattern behind `when`, which may be missing
 abbrev pub pattern_behind : List Token → Option (List Token) → Option (List (List ℕ × EditCell) × List Token)

@@ -2,10 +2,10 @@
 use Rattle.std.specs.Prelude.{ℕ, List, [], ◌∷◌, ◌++◌, map, codes}
 use Rattle.std.specs.List.{flat_map, zip, slice_get}
 use Rattle.std.specs.Option.{option_map_or}
-use Rattle.schema_core.specs.Spelling.{name, text, mark, comma_separated, spaced_list, file_text}
-use Rattle.schema_core.specs.declared.tokens.Mark.TheVariants.{Colon, OpenBracket, CloseBracket, Semicolon, Equals, Differs, Arrow, Bars, Underscore, OpenBrace, CloseBrace}
-use Rattle.schema_core.specs.declared.writing.Part.{Part}
-use Rattle.schema_core.specs.declared.writing.Part.TheVariants.{Space}
+use Rattle.line_grammar.specs.Spelling.{name, text, mark, comma_separated, spaced_list, file_text}
+use Rattle.line_grammar.specs.declared.tokens.Mark.TheVariants.{Colon, OpenBracket, CloseBracket, Semicolon, Equals, Differs, Arrow, Bars, Underscore, OpenBrace, CloseBrace}
+use Rattle.line_grammar.specs.declared.writing.Part.{Part}
+use Rattle.line_grammar.specs.declared.writing.Part.TheVariants.{Space}
 use Rattle.schema_core.specs.declared.schema.Attr.{Attr}
 use Rattle.schema_core.specs.declared.schema.Table.{Table}
 use Rattle.schema_core.specs.declared.schema.Schema.{Schema}

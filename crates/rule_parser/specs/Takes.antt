@@ -3,14 +3,14 @@ use Rattle.std.proofs.Common.{◌≡◌, ℕ, zero, suc, ◌<◌, ◌≤◌, Boo
 use Rattle.std.proofs.lemmas.Option.{none-some, some_pair_parts}
 use Rattle.std.specs.Prelude.{codes}
 use Rattle.std.specs.Str.{bytes_eq}
-use Rattle.schema_core.specs.Phrases.{◌>>=◌, name_at, constant_at}
-use Rattle.schema_core.specs.Marks.{after_mark, same_mark}
-use Rattle.schema_core.specs.Takes.{name_at-takes, constant_at-takes}
-use Rattle.schema_core.specs.TokenLists.{Reader, in_front, or_others, and_others, list1_within, list1_at}
-use Rattle.schema_core.specs.declared.tokens.Mark.{Mark}
-use Rattle.schema_core.specs.declared.tokens.Mark.TheVariants.{Equals, Differs, Underscore, OpenBrace, CloseBrace, Comma}
-use Rattle.schema_core.specs.declared.tokens.Token.{Token}
-use Rattle.schema_core.specs.declared.tokens.Token.TheVariants.{Name, Number, Quoted, Sign}
+use Rattle.line_grammar.specs.Phrases.{◌>>=◌, name_at, constant_at}
+use Rattle.line_grammar.specs.Marks.{after_mark, same_mark}
+use Rattle.line_grammar.specs.Takes.{name_at-takes, constant_at-takes}
+use Rattle.line_grammar.specs.TokenLists.{Reader, in_front, or_others, and_others, list1_within, list1_at}
+use Rattle.line_grammar.specs.declared.tokens.Mark.{Mark}
+use Rattle.line_grammar.specs.declared.tokens.Mark.TheVariants.{Equals, Differs, Underscore, OpenBrace, CloseBrace, Comma}
+use Rattle.line_grammar.specs.declared.tokens.Token.{Token}
+use Rattle.line_grammar.specs.declared.tokens.Token.TheVariants.{Name, Number, Quoted, Sign}
 use Rattle.cfd_semantics.specs.declared.pattern.Pattern.{Pattern}
 use Rattle.cfd_semantics.specs.declared.pattern.Pattern.TheVariants.{Any, Is, In, NotIn}
 use Rattle.rule_model.specs.declared.edit_rule.EditCell.{EditCell}

@@ -1,10 +1,10 @@
 //! A dependency by itself, as on the command line.
 
 ghost use Rattle.std.specs.Prelude.{◌≡◌, ◌∷◌, [], All, IfOk, length};
-ghost use Rattle.schema_core.specs.Faults.{IsUnlessMemory, line_tells};
-ghost use Rattle.schema_core.specs.FileLines.{content_of};
-ghost use Rattle.schema_core.specs.TokenLists.{none_after};
-ghost use Rattle.schema_core.specs.Tokens.{line_tokens};
+ghost use Rattle.line_grammar.specs.Faults.{IsUnlessMemory, line_tells};
+ghost use Rattle.line_grammar.specs.FileLines.{content_of};
+ghost use Rattle.line_grammar.specs.TokenLists.{none_after};
+ghost use Rattle.line_grammar.specs.Tokens.{line_tokens};
 ghost use Rattle.rule_model.specs.Judged.{judged_dep};
 ghost use Rattle.rule_model.specs.Rules.{IsValidDep};
 ghost use Rattle.rule_parser.specs.ReadRules.{IsDepDecl};
@@ -16,7 +16,6 @@ use crate::fault::{ParseCause, ParseFault};
 use rule_model::{AddFault, CfdDecl, CfdRow, Dep, RuleBook, judge_dep};
 use schema_core::{
     Line, LineFault, List, Mark, Name, Phrase, Schema, Text, Tokens, Unread, content_of,
-    read_tokens,
 };
 use std::alloc::{AllocError, Global};
 
@@ -39,7 +38,7 @@ impl Phrase for DepLine {
     ghost is_fit = { IsDepDecl };
 
     #[tactic(auto, unfolding(crate::specs::RuleLines::dep_at))]
-    fn take(alloc: Global, tokens: &mut Tokens) -> Result<CfdDecl, Unread> {
+    fn take(alloc: Global, tokens: &mut Tokens<'_>) -> Result<CfdDecl, Unread> {
         let table = tokens.name()?;
         tokens.mark(Mark::Colon)?;
         tokens.mark(Mark::OpenBracket)?;
@@ -70,7 +69,7 @@ fn declaration(alloc: Global, text: &str) -> Result<CfdDecl, ParseFault>
     ensures exact { IsUnlessMemory line_tells (read_alone (λ tokens. none_after (dep_at tokens)) (content_of (line_tokens text.now))) result }
     ensures fit { IfOk result IsDepDecl }
 {
-    match content_of(read_tokens(alloc, text.as_bytes())?) {
+    match content_of(alloc, text.as_bytes()) {
         Some(content) => Line { number: 1, content }.read::<DepLine, ParseCause>(alloc),
         None => Err(LineFault::At {
             line: 1,

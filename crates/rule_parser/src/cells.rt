@@ -1,7 +1,7 @@
 //! The cells of tableau rows and of patterns.
 
 ghost use Rattle.std.specs.Prelude.{IfOk};
-ghost use Rattle.schema_core.specs.Phrases.{Reads};
+ghost use Rattle.line_grammar.specs.Phrases.{Reads};
 ghost use Rattle.rule_model.specs.Declarations.{IsWrittenSet, IsWrittenCell, IsWrittenEditCell};
 ghost use Rattle.rule_parser.specs.ReadRules.{IsReadPattern};
 ghost use Rattle.rule_parser.specs.RuleLines.{set_at, set_cell, cell_at, equal_at, differs_at, test_at, pattern_at};
@@ -21,7 +21,7 @@ pub struct PatternPart;
 
 /// A set in braces.
 #[tactic(auto, unfolding(crate::specs::RuleLines::set_at))]
-fn set_at(alloc: Global, tokens: &mut Tokens) -> Result<Texts, Unread>
+fn set_at(alloc: Global, tokens: &mut Tokens<'_>) -> Result<Texts, Unread>
     ensures exact { Reads set_at tokens.old tokens.new result }
     ensures written { IfOk result IsWrittenSet }
 {
@@ -35,7 +35,7 @@ fn set_at(alloc: Global, tokens: &mut Tokens) -> Result<Texts, Unread>
 }
 
 /// What stands behind the first word of a cell.
-fn set_cell(alloc: Global, word: &Text, tokens: &mut Tokens) -> Result<Cell, Unread>
+fn set_cell(alloc: Global, word: &Text, tokens: &mut Tokens<'_>) -> Result<Cell, Unread>
     ensures exact { Reads (set_cell word.now) tokens.old tokens.new result }
     ensures written { IfOk result IsWrittenCell }
 {
@@ -56,9 +56,11 @@ impl Phrase for CellPart {
     ghost is_fit = { IsWrittenCell };
 
     #[tactic(auto, unfolding(crate::specs::RuleLines::cell_at))]
-    fn take(alloc: Global, tokens: &mut Tokens) -> Result<Cell, Unread> {
-        if let Ok(word) = tokens.name() {
-            return set_cell(alloc, &word, tokens);
+    fn take(alloc: Global, tokens: &mut Tokens<'_>) -> Result<Cell, Unread> {
+        match tokens.name() {
+            Ok(word) => return set_cell(alloc, &word, tokens),
+            Err(Unread::Memory) => return Err(Unread::Memory),
+            Err(Unread::Absent) => {}
         }
         if tokens.mark(Mark::Underscore).is_ok() {
             return Ok(Pattern::Any);
@@ -72,7 +74,7 @@ impl ListItem for CellPart {
 }
 
 /// What stands behind `=` in a pattern.
-fn equal_at(tokens: &mut Tokens) -> Result<EditCell, Unread>
+fn equal_at(tokens: &mut Tokens<'_>) -> Result<EditCell, Unread>
     ensures exact { Reads equal_at tokens.old tokens.new result }
     ensures written { IfOk result IsWrittenEditCell }
 {
@@ -83,7 +85,7 @@ fn equal_at(tokens: &mut Tokens) -> Result<EditCell, Unread>
 }
 
 /// What stands behind the attribute of a pattern.
-fn test_at(tokens: &mut Tokens) -> Result<EditCell, Unread>
+fn test_at(tokens: &mut Tokens<'_>) -> Result<EditCell, Unread>
     ensures exact { Reads test_at tokens.old tokens.new result }
     ensures written { IfOk result IsWrittenEditCell }
 {
@@ -102,7 +104,7 @@ impl Phrase for PatternPart {
     ghost is_fit = { IsReadPattern };
 
     #[tactic(auto, unfolding(crate::specs::RuleLines::pattern_at))]
-    fn take(_alloc: Global, tokens: &mut Tokens) -> Result<(Text, EditCell), Unread> {
+    fn take(_alloc: Global, tokens: &mut Tokens<'_>) -> Result<(Text, EditCell), Unread> {
         let attr = tokens.name()?;
         let cell = test_at(tokens)?;
         Ok((attr, cell))

@@ -1,8 +1,8 @@
 //! A rule file as a rule book.
 
 ghost use Rattle.std.specs.Prelude.{◌≡◌, ◌≤◌, [], length, All, IfOk, OnOk};
-ghost use Rattle.schema_core.specs.Faults.{IsUnlessMemory, GivesUnlessMemory, line_tells};
-ghost use Rattle.schema_core.specs.Limits.{AreLimits};
+ghost use Rattle.line_grammar.specs.Faults.{IsUnlessMemory, GivesUnlessMemory, line_tells};
+ghost use Rattle.text_lists.specs.Limits.{AreLimits};
 ghost use Rattle.schema_core.specs.Schemas.{IsValidSchema};
 ghost use Rattle.rule_model.specs.Books.{Book as AnyBook, with_decl, book_fault};
 ghost use Rattle.rule_model.specs.Declarations.{IsWritten, IsWrittenRow, IsWrittenInclusionRow};
@@ -20,10 +20,10 @@ use schema_core::{
 use std::alloc::Global;
 
 /// The rows of lines.
-fn rows_of<P: Phrase>(alloc: Global, lines: List<Line>) -> Result<List<P::Value>, ParseFault>
-    ensures exact { IsUnlessMemory line_tells (rows_of P.reads lines) result }
+fn rows_of<P: Phrase>(alloc: Global, lines: List<Line<'_>>) -> Result<List<P::Value>, ParseFault>
+    ensures exact { IsUnlessMemory line_tells (rows_of P.reads lines.entry) result }
     ensures fit { IfOk result (λ rows. All P.is_fit rows) }
-    ensures as_many { IfOk result (λ rows. length rows ≡ length lines) }
+    ensures as_many { IfOk result (λ rows. length rows ≡ length lines.entry) }
 {
     let mut rows = List::new(alloc);
     for line in lines.into_vec() {
@@ -36,9 +36,9 @@ fn rows_of<P: Phrase>(alloc: Global, lines: List<Line>) -> Result<List<P::Value>
 fn some_rows<P: Phrase>(
     alloc: Global,
     number: usize,
-    members: List<Line>,
+    members: List<Line<'_>>,
 ) -> Result<List<P::Value>, ParseFault>
-    ensures exact { IsUnlessMemory line_tells (some_rows P.reads number members) result }
+    ensures exact { IsUnlessMemory line_tells (some_rows P.reads number members.entry) result }
     ensures fit { IfOk result (λ rows. All P.is_fit rows) }
     ensures some { IfOk result (λ rows. 1 ≤ length rows) }
 {
@@ -74,7 +74,7 @@ impl RuleGroups {
     }
 }
 
-impl Gather<Group> for RuleGroups {
+impl<'a> Gather<Group<'a>> for RuleGroups {
     type Cause = ParseCause;
 
     ghost Gathered = { AnyBook };
@@ -90,7 +90,7 @@ impl Gather<Group> for RuleGroups {
     ghost is_fit = { λ _ _. Unit {0} };
 
     #[tactic(auto, unfolding(crate::specs::RuleFiles::add_group))]
-    fn add(&mut self, alloc: Global, group: Group) -> Result<(), ParseFault> {
+    fn add(&mut self, alloc: Global, group: Group<'a>) -> Result<(), ParseFault> {
         let Group { head, members } = group;
         let number = head.number;
         match head.read::<HeadLine, ParseCause>(alloc)? {

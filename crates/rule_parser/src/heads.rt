@@ -1,15 +1,14 @@
 //! The lines that declarations begin with.
 
-ghost use Rattle.std.specs.Prelude.{◌≡◌, is_some, option_map, IfOk, map, All};
-ghost use Rattle.schema_core.specs.Phrases.{Reads};
-ghost use Rattle.schema_core.specs.Marks.{same_mark};
+ghost use Rattle.std.specs.Prelude.{◌≡◌, is_some, IfOk, map, All};
+ghost use Rattle.line_grammar.specs.Phrases.{Reads};
 ghost use Rattle.rule_parser.specs.ReadRules.{IsReadHead, IsReadPattern};
-ghost use Rattle.rule_parser.specs.RuleLines.{cfd_at, side_at, cind_at, pair_at, is_name, is_equals, when_at, edit_at, head_for, head_at};
+ghost use Rattle.rule_parser.specs.RuleLines.{cfd_at, side_at, cind_at, pair_at, when_at, edit_at, head_for, head_at};
 ghost use Rattle.rule_parser.specs.Takes.{pair_at-takes};
 
 use crate::cells::PatternPart;
 use rule_model::{CfdDecl, CindDecl, Decl, EditCell, EditDecl};
-use schema_core::{List, ListItem, Mark, Name, Phrase, Text, Texts, Token, Tokens, Unread};
+use schema_core::{List, ListItem, Mark, Name, Phrase, Text, Texts, Tokens, Unread};
 use std::alloc::{AllocError, Global};
 
 /// One side of an inclusion: a table, the attributes whose values are included, and those that have constants.
@@ -28,7 +27,7 @@ pub struct PairPart;
 
 /// What stands behind `cfd`.
 #[tactic(auto, unfolding(crate::specs::RuleLines::cfd_at))]
-fn cfd_at(alloc: Global, tokens: &mut Tokens) -> Result<Decl, Unread>
+fn cfd_at(alloc: Global, tokens: &mut Tokens<'_>) -> Result<Decl, Unread>
     ensures exact { Reads cfd_at tokens.old tokens.new result }
     ensures fit { IfOk result IsReadHead }
 {
@@ -51,7 +50,7 @@ fn cfd_at(alloc: Global, tokens: &mut Tokens) -> Result<Decl, Unread>
 }
 
 #[tactic(auto, unfolding(crate::specs::RuleLines::side_at))]
-fn side_at(alloc: Global, tokens: &mut Tokens) -> Result<Side, Unread>
+fn side_at(alloc: Global, tokens: &mut Tokens<'_>) -> Result<Side, Unread>
     ensures { Reads side_at tokens.old tokens.new result }
 {
     let table = tokens.name()?;
@@ -67,7 +66,7 @@ fn side_at(alloc: Global, tokens: &mut Tokens) -> Result<Side, Unread>
 
 /// What stands behind `cind`.
 #[tactic(auto, unfolding(crate::specs::RuleLines::cind_at))]
-fn cind_at(alloc: Global, tokens: &mut Tokens) -> Result<Decl, Unread>
+fn cind_at(alloc: Global, tokens: &mut Tokens<'_>) -> Result<Decl, Unread>
     ensures exact { Reads cind_at tokens.old tokens.new result }
     ensures fit { IfOk result IsReadHead }
 {
@@ -88,7 +87,7 @@ fn cind_at(alloc: Global, tokens: &mut Tokens) -> Result<Decl, Unread>
 }
 
 #[tactic(auto, unfolding(crate::specs::RuleLines::pair_at))]
-fn pair_at(tokens: &mut Tokens) -> Result<(Text, Text), Unread>
+fn pair_at(tokens: &mut Tokens<'_>) -> Result<(Text, Text), Unread>
     ensures { Reads pair_at tokens.old tokens.new result }
 {
     let attr = tokens.name()?;
@@ -104,7 +103,7 @@ impl Phrase for PairPart {
 
     ghost is_fit = { λ _. Unit {0} };
 
-    fn take(_alloc: Global, tokens: &mut Tokens) -> Result<(Text, Text), Unread> {
+    fn take(_alloc: Global, tokens: &mut Tokens<'_>) -> Result<(Text, Text), Unread> {
         pair_at(tokens)
     }
 }
@@ -113,37 +112,26 @@ impl ListItem for PairPart {
     ghost takes = { pair_at-takes };
 }
 
-fn is_name(token: Option<&Token>) -> bool
-    ensures { result ≡ is_name (option_map (λ t. t.now) token.entry) }
+/// Whether a pair stands at the front: the token behind the first name tells it from the word `gives`.
+#[tactic(auto, using(crate::proofs::PairFront::no_name, crate::proofs::PairFront::no_equals, crate::proofs::PairFront::no_master, crate::proofs::PairFront::pair_begins))]
+fn has_pair(tokens: &Tokens<'_>) -> bool
+    ensures { result ≡ is_some (pair_at tokens.now) }
 {
-    matches!(token, Some(Token::Name(_)))
-}
-
-fn is_equals(token: Option<&Token>) -> bool
-    ensures { result ≡ is_equals (option_map (λ t. t.now) token.entry) }
-{
-    match token {
-        Some(Token::Sign(mark)) => is_same(*mark, Mark::Equals),
-        _ => false,
+    let mut ahead = tokens.ahead();
+    let Ok(()) = ahead.any_name() else {
+        return false;
+    };
+    let Ok(()) = ahead.mark(Mark::Equals) else {
+        return false;
+    };
+    match ahead.any_name() {
+        Ok(()) => true,
+        Err(_) => false,
     }
 }
 
-fn is_same(left: Mark, right: Mark) -> bool
-    ensures { result ≡ same_mark left right }
-{
-    left == right
-}
-
-/// Whether a pair stands at the front: the token behind the first name tells it from the word `gives`.
-#[tactic(auto, using(crate::proofs::PairFront::pair_begins))]
-fn has_pair(tokens: &Tokens) -> bool
-    ensures { result ≡ is_some (pair_at tokens.now) }
-{
-    is_name(tokens.peek(0)) && is_equals(tokens.peek(1)) && is_name(tokens.peek(2))
-}
-
 /// The pattern behind `when`, which may be missing.
-fn when_at(alloc: Global, tokens: &mut Tokens) -> Result<List<(Text, EditCell)>, Unread>
+fn when_at(alloc: Global, tokens: &mut Tokens<'_>) -> Result<List<(Text, EditCell)>, Unread>
     ensures exact { Reads when_at tokens.old tokens.new result }
     ensures fit { IfOk result (λ pattern. All IsReadPattern pattern) }
 {
@@ -168,7 +156,7 @@ fn sides(alloc: Global, pairs: List<(Text, Text)>) -> Result<(Texts, Texts), All
 
 /// What stands behind `edit`.
 #[tactic(auto, unfolding(crate::specs::RuleLines::edit_at))]
-fn edit_at(alloc: Global, tokens: &mut Tokens) -> Result<Decl, Unread>
+fn edit_at(alloc: Global, tokens: &mut Tokens<'_>) -> Result<Decl, Unread>
     ensures exact { Reads edit_at tokens.old tokens.new result }
     ensures fit { IfOk result IsReadHead }
 {
@@ -195,7 +183,7 @@ fn edit_at(alloc: Global, tokens: &mut Tokens) -> Result<Decl, Unread>
     }))
 }
 
-fn head_for(alloc: Global, word: &Text, tokens: &mut Tokens) -> Result<Decl, Unread>
+fn head_for(alloc: Global, word: &Text, tokens: &mut Tokens<'_>) -> Result<Decl, Unread>
     ensures exact { Reads (head_for word.now) tokens.old tokens.new result }
     ensures fit { IfOk result IsReadHead }
 {
@@ -218,7 +206,7 @@ impl Phrase for HeadLine {
     ghost is_fit = { IsReadHead };
 
     #[tactic(auto, unfolding(crate::specs::RuleLines::head_at))]
-    fn take(alloc: Global, tokens: &mut Tokens) -> Result<Decl, Unread> {
+    fn take(alloc: Global, tokens: &mut Tokens<'_>) -> Result<Decl, Unread> {
         let word = tokens.name()?;
         head_for(alloc, &word, tokens)
     }

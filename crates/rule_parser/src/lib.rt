@@ -15,8 +15,3 @@ pub use cells::CellPart;
 pub use fault::{ParseCause, ParseFault};
 pub use file::parse_rules;
 pub use print::{Cells, Values, print_dep, print_rules, push_row, push_sides};
-
-#[cfg(test)]
-mod tests;
-#[cfg(test)]
-mod written_rules;

@@ -1,14 +1,14 @@
 //! The rows of tableaux.
 
 ghost use Rattle.std.specs.Prelude.{◌≡◌, is_some};
-ghost use Rattle.schema_core.specs.Phrases.{constant_at};
+ghost use Rattle.line_grammar.specs.Phrases.{constant_at};
 ghost use Rattle.rule_model.specs.Declarations.{IsWrittenRow, IsWrittenInclusionRow};
 ghost use Rattle.rule_parser.specs.RuleLines.{row_at, inclusion_row_at};
 
 use crate::cells::CellPart;
 use cfd_semantics::InclusionRow;
 use rule_model::{CfdRow, CindRow};
-use schema_core::{Constant, Mark, Phrase, Tokens, Unread, has_constant};
+use schema_core::{Constant, Mark, Phrase, Tokens, Unread};
 use std::alloc::Global;
 
 /// The row of a `cfd`.
@@ -25,7 +25,7 @@ impl Phrase for RowLine {
     ghost is_fit = { IsWrittenRow };
 
     #[tactic(auto, unfolding(crate::specs::RuleLines::row_at))]
-    fn take(alloc: Global, tokens: &mut Tokens) -> Result<CfdRow, Unread> {
+    fn take(alloc: Global, tokens: &mut Tokens<'_>) -> Result<CfdRow, Unread> {
         tokens.word("row")?;
         let x = tokens.list_until::<CellPart>(alloc, Mark::Bars)?;
         let y = tokens.list1::<CellPart>(alloc)?;
@@ -41,10 +41,10 @@ impl Phrase for InclusionRowLine {
     ghost is_fit = { IsWrittenInclusionRow };
 
     #[tactic(auto, unfolding(crate::specs::RuleLines::inclusion_row_at))]
-    fn take(alloc: Global, tokens: &mut Tokens) -> Result<CindRow, Unread> {
+    fn take(alloc: Global, tokens: &mut Tokens<'_>) -> Result<CindRow, Unread> {
         tokens.word("row")?;
         let xp = tokens.list_until::<Constant>(alloc, Mark::Bars)?;
-        let stands = has_constant(tokens);
+        let stands = tokens.has_constant();
         let yp = tokens.list::<Constant>(alloc, stands)?;
         Ok(InclusionRow { xp, yp })
     }

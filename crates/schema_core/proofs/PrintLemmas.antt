@@ -4,12 +4,12 @@ use Rattle.std.specs.List.{flat_map}
 use Rattle.std.specs.Prelude.{codes}
 use Rattle.std.proofs.lemmas.List.{take_all}
 use Rattle.std.proofs.lemmas.Grind.{flat_map-append}
-use Rattle.schema_core.specs.Lines.{line_feed}
-use Rattle.schema_core.specs.Spelling.{line_text, file_text}
+use Rattle.line_grammar.specs.Lines.{line_feed}
+use Rattle.line_grammar.specs.Spelling.{line_text, file_text}
 use Rattle.schema_core.specs.SchemaText.{table_lines, file_lines, canonical}
 use Rattle.schema_core.specs.declared.schema.Table.{Table}
 use Rattle.schema_core.specs.declared.schema.Schema.{Schema}
-use Rattle.schema_core.specs.declared.writing.Part.{Part}
+use Rattle.line_grammar.specs.declared.writing.Part.{Part}
 
 -- files written one after the other
 pub file_text-append : (xs ys : List (List Part)) → file_text (xs ++ ys) ≡ file_text xs ++ file_text ys

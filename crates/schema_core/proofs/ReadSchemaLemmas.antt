@@ -7,20 +7,20 @@ use Rattle.std.proofs.lemmas.Bool.{leb-false, ltb-false, eqb-false, false≢true
 use Rattle.std.proofs.lemmas.List.{map_push}
 use Rattle.std.proofs.lemmas.List.Elements.{All-push, All-nil}
 use Rattle.std.proofs.lemmas.Option.{none-some, same_Some}
-use Rattle.schema_core.specs.Faults.{Reading, ◌>>=◌}
-use Rattle.schema_core.specs.FileLines.{read_line}
-use Rattle.schema_core.specs.Firsts.{first_of}
-use Rattle.schema_core.specs.Groups.{in_turn}
-use Rattle.schema_core.specs.Limits.{AreLimits}
-use Rattle.schema_core.specs.Names.{IsName, IsFileName}
+use Rattle.line_grammar.specs.Faults.{Reading, ◌>>=◌}
+use Rattle.line_grammar.specs.FileLines.{read_line}
+use Rattle.text_lists.specs.Firsts.{first_of}
+use Rattle.line_grammar.specs.Groups.{in_turn}
+use Rattle.text_lists.specs.Limits.{AreLimits}
+use Rattle.text_lists.specs.Names.{IsName, IsFileName}
 use Rattle.schema_core.specs.ReadSchemas.{IsReadDomain, IsReadAttr, IsTableSoFar, IsSchemaSoFar}
-use Rattle.schema_core.specs.Repeats.{first_repeated}
+use Rattle.text_lists.specs.Repeats.{first_repeated}
 use Rattle.schema_core.specs.Schemas.{IsValidDomain, IsValidAttr, IsValidTable, HasFewValues, HasFewAttrs, names_of_tables, names_of_attrs}
 use Rattle.schema_core.specs.SchemaFiles.{schema_causes, has_table, has_attr, has_no_value, has_value_twice, has_too_many_values, cause_if, table_fault, attr_fault, unless, with_attr, with_table, add_attr, empty_schema}
 use Rattle.schema_core.specs.SchemaLines.{attr_at}
-use Rattle.schema_core.specs.TokenLists.{none_after}
-use Rattle.schema_core.specs.declared.line.Line.{Line}
-use Rattle.schema_core.specs.declared.limits.Limits.{Limits}
+use Rattle.line_grammar.specs.TokenLists.{none_after}
+use Rattle.line_grammar.specs.declared.line.Line.{Line}
+use Rattle.text_lists.specs.declared.limits.Limits.{Limits}
 use Rattle.schema_core.specs.declared.schema.Domain.{Domain}
 use Rattle.schema_core.specs.declared.schema.Domain.TheVariants.{AnyText, Finite}
 use Rattle.schema_core.specs.declared.schema.Attr.{Attr}
@@ -28,9 +28,9 @@ use Rattle.schema_core.specs.declared.schema.Table.{Table}
 use Rattle.schema_core.specs.declared.schema.Schema.{Schema}
 use Rattle.schema_core.specs.declared.schema.SchemaCause.{SchemaCause}
 use Rattle.schema_core.specs.declared.schema.SchemaCause.TheVariants as cause
-use Rattle.schema_core.specs.declared.limits.Limit.TheVariants as limit
+use Rattle.text_lists.specs.declared.limits.Limit.TheVariants as limit
 use Rattle.schema_core.proofs.DistinctLemmas.{none_equal}
-use Rattle.schema_core.proofs.RepeatLemmas.{AreDistinct-nil, AreDistinct-push, AreDistinct-from_none, bytes_eq-tells}
+use Rattle.text_lists.proofs.RepeatLemmas.{AreDistinct-nil, AreDistinct-push, AreDistinct-from_none, bytes_eq-tells}
 
 -- ---- tests that found nothing
 

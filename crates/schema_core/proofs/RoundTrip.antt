@@ -8,32 +8,32 @@ use Rattle.std.proofs.lemmas.Bool.{le-leb, lt-leb, le-ltb, ne_eqb, or_from, fals
 use Rattle.std.proofs.lemmas.Grind.{flat_map-append}
 use Rattle.std.proofs.lemmas.List.{append-nil}
 use Rattle.std.proofs.lemmas.List.Elements.{recursion_from_All}
-use Rattle.schema_core.specs.Limits.{standard}
-use Rattle.schema_core.specs.Names.{IsName, IsFileName, IsConstant}
-use Rattle.schema_core.specs.Repeats.{AreDistinct}
-use Rattle.schema_core.specs.Faults.{◌>>=◌}
-use Rattle.schema_core.specs.FileLines.{first_is, found_at}
-use Rattle.schema_core.specs.Groups.{in_turn, read_groups}
-use Rattle.schema_core.specs.Phrases.{is_file_name, constant_at}
+use Rattle.text_lists.specs.Limits.{standard}
+use Rattle.text_lists.specs.Names.{IsName, IsFileName, IsConstant}
+use Rattle.text_lists.specs.Repeats.{AreDistinct}
+use Rattle.line_grammar.specs.Faults.{◌>>=◌}
+use Rattle.line_grammar.specs.FileLines.{first_is, found_at}
+use Rattle.line_grammar.specs.Groups.{in_turn, read_groups}
+use Rattle.line_grammar.specs.Phrases.{is_file_name, constant_at}
 use Rattle.schema_core.specs.Schemas.{IsValidDomain, IsValidAttr, IsValidTable, IsValidSchema, HasFewValues, HasFewAttrs, names_of_tables, names_of_attrs}
 use Rattle.schema_core.specs.SchemaLines.{head_at, domain_at, attr_at}
 use Rattle.schema_core.specs.SchemaFiles.{schema_causes, has_table, has_attr, has_no_value, has_value_twice, has_too_many_values, table_fault, attr_fault, unless, empty_schema, with_attr, with_table, add_attr, add_head, add_group, reads}
-use Rattle.schema_core.specs.Spelling.{file_text, tokens_in, IsReadable, name, text, spaced_list, comma_separated}
+use Rattle.line_grammar.specs.Spelling.{file_text, tokens_in, IsReadable, name, text, spaced_list, comma_separated}
 use Rattle.schema_core.specs.SchemaText.{value_parts, domain_parts, attr_line, table_word, head_line, table_lines, file_lines, schema_lines, canonical}
-use Rattle.schema_core.specs.TokenLists.{list_at, none_after}
-use Rattle.schema_core.specs.declared.writing.Part.TheVariants.{Space}
-use Rattle.schema_core.specs.declared.tokens.Token.{Token}
-use Rattle.schema_core.specs.declared.tokens.Token.TheVariants.{Name, Quoted}
+use Rattle.line_grammar.specs.TokenLists.{list_at, none_after}
+use Rattle.line_grammar.specs.declared.writing.Part.TheVariants.{Space}
+use Rattle.line_grammar.specs.declared.tokens.Token.{Token}
+use Rattle.line_grammar.specs.declared.tokens.Token.TheVariants.{Name, Quoted}
 use Rattle.schema_core.specs.declared.schema.Domain.{Domain}
 use Rattle.schema_core.specs.declared.schema.Domain.TheVariants.{AnyText, Finite}
 use Rattle.schema_core.specs.declared.schema.Attr.{Attr}
 use Rattle.schema_core.specs.declared.schema.Table.{Table}
 use Rattle.schema_core.specs.declared.schema.Schema.{Schema}
 use Rattle.schema_core.specs.declared.schema_lines.SchemaHead.TheVariants as head
-use Rattle.schema_core.specs.declared.line.Content.TheVariants.{Tokens}
-use Rattle.schema_core.proofs.RepeatLemmas.{bytes_eq-tells, first_repeated-none}
-use Rattle.schema_core.proofs.PartLemmas.{constants_again, constants_some, constants_good, AreGood, AreGood-spaced, IsLoose, IsLoose-nil, IsLoose-spaced, list_at-written, tokens_in-spaced}
-use Rattle.schema_core.proofs.WrittenFiles.{written_lines, Written, lines_of, group_at, IsGroup, Takes, read_groups-written}
+use Rattle.line_grammar.specs.declared.line.Content.TheVariants.{Tokens}
+use Rattle.text_lists.proofs.RepeatLemmas.{bytes_eq-tells, first_repeated-none}
+use Rattle.line_grammar.proofs.PartLemmas.{constants_again, constants_some, constants_good, AreGood, AreGood-spaced, IsLoose, IsLoose-nil, IsLoose-spaced, list_at-written, tokens_in-spaced}
+use Rattle.line_grammar.proofs.WrittenFiles.{written_lines, Written, lines_of, group_at, IsGroup, Takes, read_groups-written}
 
 -- ---- distinct names are found to be distinct
 

@@ -1,10 +1,10 @@
 -- What is true of a schema and of its parts while it is read.
 use Rattle.std.specs.Prelude.{All}
-use Rattle.schema_core.specs.Limits.{AreLimits}
-use Rattle.schema_core.specs.Names.{IsName, IsFileName, IsConstant}
-use Rattle.schema_core.specs.Repeats.{AreDistinct}
+use Rattle.text_lists.specs.Limits.{AreLimits}
+use Rattle.text_lists.specs.Names.{IsName, IsFileName, IsConstant}
+use Rattle.text_lists.specs.Repeats.{AreDistinct}
 use Rattle.schema_core.specs.Schemas.{IsValidAttr, IsValidSchema, HasFewAttrs, names_of_attrs}
-use Rattle.schema_core.specs.declared.limits.Limits.{Limits}
+use Rattle.text_lists.specs.declared.limits.Limits.{Limits}
 use Rattle.schema_core.specs.declared.schema.Domain.{Domain}
 use Rattle.schema_core.specs.declared.schema.Domain.TheVariants.{AnyText, Finite}
 use Rattle.schema_core.specs.declared.schema.Attr.{Attr}

@@ -3,17 +3,17 @@
 use Rattle.std.specs.Prelude.{ℕ, Bool, false, List, [], ◌∷◌, ◌++◌, length, Option, Some, None, Ok, is_some, if◌then◌else◌, ◌==◌, nat_le, nat_lt, codes}
 use Rattle.std.specs.List.{list_any}
 use Rattle.std.specs.Str.{bytes_eq}
-use Rattle.schema_core.specs.Faults.{Causes, Reading, faulty, ◌>>=◌}
-use Rattle.schema_core.specs.FileLines.{read_line, no_lines}
-use Rattle.schema_core.specs.Firsts.{first_of}
-use Rattle.schema_core.specs.Groups.{in_turn, read_groups}
-use Rattle.schema_core.specs.Repeats.{first_repeated}
+use Rattle.line_grammar.specs.Faults.{Causes, Reading, faulty, ◌>>=◌}
+use Rattle.line_grammar.specs.FileLines.{read_line, no_lines}
+use Rattle.text_lists.specs.Firsts.{first_of}
+use Rattle.line_grammar.specs.Groups.{in_turn, read_groups}
+use Rattle.text_lists.specs.Repeats.{first_repeated}
 use Rattle.schema_core.specs.SchemaLines.{head_at, attr_at}
-use Rattle.schema_core.specs.TokenLists.{none_after}
-use Rattle.schema_core.specs.declared.line.Line.{Line}
-use Rattle.schema_core.specs.declared.group.Group.{Group}
-use Rattle.schema_core.specs.declared.limits.Limits.{Limits}
-use Rattle.schema_core.specs.declared.limits.Limit.TheVariants as limit
+use Rattle.line_grammar.specs.TokenLists.{none_after}
+use Rattle.line_grammar.specs.declared.line.Line.{Line}
+use Rattle.line_grammar.specs.declared.group.Group.{Group}
+use Rattle.text_lists.specs.declared.limits.Limits.{Limits}
+use Rattle.text_lists.specs.declared.limits.Limit.TheVariants as limit
 use Rattle.schema_core.specs.declared.schema.Domain.{Domain}
 use Rattle.schema_core.specs.declared.schema.Domain.TheVariants.{AnyText, Finite}
 use Rattle.schema_core.specs.declared.schema.Attr.{Attr}

@@ -8,9 +8,9 @@
 --     attr NAME            attr NAME in LIST(VALUE)
 use Rattle.std.specs.Prelude.{ℕ, Bool, true, false, List, Option, Some, None, if◌then◌else◌, option_map, codes}
 use Rattle.std.specs.Str.{bytes_eq}
-use Rattle.schema_core.specs.Phrases.{◌>>=◌, name_at, after_word, constant_at, file_name_at}
-use Rattle.schema_core.specs.TokenLists.{Reader, list_at}
-use Rattle.schema_core.specs.declared.tokens.Token.{Token}
+use Rattle.line_grammar.specs.Phrases.{◌>>=◌, name_at, after_word, constant_at, file_name_at}
+use Rattle.line_grammar.specs.TokenLists.{Reader, list_at}
+use Rattle.line_grammar.specs.declared.tokens.Token.{Token}
 use Rattle.schema_core.specs.declared.schema.Domain.{Domain}
 use Rattle.schema_core.specs.declared.schema.Domain.TheVariants.{AnyText, Finite}
 use Rattle.schema_core.specs.declared.schema.Attr.{Attr}

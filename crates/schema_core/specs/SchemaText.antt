@@ -1,9 +1,9 @@
 -- The canonical text of a schema: the tables in order, each with its `attr` lines, then `rules`, then `script`.
 use Rattle.std.specs.Prelude.{ℕ, Bool, List, [], ◌∷◌, ◌++◌, map, Option, Some, None, codes, if◌then◌else◌}
 use Rattle.std.specs.List.{flat_map}
-use Rattle.schema_core.specs.Spelling.{name, text, spaced_list, file_text}
-use Rattle.schema_core.specs.declared.writing.Part.{Part}
-use Rattle.schema_core.specs.declared.writing.Part.TheVariants.{Space}
+use Rattle.line_grammar.specs.Spelling.{name, text, spaced_list, file_text}
+use Rattle.line_grammar.specs.declared.writing.Part.{Part}
+use Rattle.line_grammar.specs.declared.writing.Part.TheVariants.{Space}
 use Rattle.schema_core.specs.declared.schema.Domain.{Domain}
 use Rattle.schema_core.specs.declared.schema.Domain.TheVariants.{AnyText, Finite}
 use Rattle.schema_core.specs.declared.schema.Attr.{Attr}

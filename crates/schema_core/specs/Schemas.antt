@@ -2,8 +2,8 @@
 use Rattle.std.specs.Prelude.{ℕ, ◌≤◌, Bool, true, List, length, map, Option, IfSome, All, Contains, position}
 use Rattle.std.specs.List.{list_any}
 use Rattle.std.specs.Str.{bytes_eq}
-use Rattle.schema_core.specs.Repeats.{AreDistinct}
-use Rattle.schema_core.specs.Names.{IsName, IsFileName, IsConstant}
+use Rattle.text_lists.specs.Repeats.{AreDistinct}
+use Rattle.text_lists.specs.Names.{IsName, IsFileName, IsConstant}
 use Rattle.schema_core.specs.declared.schema.Domain.{Domain}
 use Rattle.schema_core.specs.declared.schema.Domain.TheVariants.{AnyText, Finite}
 use Rattle.schema_core.specs.declared.schema.Attr.{Attr}

@@ -1,17 +1,16 @@
 //! The canonical text of a schema.
 
 ghost use Rattle.std.specs.Prelude.{◌≡◌, ◌∷◌, [], ◌++◌, IfOk, OnOk, Ok, codes};
-ghost use Rattle.schema_core.specs.Limits.{standard};
+ghost use Rattle.text_lists.specs.Limits.{standard};
 ghost use Rattle.schema_core.specs.Schemas.{IsValidSchema};
-ghost use Rattle.schema_core.specs.Spelling.{line_text, file_text};
+ghost use Rattle.line_grammar.specs.Spelling.{line_text, file_text};
 ghost use Rattle.schema_core.specs.SchemaText.{value_parts, domain_parts, attr_line, head_line, table_lines, file_lines, canonical};
 ghost use Rattle.schema_core.specs.SchemaFiles.{reads};
 
-use crate::quoting::push_quoted;
 use crate::schema::{Attr, Domain, Schema, Table};
-use crate::text::Text;
-use crate::writing::{Writes, push_spaced_list};
+use line_grammar::{Writes, push_quoted, push_spaced_list};
 use std::alloc::{AllocError, Global};
+use text_lists::Text;
 
 /// The values of a domain.
 struct Values;

@@ -5,10 +5,8 @@ ghost use Rattle.std.specs.List.{HoldsAt, list_any};
 ghost use Rattle.std.specs.Str.{bytes_eq};
 ghost use Rattle.schema_core.specs.Schemas.{table_place, attr_place, admits, Admits};
 
-use crate::fault::LineFault;
-use crate::limits::Limit;
-use crate::list::List;
-use crate::text::{Text, Texts};
+use line_grammar::LineFault;
+use text_lists::{Limit, List, Text, Texts};
 
 /// The texts that an attribute may have.
 #[derive(Debug, Drop, PartialEq, Eq)]

@@ -1,17 +1,16 @@
 //! A schema file as a schema.
 
 ghost use Rattle.std.specs.Prelude.{IfOk};
-ghost use Rattle.schema_core.specs.Faults.{IsUnlessMemory, line_tells};
-ghost use Rattle.schema_core.specs.Limits.{AreLimits};
+ghost use Rattle.line_grammar.specs.Faults.{IsUnlessMemory, line_tells};
+ghost use Rattle.text_lists.specs.Limits.{AreLimits};
 ghost use Rattle.schema_core.specs.SchemaFiles.{reads};
 ghost use Rattle.schema_core.specs.Schemas.{IsValidSchema};
 
-use crate::limits::Limits;
-use crate::list::List;
 use crate::schema::{Schema, SchemaFault};
 use crate::schema_groups::SchemaGroups;
-use crate::walk::read_groups;
+use line_grammar::read_groups;
 use std::alloc::Global;
+use text_lists::{Limits, List};
 
 /// The schema that the bytes spell, or the first faulty line with the first cause that it has, in the order of
 /// the variants of `SchemaCause`.

@@ -1,30 +1,21 @@
 //! What is read of a schema file, group by group.
 
 ghost use Rattle.std.specs.Prelude.{◌≡◌, IfOk, OnOk, Some};
-ghost use Rattle.schema_core.specs.Faults.{IsUnlessMemory, GivesUnlessMemory, line_tells};
-ghost use Rattle.schema_core.specs.Limits.{AreLimits};
-ghost use Rattle.schema_core.specs.Names.{IsFileName};
+ghost use Rattle.line_grammar.specs.Faults.{IsUnlessMemory, GivesUnlessMemory, line_tells};
+ghost use Rattle.text_lists.specs.Limits.{AreLimits};
+ghost use Rattle.text_lists.specs.Names.{IsFileName};
 ghost use Rattle.schema_core.specs.ReadSchemas.{IsReadHead, IsReadAttr, IsTableSoFar, IsSchemaSoFar};
 ghost use Rattle.schema_core.specs.Schemas.{IsValidSchema, IsValidTable};
 ghost use Rattle.schema_core.specs.SchemaFiles.{schema_causes, has_table, has_attr, has_no_value, has_value_twice, has_too_many_values, table_fault, attr_fault, unless, add_attr, add_table, add_file, add_head, add_group};
-ghost use Rattle.schema_core.specs.declared.limits.Limits.{Limits as AllLimits};
+ghost use Rattle.text_lists.specs.declared.limits.Limits.{Limits as AllLimits};
 ghost use Rattle.schema_core.specs.declared.schema.Schema.{Schema as AnySchema};
 ghost use Rattle.schema_core.specs.declared.schema.Table.{Table as AnyTable};
 
-use crate::causes::LineCause;
-use crate::fault::LineFault;
-use crate::gather::Gather;
-use crate::group::Group;
-use crate::limits::{Limit, Limits};
-use crate::line::Line;
-use crate::line_reading::no_lines;
-use crate::list::List;
-use crate::repeats::first_repeated;
 use crate::schema::{Attr, Domain, Schema, SchemaCause, SchemaFault, Table};
 use crate::schema_lines::{AttrLine, HeadLine, SchemaHead};
-use crate::text::Text;
-use crate::walk::gather_all;
+use line_grammar::{Gather, Group, Line, LineCause, LineFault, gather_all, no_lines};
 use std::alloc::{AllocError, Global};
+use text_lists::{Limit, Limits, List, Text, first_repeated};
 
 impl LineCause for SchemaCause {
     ghost causes = { schema_causes };
@@ -82,7 +73,7 @@ fn table_fault(
     limits: &Limits,
     tables: &[Table],
     name: &str,
-    members: &[Line],
+    members: &[Line<'_>],
 ) -> Option<SchemaCause>
     ensures { result ≡ table_fault limits.now tables.now name.now members.now }
 {
@@ -138,7 +129,7 @@ struct TableLines {
     table: Table,
 }
 
-impl Gather<Line> for TableLines {
+impl<'a> Gather<Line<'a>> for TableLines {
     type Cause = SchemaCause;
 
     ghost Gathered = { AnyTable };
@@ -154,7 +145,7 @@ impl Gather<Line> for TableLines {
     ghost is_fit = { IsTableSoFar };
 
     #[tactic(auto, unfolding(crate::specs::SchemaFiles::add_attr))]
-    fn add(&mut self, alloc: Global, line: Line) -> Result<(), SchemaFault> {
+    fn add(&mut self, alloc: Global, line: Line<'a>) -> Result<(), SchemaFault> {
         let number = line.number;
         let attr = line.read::<AttrLine, SchemaCause>(alloc)?;
         let fault = attr_fault(alloc, &self.limits, self.table.attrs.as_slice(), &attr)?;
@@ -177,11 +168,11 @@ impl SchemaGroups {
         alloc: Global,
         number: usize,
         table: Table,
-        members: List<Line>,
+        members: List<Line<'_>>,
     ) -> Result<(), SchemaFault>
         requires fit { IsSchemaSoFar self.old.limits self.old.schema }
         requires table { IsTableSoFar self.old.limits table }
-        ensures exact { GivesUnlessMemory line_tells (add_table self.old.limits self.old.schema number table members) (λ _. self.new.schema) result }
+        ensures exact { GivesUnlessMemory line_tells (add_table self.old.limits self.old.schema number table members.entry) (λ _. self.new.schema) result }
         ensures fit { OnOk result (IsSchemaSoFar self.new.limits self.new.schema) }
         ensures limits { self.new.limits ≡ self.old.limits }
     {
@@ -205,11 +196,11 @@ impl SchemaGroups {
         &mut self,
         number: usize,
         file: Text,
-        members: List<Line>,
+        members: List<Line<'_>>,
     ) -> Result<(), SchemaFault>
         requires fit { IsSchemaSoFar self.old.limits self.old.schema }
         requires file { IsFileName file }
-        ensures exact { GivesUnlessMemory line_tells (add_file self.old.schema.rules number (record self.old.schema { rules = Some file }) members) (λ _. self.new.schema) result }
+        ensures exact { GivesUnlessMemory line_tells (add_file self.old.schema.rules number (record self.old.schema { rules = Some file }) members.entry) (λ _. self.new.schema) result }
         ensures fit { OnOk result (IsSchemaSoFar self.new.limits self.new.schema) }
         ensures limits { self.new.limits ≡ self.old.limits }
     {
@@ -227,11 +218,11 @@ impl SchemaGroups {
         &mut self,
         number: usize,
         file: Text,
-        members: List<Line>,
+        members: List<Line<'_>>,
     ) -> Result<(), SchemaFault>
         requires fit { IsSchemaSoFar self.old.limits self.old.schema }
         requires file { IsFileName file }
-        ensures exact { GivesUnlessMemory line_tells (add_file self.old.schema.script number (record self.old.schema { script = Some file }) members) (λ _. self.new.schema) result }
+        ensures exact { GivesUnlessMemory line_tells (add_file self.old.schema.script number (record self.old.schema { script = Some file }) members.entry) (λ _. self.new.schema) result }
         ensures fit { OnOk result (IsSchemaSoFar self.new.limits self.new.schema) }
         ensures limits { self.new.limits ≡ self.old.limits }
     {
@@ -246,7 +237,7 @@ impl SchemaGroups {
     }
 }
 
-impl Gather<Group> for SchemaGroups {
+impl<'a> Gather<Group<'a>> for SchemaGroups {
     type Cause = SchemaCause;
 
     ghost Gathered = { AnySchema };
@@ -262,7 +253,7 @@ impl Gather<Group> for SchemaGroups {
     ghost is_fit = { IsSchemaSoFar };
 
     #[tactic(auto, unfolding(crate::specs::SchemaFiles::add_group))]
-    fn add(&mut self, alloc: Global, group: Group) -> Result<(), SchemaFault> {
+    fn add(&mut self, alloc: Global, group: Group<'a>) -> Result<(), SchemaFault> {
         let Group { head, members } = group;
         let number = head.number;
         match head.read::<HeadLine, SchemaCause>(alloc)? {

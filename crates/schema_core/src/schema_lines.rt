@@ -1,19 +1,15 @@
 //! The lines of a schema file, one rule of its grammar after another.
 
-ghost use Rattle.std.specs.Prelude.{◌≡◌, IfOk, IfSome, is_some, Some};
-ghost use Rattle.schema_core.specs.Names.{IsName, IsFileName};
-ghost use Rattle.schema_core.specs.Phrases.{Reads, constant_at};
+ghost use Rattle.std.specs.Prelude.{IfOk};
+ghost use Rattle.text_lists.specs.Names.{IsName, IsFileName};
+ghost use Rattle.line_grammar.specs.Phrases.{Reads};
 ghost use Rattle.schema_core.specs.ReadSchemas.{IsReadAttr, IsReadDomain, IsReadHead};
 ghost use Rattle.schema_core.specs.SchemaLines.{table_at, head_for, head_at, domain_at, attr_at};
 
-use crate::cursor::{Tokens, is_constant};
-use crate::phrase::Phrase;
-use crate::phrases::Constant;
 use crate::schema::{Attr, Domain};
-use crate::text::Text;
-use crate::tokens::Token;
-use crate::unread::Unread;
+use line_grammar::{Constant, Phrase, Tokens, Unread};
 use std::alloc::Global;
+use text_lists::Text;
 
 /// The line that a group of a schema file begins with.
 #[derive(Debug, Drop)]
@@ -33,7 +29,7 @@ pub struct HeadLine;
 /// An `attr` line.
 pub struct AttrLine;
 
-fn table_at(master: bool, tokens: &mut Tokens) -> Result<SchemaHead, Unread>
+fn table_at(master: bool, tokens: &mut Tokens<'_>) -> Result<SchemaHead, Unread>
     ensures exact { Reads (table_at master) tokens.old tokens.new result }
     ensures fit { IfOk result IsReadHead }
 {
@@ -42,7 +38,7 @@ fn table_at(master: bool, tokens: &mut Tokens) -> Result<SchemaHead, Unread>
     Ok(SchemaHead::Table { master, name, file })
 }
 
-fn head_for(word: &Text, tokens: &mut Tokens) -> Result<SchemaHead, Unread>
+fn head_for(word: &Text, tokens: &mut Tokens<'_>) -> Result<SchemaHead, Unread>
     ensures exact { Reads (head_for word.now) tokens.old tokens.new result }
     ensures fit { IfOk result IsReadHead }
 {
@@ -67,30 +63,20 @@ impl Phrase for HeadLine {
     ghost is_fit = { IsReadHead };
 
     #[tactic(auto, unfolding(crate::specs::SchemaLines::head_at))]
-    fn take(_alloc: Global, tokens: &mut Tokens) -> Result<SchemaHead, Unread> {
+    fn take(_alloc: Global, tokens: &mut Tokens<'_>) -> Result<SchemaHead, Unread> {
         let word = tokens.name()?;
         head_for(&word, tokens)
     }
 }
 
-/// Whether a constant stands at the front.
-pub fn has_constant(tokens: &Tokens) -> bool
-    ensures { result ≡ is_some (constant_at tokens.now) }
-{
-    match tokens.peek(0) {
-        Some(Token::Quoted(text)) => is_constant(text),
-        _ => false,
-    }
-}
-
-fn domain_at(alloc: Global, tokens: &mut Tokens) -> Result<Domain, Unread>
+fn domain_at(alloc: Global, tokens: &mut Tokens<'_>) -> Result<Domain, Unread>
     ensures exact { Reads domain_at tokens.old tokens.new result }
     ensures fit { IfOk result IsReadDomain }
 {
     let Ok(()) = tokens.word("in") else {
         return Ok(Domain::AnyText);
     };
-    let stands = has_constant(tokens);
+    let stands = tokens.has_constant();
     let values = tokens.list::<Constant>(alloc, stands)?;
     Ok(Domain::Finite(values))
 }
@@ -103,7 +89,7 @@ impl Phrase for AttrLine {
     ghost is_fit = { IsReadAttr };
 
     #[tactic(auto, unfolding(crate::specs::SchemaLines::attr_at))]
-    fn take(alloc: Global, tokens: &mut Tokens) -> Result<Attr, Unread> {
+    fn take(alloc: Global, tokens: &mut Tokens<'_>) -> Result<Attr, Unread> {
         tokens.word("attr")?;
         let name = tokens.name()?;
         let domain = domain_at(alloc, tokens)?;

@@ -1,7 +1,7 @@
 -- Each command has a reply over each history.
 use Rattle.std.proofs.Common.{◌≡◌, ℕ, List, [], ◌∷◌, ◌++◌, Result, Ok, Err, inl, inr, refl, ap, codes}
 use Rattle.std.specs.Prelude.{◌⊎◌}
-use Rattle.schema_core.specs.declared.limits.Limits.{Limits}
+use Rattle.text_lists.specs.declared.limits.Limits.{Limits}
 use Rattle.rule_model.specs.Books.{Book}
 use Rattle.edit_log.specs.declared.edit.Edit.{Edit}
 use Rattle.bench_core.specs.History.{History, history_edited}

@@ -17,6 +17,7 @@ use Rattle.fix_engine.proofs.Judging.{Among}
 use Rattle.fix_engine.proofs.Judged.{HasVerdict, among-left, among-right, has-verdict, same_list, same_number}
 use Rattle.session.specs.Fixing.{Asked, are_attrs, asked, asked_of, conflict_text, covered, fixed_text, rewritten}
 use Rattle.session.specs.Replies.{IsFixReply, fault_text, refused_text}
+use Rattle.session.proofs.VouchedKept.{changed-moved, vouched-kept}
 
 -- ---- the ids of all rows
 
@@ -55,7 +56,15 @@ module _ (rules : Book) (before : History) (row : ℕ) (vouched : List (List ℕ
         let end = stage_after a.question unique.0 in (
           fixed_text a.table a.row a.question.stage.tuple end.tuple (covered (length a.table.attrs) end.validated),
           accepted before (rewritten before.present a end.tuple),
-          inl (record { moves = unique.0; full = unique.1; all = unique.2; told = refl; written = refl }),
+          inl (record {
+            moves = unique.0;
+            full = unique.1;
+            all = unique.2;
+            told = refl;
+            written = refl;
+            vouched = vouched-kept a.question.basis a.question.stage unique.0 unique.1.run;
+            moved = changed-moved a.question.basis a.question.stage unique.0 unique.1.run;
+          }),
         )
     | inr conflict ↦ (
       conflict_text rules a.table a.row conflict.2 (stage_after a.question conflict.0).tuple (stage_after a.question conflict.1).tuple conflict.0 conflict.1,

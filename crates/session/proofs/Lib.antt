@@ -7,3 +7,5 @@ pub mod Cells
 pub mod RowFound
 pub mod Names
 pub mod Told
+pub mod VouchedKept
+pub mod CountedReplies

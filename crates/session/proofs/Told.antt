@@ -11,7 +11,7 @@ use Rattle.std.proofs.lemmas.Slice.Zip.{AllZip-long}
 use Rattle.schema_core.specs.Lookups.{attrs_at, master_at}
 use Rattle.schema_core.specs.Rows.{IsRowOf}
 use Rattle.schema_core.specs.Schemas.{table_place}
-use Rattle.schema_core.specs.declared.limits.Limits.{Limits}
+use Rattle.text_lists.specs.declared.limits.Limits.{Limits}
 use Rattle.schema_core.specs.declared.schema.Attr.{Attr}
 use Rattle.schema_core.specs.declared.schema.Schema.{Schema}
 use Rattle.schema_core.specs.declared.schema.Table.{Table}
@@ -48,6 +48,7 @@ use Rattle.session.specs.Telling.{CanBeTold, IsRowAt, IsToldFix, IsToldFixed, Is
 use Rattle.session.specs.declared.fixing.RowAt.{RowAt}
 use Rattle.session.proofs.Names.{known-names, unknown-names}
 use Rattle.session.proofs.RowFound.{row-known, row-there, table-known}
+use Rattle.session.proofs.VouchedKept.{changed-moved, vouched-kept}
 
 -- ---- rows of a state
 
@@ -170,6 +171,8 @@ module _ (rules : Book) (limits : Limits) (before : History) (texts : List (List
           all = λ others is. ap (λ (s : Stage (List ℕ)). s.tuple) (all others is ∙ sym end);
           told = told ∙ ap (λ (s : Stage (List ℕ)). fixed_text a.table a.row a.question.stage.tuple s.tuple (covered (length a.table.attrs) s.validated)) (sym end);
           written = ap (λ (s : Stage (List ℕ)). accepted before (rewritten before.present a s.tuple)) (sym end);
+          vouched = vouched-kept a.question.basis a.question.stage moves full.run;
+          moved = changed-moved a.question.basis a.question.stage moves full.run;
         };
       }
 

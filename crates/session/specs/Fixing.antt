@@ -1,11 +1,11 @@
 -- What is answered to a fix. A row is corrected where all maximal runs of editing rules end in one tuple, and then each
 -- attribute that changes is told; else two maximal runs that disagree are told, and nothing changes.
-use Rattle.std.specs.Prelude.{◌≡◌, ◌≢◌, ◌⊎◌, ℕ, ◌==◌, Bool, not, if◌then◌else◌, List, [], ◌++◌, length, filter, zip, Ok, is_some, ok_or, codes, decimal}
+use Rattle.std.specs.Prelude.{◌≡◌, ◌≢◌, ◌⊎◌, ℕ, ◌==◌, Any, Bool, true, not, if◌then◌else◌, List, [], ◌++◌, length, filter, zip, Ok, Some, is_some, ok_or, codes, decimal}
 use Rattle.std.specs.List.{count_by, flat_map, list_all, range_with_len, slice_get, slice_set}
 use Rattle.std.specs.Option.{option_map_or}
 use Rattle.std.specs.Str.{bytes_eq}
 use Rattle.schema_core.specs.Schemas.{attr_place}
-use Rattle.schema_core.specs.Tokens.{quoted}
+use Rattle.line_grammar.specs.Tokens.{quoted}
 use Rattle.schema_core.specs.declared.schema.Attr.{Attr}
 use Rattle.schema_core.specs.declared.schema.Table.{Table}
 use Rattle.rule_model.specs.Books.{Book, book_edits}
@@ -15,6 +15,7 @@ use Rattle.bench_core.specs.Edited.{Step, TableAt, ◌>>=◌, ◌>>◌, require,
 use Rattle.bench_core.specs.History.{History, accepted}
 use Rattle.bench_core.specs.State.{State, TableState, texts_of, with_texts}
 use Rattle.bench_core.specs.declared.edit.EditFault.TheVariants.{UnknownAttr, UnknownRow, UnknownTable}
+use Rattle.rule_runs.specs.Moves.{target_of}
 use Rattle.rule_runs.specs.declared.moves.Move.{Move}
 use Rattle.fix_engine.specs.Fixes.{AllEndIn, IsFullRun, Question, stage_after}
 use Rattle.fix_engine.specs.Questions.{text_question}
@@ -125,13 +126,16 @@ conflict_text rules table row attr one other first second =
 abbrev pub rewritten : State → Asked → List (List ℕ) → State
 rewritten state asked texts = slice_set state asked.number (with_texts asked.state asked.row texts)
 
--- All maximal runs end in one tuple: the row gets it, what changes is told, and one undo takes it back.
+-- All maximal runs end in one tuple: the row gets it, what changes is told, and one undo takes it back. What was vouched for
+-- is not written over, and each attribute that changes was validated by a move of the run.
 pub record IsFixed (before : History) (asked : Asked) (bytes : List ℕ) (after : History) : Type 0 where
   pub moves : List Move
   pub full : IsFullRun asked.question moves
   pub all : AllEndIn asked.question (stage_after asked.question moves).tuple
   pub told : bytes ≡ fixed_text asked.table asked.row asked.question.stage.tuple (stage_after asked.question moves).tuple (covered (length asked.table.attrs) (stage_after asked.question moves).validated)
   pub written : after ≡ accepted before (rewritten before.present asked (stage_after asked.question moves).tuple)
+  pub vouched : (attr : ℕ) → asked.question.stage.validated attr ≡ true → slice_get (stage_after asked.question moves).tuple attr ≡ slice_get asked.question.stage.tuple attr
+  pub moved : (attr : ℕ) → slice_get (stage_after asked.question moves).tuple attr ≢ slice_get asked.question.stage.tuple attr → Any (λ move. target_of asked.question.basis move ≡ Some attr) moves
 
 -- Two maximal runs end in tuples that differ at an attribute: they are told, and nothing changes.
 pub record IsConflict (rules : Book) (before : History) (asked : Asked) (bytes : List ℕ) (after : History) : Type 0 where

@@ -2,3 +2,4 @@ pub mod Scripts
 pub mod Fixing
 pub mod Replies
 pub mod Telling
+pub mod Probes

@@ -14,16 +14,16 @@
 -- TABLE and ATTR are names, ID is a number from 1, and TEXT a text of any length.
 use Rattle.std.specs.Prelude.{ℕ, List, [], ◌∷◌, ◌++◌, length, Some, None, Ok, if◌then◌else◌, nat_le, nat_lt, codes}
 use Rattle.std.specs.Str.{bytes_eq}
-use Rattle.schema_core.specs.Faults as Fault
-use Rattle.schema_core.specs.FileLines.{read_line}
-use Rattle.schema_core.specs.Groups.{read_lines}
-use Rattle.schema_core.specs.Marks.{after_mark}
-use Rattle.schema_core.specs.Phrases.{◌>>=◌, list_until, name_at, number_at, only_if, text_at}
-use Rattle.schema_core.specs.TokenLists.{Reader, list1_at, none_after}
-use Rattle.schema_core.specs.declared.line.Line.{Line}
-use Rattle.schema_core.specs.declared.limits.Limits.{Limits}
-use Rattle.schema_core.specs.declared.limits.Limit.TheVariants as limit
-use Rattle.schema_core.specs.declared.tokens.Mark.TheVariants.{CloseBracket, OpenBracket}
+use Rattle.line_grammar.specs.Faults as Fault
+use Rattle.line_grammar.specs.FileLines.{read_line}
+use Rattle.line_grammar.specs.Groups.{read_lines}
+use Rattle.line_grammar.specs.Marks.{after_mark}
+use Rattle.line_grammar.specs.Phrases.{◌>>=◌, list_until, name_at, number_at, only_if, text_at}
+use Rattle.line_grammar.specs.TokenLists.{Reader, list1_at, none_after}
+use Rattle.line_grammar.specs.declared.line.Line.{Line}
+use Rattle.text_lists.specs.declared.limits.Limits.{Limits}
+use Rattle.text_lists.specs.declared.limits.Limit.TheVariants as limit
+use Rattle.line_grammar.specs.declared.tokens.Mark.TheVariants.{CloseBracket, OpenBracket}
 use Rattle.edit_log.specs.declared.edit.Edit.TheVariants.{Insert, Set, Delete}
 use Rattle.session.specs.declared.command.Command.{Command}
 use Rattle.session.specs.declared.command.Command.TheVariants as command

@@ -2,7 +2,7 @@
 use Rattle.std.specs.Prelude.{◌≡◌, ℕ, ◌<◌, List, length, All, Option, Some, None, Ok}
 use Rattle.row_store.specs.Tuple.{ids_of}
 use Rattle.schema_core.specs.Rows.{IsRowOf}
-use Rattle.schema_core.specs.declared.limits.Limits.{Limits}
+use Rattle.text_lists.specs.declared.limits.Limits.{Limits}
 use Rattle.schema_core.specs.declared.schema.Table.{Table}
 use Rattle.rule_model.specs.Books.{Book, book_edits}
 use Rattle.bench_core.specs.Answers.{row_texts}

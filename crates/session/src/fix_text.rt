@@ -4,7 +4,7 @@ ghost use Rattle.std.specs.Prelude.{◌≡◌, ◌++◌, ◌<◌, codes, decimal
 ghost use Rattle.std.specs.List.{flat_map};
 ghost use Rattle.rule_model.specs.Books.{book_edits};
 ghost use Rattle.session.specs.Fixing.{cell_text, changed_cells, conflict_line, fixed_line, fixed_text, move_text, rule_name, run_text, sureness, values_text};
-ghost use Rattle.schema_core.specs.Tokens.{quoted};
+ghost use Rattle.line_grammar.specs.Tokens.{quoted};
 
 use crate::reply::push_row;
 use row_store::RowId;

@@ -1,8 +1,9 @@
 //! The answer to a fix.
 
-ghost use Rattle.std.specs.Prelude.{◌≡◌, ◌++◌, ◌<◌, ◌≤◌, ℕ, List, [], Err, Ok, Some, length, IfErr, IfOk, OnErr, OnOk};
+ghost use Rattle.std.specs.Prelude.{◌≡◌, ◌++◌, ◌+◌, ◌<◌, ◌≤◌, ℕ, List, [], Err, Ok, Some, length, IfErr, IfOk, OnErr, OnOk};
 ghost use Rattle.schema_core.specs.Schemas.{table_place};
 ghost use Rattle.bench_core.specs.History.{History, history_edited};
+ghost use Rattle.bench_core.specs.Indexed.{table_probes};
 ghost use Rattle.bench_core.specs.Stored.{HaveTexts};
 ghost use Rattle.bench_core.specs.declared.edit.Applied.TheVariants as applied;
 ghost use Rattle.fix_engine.specs.Questions.{texts_of};
@@ -41,6 +42,7 @@ pub fn answer_fix<L: Ledger>(
     ensures ok { OnOk result (IsFixReply bench.old.rules bench.old.history (asked bench.old.rules bench.old.history.present table.now row vouched.now) reply.new.items bench.new.history) }
     ensures memory { OnErr result (bench.new.history ≡ bench.old.history) }
     ensures made_with { (bench.new.rules ≡ bench.old.rules) × (bench.new.limits ≡ bench.old.limits) }
+    ensures probes { steps.new ≤ steps.old + table_probes bench.old.rules table.now }
 {
     match tell_fix(alloc, bench, table, row, vouched, reply)? {
         Some(values) => write_fix(bench, table, row, values, steps),
@@ -144,6 +146,7 @@ fn write_fix<L: Ledger>(
     ensures ok { OnOk result (history_edited bench.old.rules bench.old.limits bench.old.history (Edit.Fix table.now row values) ≡ Ok (bench.new.history, applied.Changed)) }
     ensures memory { OnErr result (bench.new.history ≡ bench.old.history) }
     ensures made_with { (bench.new.rules ≡ bench.old.rules) × (bench.new.limits ≡ bench.old.limits) }
+    ensures probes { steps.new ≤ steps.old + table_probes bench.old.rules table.now }
 {
     let edit = Edit::Fix {
         table: table.clone()?,

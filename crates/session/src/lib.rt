@@ -13,6 +13,3 @@ pub mod serving;
 pub use command::{Command, ScriptCause, ScriptFault, ServeFault};
 pub use script::parse_script;
 pub use serving::serve;
-
-#[cfg(test)]
-mod tests;

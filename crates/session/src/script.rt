@@ -1,9 +1,9 @@
 //! Script files. Each line is read by one rule, and its texts are moved from the tokens to the command.
 
 ghost use Rattle.std.specs.Prelude.{⊤, ◌≡◌, ◌≤◌, length, IfOk};
-ghost use Rattle.schema_core.specs.Faults.{IsUnlessMemory, line_tells};
-ghost use Rattle.schema_core.specs.Phrases.{Reads};
-ghost use Rattle.schema_core.specs.declared.limits.Limits.{Limits as AllLimits};
+ghost use Rattle.line_grammar.specs.Faults.{IsUnlessMemory, line_tells};
+ghost use Rattle.line_grammar.specs.Phrases.{Reads};
+ghost use Rattle.text_lists.specs.declared.limits.Limits.{Limits as AllLimits};
 ghost use Rattle.session.specs.Scripts.{id_at, row_at, insert_at, set_at, delete_at, fix_at, explain_at, export_at, question_for, command_for, command_at, script_causes, with_line, script_of};
 ghost use Rattle.session.specs.declared.command.Command.{Command as AnyCommand};
 
@@ -31,7 +31,7 @@ impl LineCause for ScriptCause {
 /// A command by its first word.
 struct CommandLine;
 
-fn id_at(tokens: &mut Tokens) -> Result<RowId, Unread>
+fn id_at(tokens: &mut Tokens<'_>) -> Result<RowId, Unread>
     ensures { Reads id_at tokens.old tokens.new result }
 {
     let id = tokens.number()?;
@@ -42,7 +42,7 @@ fn id_at(tokens: &mut Tokens) -> Result<RowId, Unread>
 }
 
 /// A table and the id of a row.
-fn row_at(tokens: &mut Tokens) -> Result<(Text, RowId), Unread>
+fn row_at(tokens: &mut Tokens<'_>) -> Result<(Text, RowId), Unread>
     ensures { Reads row_at tokens.old tokens.new result }
 {
     let table = tokens.name()?;
@@ -51,7 +51,7 @@ fn row_at(tokens: &mut Tokens) -> Result<(Text, RowId), Unread>
 }
 
 /// A table and the texts of a row.
-fn insert_at(alloc: Global, tokens: &mut Tokens) -> Result<Command, Unread>
+fn insert_at(alloc: Global, tokens: &mut Tokens<'_>) -> Result<Command, Unread>
     ensures { Reads insert_at tokens.old tokens.new result }
 {
     let table = tokens.name()?;
@@ -60,7 +60,7 @@ fn insert_at(alloc: Global, tokens: &mut Tokens) -> Result<Command, Unread>
 }
 
 /// A row, an attribute and its text.
-fn set_at(tokens: &mut Tokens) -> Result<Command, Unread>
+fn set_at(tokens: &mut Tokens<'_>) -> Result<Command, Unread>
     ensures { Reads set_at tokens.old tokens.new result }
 {
     let (table, row) = row_at(tokens)?;
@@ -74,7 +74,7 @@ fn set_at(tokens: &mut Tokens) -> Result<Command, Unread>
     }))
 }
 
-fn delete_at(tokens: &mut Tokens) -> Result<Command, Unread>
+fn delete_at(tokens: &mut Tokens<'_>) -> Result<Command, Unread>
     ensures { Reads delete_at tokens.old tokens.new result }
 {
     let (table, row) = row_at(tokens)?;
@@ -82,7 +82,7 @@ fn delete_at(tokens: &mut Tokens) -> Result<Command, Unread>
 }
 
 /// A row, and the attributes that are vouched for.
-fn fix_at(alloc: Global, tokens: &mut Tokens) -> Result<Command, Unread>
+fn fix_at(alloc: Global, tokens: &mut Tokens<'_>) -> Result<Command, Unread>
     ensures { Reads fix_at tokens.old tokens.new result }
 {
     let (table, row) = row_at(tokens)?;
@@ -95,14 +95,14 @@ fn fix_at(alloc: Global, tokens: &mut Tokens) -> Result<Command, Unread>
     })
 }
 
-fn explain_at(tokens: &mut Tokens) -> Result<Command, Unread>
+fn explain_at(tokens: &mut Tokens<'_>) -> Result<Command, Unread>
     ensures { Reads explain_at tokens.old tokens.new result }
 {
     let (table, row) = row_at(tokens)?;
     Ok(Command::Explain { table, row })
 }
 
-fn export_at(tokens: &mut Tokens) -> Result<Command, Unread>
+fn export_at(tokens: &mut Tokens<'_>) -> Result<Command, Unread>
     ensures { Reads export_at tokens.old tokens.new result }
 {
     let table = tokens.name()?;
@@ -110,7 +110,7 @@ fn export_at(tokens: &mut Tokens) -> Result<Command, Unread>
 }
 
 #[tactic(auto, unfolding(crate::specs::Scripts::question_for))]
-fn question_for(word: &Text, tokens: &mut Tokens) -> Result<Command, Unread>
+fn question_for(word: &Text, tokens: &mut Tokens<'_>) -> Result<Command, Unread>
     ensures { Reads (question_for word.now) tokens.old tokens.new result }
 {
     if word.is("list") {
@@ -127,7 +127,7 @@ fn question_for(word: &Text, tokens: &mut Tokens) -> Result<Command, Unread>
 }
 
 #[tactic(auto, unfolding(crate::specs::Scripts::command_for))]
-fn command_for(alloc: Global, word: &Text, tokens: &mut Tokens) -> Result<Command, Unread>
+fn command_for(alloc: Global, word: &Text, tokens: &mut Tokens<'_>) -> Result<Command, Unread>
     ensures { Reads (command_for word.now) tokens.old tokens.new result }
 {
     if word.is("insert") {
@@ -155,7 +155,7 @@ impl Phrase for CommandLine {
     ghost is_fit = { λ _. ⊤ };
 
     #[tactic(auto, unfolding(crate::specs::Scripts::command_at))]
-    fn take(alloc: Global, tokens: &mut Tokens) -> Result<Command, Unread> {
+    fn take(alloc: Global, tokens: &mut Tokens<'_>) -> Result<Command, Unread> {
         let word = tokens.name()?;
         command_for(alloc, &word, tokens)
     }
@@ -168,7 +168,7 @@ struct Commands {
     commands: List<Command>,
 }
 
-impl Gather<Line> for Commands {
+impl<'a> Gather<Line<'a>> for Commands {
     type Cause = ScriptCause;
 
     ghost use Rattle.std.specs.Prelude.{List, ◌≤◌, length};
@@ -186,7 +186,7 @@ impl Gather<Line> for Commands {
     ghost is_fit = { λ limits commands. length commands ≤ limits.commands };
 
     #[tactic(auto, unfolding(crate::specs::Scripts::with_line))]
-    fn add(&mut self, alloc: Global, line: Line) -> Result<(), ScriptFault> {
+    fn add(&mut self, alloc: Global, line: Line<'a>) -> Result<(), ScriptFault> {
         let number = line.number;
         let command = line.read::<CommandLine, ScriptCause>(alloc)?;
         if self.commands.as_slice().len() as u64 >= self.limits.commands {

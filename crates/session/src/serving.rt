@@ -1,9 +1,11 @@
 //! The answers of a script.
 
-ghost use Rattle.std.specs.Prelude.{◌≡◌, ◌≤◌, ℕ, List, [], ◌∷◌, Option, Err, OnOk, OnErr};
+ghost use Rattle.std.specs.Prelude.{◌≡◌, ◌≤◌, ◌+◌, ℕ, List, [], ◌∷◌, Option, Err, OnOk, OnErr};
 ghost use Rattle.shelf_io.specs.Rising.{Rose};
 ghost use Rattle.shelf_io.specs.Transcript.{Answers, AnswersFront};
-ghost use Rattle.bench_core.specs.History.{history_edited};
+ghost use Rattle.bench_core.specs.History.{first_undone, history_edited, last_past};
+ghost use Rattle.bench_core.specs.Indexed.{AreOfTheChange, edit_probes};
+ghost use Rattle.session.specs.Probes.{IsCountedReply, IsWithin};
 ghost use Rattle.session.specs.Replies.{IsEditReply, IsRedoReply, IsReply, IsUndoReply};
 
 use crate::command::{Command, ServeFault};
@@ -31,6 +33,9 @@ pub fn serve<O: Sink, L: Ledger>(
 ) -> Result<(), ServeFault>
     ensures ok { OnOk result (Answers (IsReply bench.old.rules bench.old.limits) bench.old.history commands.now bench.new.history (O.told out.old).written (O.told out.new).written) }
 
+    // No command took more probes than it may, in the history in which it was answered.
+    ensures probes { OnOk result (Answers (IsCountedReply bench.old.rules bench.old.limits) (bench.old.history, steps.old) commands.now (bench.new.history, steps.new) (O.told out.old).written (O.told out.new).written) }
+
     // After a fault some of the commands were answered, the last reply perhaps not to its end.
     ensures fault { OnErr result (AnswersFront (IsReply bench.old.rules bench.old.limits) bench.old.history commands.now bench.new.history (O.told out.old).written (O.told out.new).written) }
     ensures made_with { (bench.new.rules ≡ bench.old.rules) × (bench.new.limits ≡ bench.old.limits) }
@@ -56,6 +61,7 @@ fn answer_one<O: Sink, L: Ledger>(
     ensures ok { OnOk result (Answers (IsReply bench.old.rules bench.old.limits) bench.old.history (command.now ∷ []) bench.new.history (O.told out.old).written (O.told out.new).written) }
     ensures fault { OnErr result (AnswersFront (IsReply bench.old.rules bench.old.limits) bench.old.history (command.now ∷ []) bench.new.history (O.told out.old).written (O.told out.new).written) }
     ensures made_with { (bench.new.rules ≡ bench.old.rules) × (bench.new.limits ≡ bench.old.limits) }
+    ensures probes { IsWithin bench.old.rules bench.old.history command.now steps.old steps.new }
     ensures write_fault { result ≡ Err ServeFault.WriteFault → Rose (O.told out.old).faults (O.told out.new).faults }
     ensures faults { (O.told out.old).faults ≤ (O.told out.new).faults }
 {
@@ -81,6 +87,7 @@ fn answer<L: Ledger>(
     // The bench is as before the command or as after it, and the sink wasn't touched.
     ensures memory { OnErr result ((written : Option (List ℕ)) → AnswersFront (IsReply bench.old.rules bench.old.limits) bench.old.history (command.now ∷ []) bench.new.history written written) }
     ensures made_with { (bench.new.rules ≡ bench.old.rules) × (bench.new.limits ≡ bench.old.limits) }
+    ensures probes { IsWithin bench.old.rules bench.old.history command.now steps.old steps.new }
 {
     match command {
         Command::Edit(edit) => answer_edit(bench, edit, reply, steps),
@@ -108,6 +115,7 @@ fn answer_edit<L: Ledger>(
     ensures ok { OnOk result (IsEditReply bench.old.history edit.now (history_edited bench.old.rules bench.old.limits bench.old.history edit.now) reply.new.items bench.new.history) }
     ensures memory { OnErr result ((written : Option (List ℕ)) → AnswersFront (IsReply bench.old.rules bench.old.limits) bench.old.history (Command.Edit edit.now ∷ []) bench.new.history written written) }
     ensures made_with { (bench.new.rules ≡ bench.old.rules) × (bench.new.limits ≡ bench.old.limits) }
+    ensures probes { steps.new ≤ steps.old + edit_probes bench.old.rules edit.now }
 {
     match bench.apply(edit, steps) {
         Ok(applied) => push_done(reply, edit, applied),
@@ -125,6 +133,7 @@ fn answer_undo<L: Ledger>(
     ensures ok { OnOk result (IsUndoReply bench.old.history reply.new.items bench.new.history) }
     ensures memory { OnErr result ((written : Option (List ℕ)) → AnswersFront (IsReply bench.old.rules bench.old.limits) bench.old.history (Command.Undo ∷ []) bench.new.history written written) }
     ensures made_with { (bench.new.rules ≡ bench.old.rules) × (bench.new.limits ≡ bench.old.limits) }
+    ensures probes { AreOfTheChange bench.old.rules bench.old.history.present (last_past bench.old.history) steps.old steps.new }
 {
     match bench.undo(steps) {
         Ok(()) => reply.extend_from_slice(b"undone\n"),
@@ -142,6 +151,7 @@ fn answer_redo<L: Ledger>(
     ensures ok { OnOk result (IsRedoReply bench.old.history reply.new.items bench.new.history) }
     ensures memory { OnErr result ((written : Option (List ℕ)) → AnswersFront (IsReply bench.old.rules bench.old.limits) bench.old.history (Command.Redo ∷ []) bench.new.history written written) }
     ensures made_with { (bench.new.rules ≡ bench.old.rules) × (bench.new.limits ≡ bench.old.limits) }
+    ensures probes { AreOfTheChange bench.old.rules bench.old.history.present (first_undone bench.old.history) steps.old steps.new }
 {
     match bench.redo(steps) {
         Ok(()) => reply.extend_from_slice(b"redone\n"),

@@ -86,6 +86,3 @@ impl Pool {
         self.texts.as_slice()[id].as_str()
     }
 }
-
-#[cfg(test)]
-mod tests;

@@ -8,7 +8,7 @@ use Rattle.rule_model.specs.declared.dep.Dep.{Dep}
 use Rattle.rule_model.specs.declared.cind.Cind.{Cind}
 use Rattle.rule_model.specs.Books.{Book, IsBook, book_deps, book_cinds}
 use Rattle.rule_model.specs.Rules.{IsValidDep, IsValidCind}
-use Rattle.schema_core.specs.declared.limits.Limits.{Limits}
+use Rattle.text_lists.specs.declared.limits.Limits.{Limits}
 use Rattle.bench_core.specs.Answers.{cind_orphans, dep_violations, orphans_at, violations_at}
 use Rattle.bench_core.specs.State.{State}
 use Rattle.bench_core.proofs.Answering.{item-there}

@@ -1,7 +1,7 @@
 //! How long the list is.
 
-ghost use Rattle.std.specs.Prelude.{◌≡◌, ◌+◌, ◌^◌, ◌<◌, IfOk, length};
-ghost use Rattle.violation_report.specs.Listing.{cind_lines, dep_lines, listing};
+ghost use Rattle.std.specs.Prelude.{◌≡◌, ◌↔◌, ◌+◌, ◌^◌, ◌<◌, IfOk, length};
+ghost use Rattle.violation_report.specs.Listing.{IsSatisfied, cind_lines, dep_lines, listing};
 
 use crate::listing::{cind_count, dep_count};
 use bench_core::Bench;
@@ -9,9 +9,11 @@ use probe_steps::Steps;
 use std::alloc::AllocError;
 use std::sync::ledger::Ledger;
 
-/// The number of lines of the list, which isn't made. A number beyond the last of its type is told as want of memory.
+/// The number of lines of the list, which isn't made: 0 exactly where all rules are satisfied. A number beyond the last of
+/// its type is told as want of memory.
 pub fn count<L: Ledger>(bench: &Bench, steps: &mut Steps<L>) -> Result<usize, AllocError>
-    ensures { IfOk result (λ lines. lines ≡ length (listing bench.now.rules bench.now.history.present)) }
+    ensures count { IfOk result (λ lines. lines ≡ length (listing bench.now.rules bench.now.history.present)) }
+    ensures law { IfOk result (λ lines. lines ≡ 0 ↔ IsSatisfied bench.now.rules bench.now.history.present) }
 {
     let deps = count_deps(bench, steps)?;
     let cinds = count_cinds(bench, steps)?;

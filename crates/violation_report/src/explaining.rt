@@ -1,7 +1,7 @@
 //! The lines of the list that a row has.
 
 ghost use Rattle.std.specs.Prelude.{◌≡◌, ◌++◌, ◌<◌, [], true, length, filter, All, IfOk, OnOk};
-ghost use Rattle.schema_core.specs.Faults.{IsUnlessMemory};
+ghost use Rattle.line_grammar.specs.Faults.{IsUnlessMemory};
 ghost use Rattle.rule_model.specs.Books.{book_cinds, book_deps};
 ghost use Rattle.bench_core.specs.Answers.{orphans_at, violations_at};
 ghost use Rattle.violation_report.specs.Explained.{cind_is_of, dep_is_of, explain_tells, explained, explanation, has_row, is_about};

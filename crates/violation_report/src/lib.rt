@@ -13,6 +13,3 @@ pub use explaining::{ExplainFault, explain};
 pub use json::json_report;
 pub use line::{Line, line_text, push_line};
 pub use listing::list;
-
-#[cfg(test)]
-mod tests;

@@ -1,6 +1,6 @@
 use Rattle.std.proofs.Common.{◌≡◌, ◌++◌, take}
 use Rattle.std.specs.Prelude.{map}
-use Rattle.schema_core.specs.Spelling.{file_text}
+use Rattle.line_grammar.specs.Spelling.{file_text}
 use Rattle.cert_text.specs.CertText.{node_parts}
 use Rattle.cert_check.proofs.tree_lines.push_nodes.Given as goal
 

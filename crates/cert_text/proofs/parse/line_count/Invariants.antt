@@ -1,5 +1,5 @@
 use Rattle.std.proofs.Common.{◌≡◌, ◌+◌, length}
-use Rattle.schema_core.specs.Lines.{lines}
+use Rattle.line_grammar.specs.Lines.{lines}
 use Rattle.cert_text.proofs.parse.line_count.Given as goal
 
 abbrev pub invariant-loop-bytes : goal.invariant-loop-bytes

@@ -1,5 +1,5 @@
 use Rattle.std.proofs.Common.{◌≡◌, ◌++◌, take, map}
-use Rattle.schema_core.specs.Spelling.{file_text}
+use Rattle.line_grammar.specs.Spelling.{file_text}
 use Rattle.cert_text.specs.CertText.{node_line}
 use Rattle.cert_text.proofs.print.push_nodes.Given as goal
 

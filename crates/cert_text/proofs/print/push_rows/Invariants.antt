@@ -1,6 +1,6 @@
 use Rattle.std.proofs.Common.{◌≡◌, ◌++◌, take}
 use Rattle.std.specs.List.{flat_map}
-use Rattle.schema_core.specs.Spelling.{line_text}
+use Rattle.line_grammar.specs.Spelling.{line_text}
 use Rattle.cert_text.specs.CertText.{row_parts}
 use Rattle.cert_text.proofs.print.push_rows.Given as goal
 

@@ -4,6 +4,7 @@ use Rattle.cfd_cli.specs.ReportForm.{report_of, report_outputs}
 use Rattle.cfd_cli.specs.Project.{read_of}
 use Rattle.cli_output.specs.Output.{Ends}
 use Rattle.cli_output.proofs.Outputs.{Ends-wider}
+use Rattle.cfd_cli.proofs.Reports.{clean_where_satisfied}
 use Rattle.cfd_cli.proofs.report_form.report.Goals as goal
 
 pub returns-in-Ok : goal.returns-in-Ok
@@ -12,4 +13,4 @@ returns-in-Ok g c =
     let last = c.serve.new.bench in
     let answered = c.in-Ok.ensures.ok in
     let told = subst (λ (rules : Book). Ends (report_of rules last.history.present) c.tell.result (g.O.Sink.told c.args.out.now) (g.O.Sink.told c.tell.new.out)) c.serve.ensures.made_with.0 c.tell.ensures in
-    Ends-wider (report_of start.rules last.history.present) (report_outputs (read_of c.args.project)) (λ bytes status is. (last.history, answered.text, answered.is_one, is)) c.tell.result (g.O.Sink.told c.args.out.now) (g.O.Sink.told c.tell.new.out) told
+    Ends-wider (report_of start.rules last.history.present) (report_outputs (read_of c.args.project)) (λ bytes status is. (last.history, answered.text, answered.is_one, is, clean_where_satisfied start.rules last.history.present status is.1)) c.tell.result (g.O.Sink.told c.args.out.now) (g.O.Sink.told c.tell.new.out) told

@@ -1,5 +1,5 @@
 use Rattle.std.proofs.Common.{◌≡◌, ◌++◌, List, ℕ, [], ◌∷◌, ap, sym, subst, ◌∙◌}
-use Rattle.schema_core.specs.declared.limits.Limits.{Limits}
+use Rattle.text_lists.specs.declared.limits.Limits.{Limits}
 use Rattle.bench_core.specs.Loading.{AreTables, Tuples, loaded}
 use Rattle.generator.specs.Project.{AreRules, master_rows, rows}
 use Rattle.generator.proofs.Fitting.{tables_fit}

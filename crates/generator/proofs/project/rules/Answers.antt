@@ -1,5 +1,5 @@
 use Rattle.std.proofs.Common.{Ok, ap, sym, ◌∙◌}
-use Rattle.schema_core.specs.declared.limits.Limits.{Limits}
+use Rattle.text_lists.specs.declared.limits.Limits.{Limits}
 use Rattle.schema_core.specs.declared.schema.Schema.{Schema}
 use Rattle.rule_parser.specs.RuleFiles.{reads}
 use Rattle.generator.specs.Project.{rules_text}

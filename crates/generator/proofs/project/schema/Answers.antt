@@ -1,6 +1,6 @@
 use Rattle.std.proofs.Common.{ap, sym, ◌∙◌}
 use Rattle.schema_core.specs.SchemaFiles.{reads}
-use Rattle.schema_core.specs.declared.limits.Limits.{Limits}
+use Rattle.text_lists.specs.declared.limits.Limits.{Limits}
 use Rattle.generator.specs.Project.{schema_text}
 use Rattle.generator.proofs.project.schema.Goals as goal
 

@@ -6,4 +6,4 @@ returns g c =
     let before = c.args.bench.now in
     let after = c.make_all.new.bench in
     summed_up before.rules after.rules before.limits before.history after.history c.args.thousands.now _ c.make_all.new.text.items _ c.in_ok-lines.lines
-    c.new-text.ensures.items c.in_ok-make_all.ensures.told c.in_ok-extend_from_slice.ensures.items c.make_all.ensures.made_with.0 c.in_ok-lines.ensures
+    c.new-text.ensures.items c.in_ok-make_all.ensures.told c.in_ok-extend_from_slice.ensures.items c.make_all.ensures.made_with.0 c.in_ok-lines.ensures.count

@@ -1,8 +1,7 @@
 use Rattle.std.proofs.Common.{sym, ap, ◌∙◌, arith}
-use Rattle.group_index.specs.Pairs.{is_dirty_by, pairs_of}
+use Rattle.group_index.specs.Pairs.{is_dirty, pairs_of}
 use Rattle.group_index.proofs.GroupFacts.{pair_at}
 use Rattle.group_index.proofs.MarkFacts.{marked_where_dirty, unmarked_where_clean, content_marked, content_unmarked}
-use Rattle.group_index.proofs.SpreadFacts.{dirty_by_spread}
 use Rattle.group_index.proofs.groups.settle.Goals as goal
 
 pub returns-then-is_dirty-clause-marks : goal.returns-then-is_dirty-clause-marks
@@ -10,8 +9,7 @@ returns-then-is_dirty-clause-marks c =
     let at = pair_at c.args.groups.now.pairs c.args.place c.key_at.result.now c.value_at.result.now c.key_at.ensures c.value_at.ensures in
     let e = c.mark_at.ensures in
     marked_where_dirty c.args.rows.now c.args.groups.now c.mark_at.new.self c.args.place (c.key_at.result.now, c.value_at.result.now) c.requires.others at
-    (dirty_by_spread c.args.rows.now c.key_at.result.now.items (pairs_of c.value_at.result.now) c.of-spread.result c.of-spread.ensures
-    ∙ ap (λ x. is_dirty_by c.args.rows.now x c.of-spread.result) (sym c.as_slice.ensures) ∙ sym c.is_dirty.ensures ∙ c.if-is_dirty.true)
+    (ap (λ x. is_dirty c.args.rows.now x (pairs_of c.value_at.result.now)) (sym c.as_slice.ensures) ∙ sym (c.is_dirty.ensures (pairs_of c.value_at.result.now) c.of-spread.ensures) ∙ c.if-is_dirty.true)
     (λ low. (e.already low).1) (λ high. (e.marks high).1)
 
 pub returns-then-is_dirty-clause-same : goal.returns-then-is_dirty-clause-same
@@ -24,8 +22,7 @@ returns-else-is_dirty-clause-marks c =
     let at = pair_at c.args.groups.now.pairs c.args.place c.key_at.result.now c.value_at.result.now c.key_at.ensures c.value_at.ensures in
     let e = c.unmark_at.ensures in
     unmarked_where_clean c.args.rows.now c.args.groups.now c.unmark_at.new.self c.args.place (c.key_at.result.now, c.value_at.result.now) c.requires.others at
-    (dirty_by_spread c.args.rows.now c.key_at.result.now.items (pairs_of c.value_at.result.now) c.of-spread.result c.of-spread.ensures
-    ∙ ap (λ x. is_dirty_by c.args.rows.now x c.of-spread.result) (sym c.as_slice.ensures) ∙ sym c.is_dirty.ensures ∙ c.if-is_dirty.false)
+    (ap (λ x. is_dirty c.args.rows.now x (pairs_of c.value_at.result.now)) (sym c.as_slice.ensures) ∙ sym (c.is_dirty.ensures (pairs_of c.value_at.result.now) c.of-spread.ensures) ∙ c.if-is_dirty.false)
     (λ high. (e.already high).1) (λ low. (e.unmarks low).1) (λ low. omega (arith, (e.unmarks low).0, e.within, e.len))
 
 pub returns-else-is_dirty-clause-same : goal.returns-else-is_dirty-clause-same

@@ -1,5 +1,5 @@
 use Rattle.std.proofs.Common.{◌≡◌, drop}
-use Rattle.schema_core.specs.Firsts.{first_in}
+use Rattle.text_lists.specs.Firsts.{first_in}
 use Rattle.rule_model.specs.Faults.{repeated_in_row}
 use Rattle.rule_model.proofs.cells.cfd_is_distinct.Given as goal
 

@@ -1,5 +1,5 @@
 use Rattle.std.proofs.Common.{◌≡◌, drop}
-use Rattle.schema_core.specs.Firsts.{first_in}
+use Rattle.text_lists.specs.Firsts.{first_in}
 use Rattle.rule_model.specs.Faults.{outside_in_pattern}
 use Rattle.rule_model.proofs.cells.pattern_is_inside.Given as goal
 

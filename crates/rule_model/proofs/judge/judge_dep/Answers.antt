@@ -2,7 +2,7 @@ use Rattle.std.proofs.Common.{sym, subst}
 use Rattle.std.proofs.lemmas.Result.{err_from_is_err_and}
 use Rattle.rule_model.specs.declared.decl.Decl.TheVariants.{Cfd}
 use Rattle.rule_model.specs.declared.dep.Dep.{Dep}
-use Rattle.schema_core.specs.Firsts.{first_of}
+use Rattle.text_lists.specs.Firsts.{first_of}
 use Rattle.rule_model.specs.Faults.{schema_tests}
 use Rattle.rule_model.specs.Judged.{judged_dep}
 use Rattle.rule_model.specs.Rules.{dep_at, IsValidDep}

@@ -1,5 +1,5 @@
 use Rattle.std.proofs.Common.{◌≡◌, drop}
-use Rattle.schema_core.specs.Firsts.{first_in}
+use Rattle.text_lists.specs.Firsts.{first_in}
 use Rattle.rule_model.specs.Faults.{unknown_name}
 use Rattle.rule_model.proofs.names.attrs_in_are_known.Given as goal
 

@@ -4,7 +4,7 @@ use Rattle.std.specs.Str.{bytes_eq}
 use Rattle.std.proofs.lemmas.Result.{err_from_is_err_and}
 use Rattle.rule_model.specs.declared.fault.RuleFault.{RuleFault}
 use Rattle.rule_model.specs.declared.fault.RuleFault.TheVariants.{RepeatedAttr}
-use Rattle.schema_core.specs.Repeats.{repeated_after}
+use Rattle.text_lists.specs.Repeats.{repeated_after}
 use Rattle.rule_model.specs.Faults.{Finds}
 use Rattle.rule_model.proofs.Firsts.{told_first, told_second}
 use Rattle.rule_model.proofs.Repeats.{repeated_in-append}

@@ -1,6 +1,6 @@
 use Rattle.std.proofs.Common.{◌≡◌, take, drop, ◌++◌}
 use Rattle.std.specs.Str.{bytes_eq}
-use Rattle.schema_core.specs.Repeats.{repeated_after}
+use Rattle.text_lists.specs.Repeats.{repeated_after}
 use Rattle.rule_model.proofs.names.find_repeated.Given as goal
 
 -- what is left to look through gives the answer

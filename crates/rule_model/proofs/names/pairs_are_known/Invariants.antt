@@ -1,5 +1,5 @@
 use Rattle.std.proofs.Common.{◌≡◌}
-use Rattle.schema_core.specs.Firsts.{first_in}
+use Rattle.text_lists.specs.Firsts.{first_in}
 use Rattle.rule_model.specs.Faults.{unknown_in_pair}
 use Rattle.std.specs.List.{zip}
 use Rattle.rule_model.proofs.names.pairs_are_known.Given as goal

@@ -1,5 +1,5 @@
 use Rattle.std.proofs.Common.{◌++◌, List, ℕ, refl, ap, ◌∙◌}
-use Rattle.schema_core.specs.Spelling.{line_text}
+use Rattle.line_grammar.specs.Spelling.{line_text}
 use Rattle.rule_parser.specs.RuleFiles.{reads_dep}
 use Rattle.rule_parser.specs.RuleText.{dep_line}
 use Rattle.rule_parser.proofs.DepsAgain.{reads_dep-line}

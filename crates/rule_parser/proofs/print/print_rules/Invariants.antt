@@ -1,6 +1,6 @@
 use Rattle.std.proofs.Common.{◌≡◌, take}
 use Rattle.std.specs.List.{flat_map}
-use Rattle.schema_core.specs.Spelling.{file_text}
+use Rattle.line_grammar.specs.Spelling.{file_text}
 use Rattle.rule_parser.specs.RuleText.{decl_lines}
 use Rattle.rule_parser.proofs.print.print_rules.Given as goal
 

@@ -1,6 +1,6 @@
 use Rattle.std.proofs.Common.{◌≡◌, ◌++◌, take}
 use Rattle.std.specs.Prelude.{map}
-use Rattle.schema_core.specs.Spelling.{file_text}
+use Rattle.line_grammar.specs.Spelling.{file_text}
 use Rattle.rule_parser.specs.RuleText.{cfd_row_line}
 use Rattle.rule_parser.proofs.print.push_cfd_rows.Given as goal
 

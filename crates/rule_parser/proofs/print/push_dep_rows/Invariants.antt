@@ -1,6 +1,6 @@
 use Rattle.std.proofs.Common.{◌≡◌, ◌++◌, take}
 use Rattle.std.specs.List.{flat_map}
-use Rattle.schema_core.specs.Spelling.{line_text}
+use Rattle.line_grammar.specs.Spelling.{line_text}
 use Rattle.rule_parser.specs.RuleText.{dep_row}
 use Rattle.rule_parser.proofs.print.push_dep_rows.Given as goal
 

@@ -1,6 +1,6 @@
 use Rattle.std.proofs.Common.{◌≡◌, ◌++◌, take}
 use Rattle.std.specs.List.{flat_map, zip}
-use Rattle.schema_core.specs.Spelling.{line_text, after_comma}
+use Rattle.line_grammar.specs.Spelling.{line_text, after_comma}
 use Rattle.rule_parser.specs.RuleText.{pair_parts}
 use Rattle.rule_parser.proofs.print.push_further_pairs.Given as goal
 

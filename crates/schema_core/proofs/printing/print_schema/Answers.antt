@@ -1,5 +1,5 @@
 use Rattle.std.proofs.Common.{ap, ◌∙◌}
-use Rattle.schema_core.specs.Limits.{standard}
+use Rattle.text_lists.specs.Limits.{standard}
 use Rattle.schema_core.specs.SchemaFiles.{reads}
 use Rattle.schema_core.proofs.PrintLemmas.{canonical-written}
 use Rattle.schema_core.proofs.RoundTrip.{reads-canonical}

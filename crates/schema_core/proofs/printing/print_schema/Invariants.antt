@@ -1,6 +1,6 @@
 use Rattle.std.proofs.Common.{◌≡◌, take}
 use Rattle.std.specs.List.{flat_map}
-use Rattle.schema_core.specs.Spelling.{file_text}
+use Rattle.line_grammar.specs.Spelling.{file_text}
 use Rattle.schema_core.specs.SchemaText.{table_lines}
 use Rattle.schema_core.proofs.printing.print_schema.Given as goal
 

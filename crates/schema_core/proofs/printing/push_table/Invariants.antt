@@ -1,6 +1,6 @@
 use Rattle.std.proofs.Common.{◌≡◌, ◌++◌, ◌∷◌, take}
 use Rattle.std.specs.Prelude.{map}
-use Rattle.schema_core.specs.Spelling.{file_text}
+use Rattle.line_grammar.specs.Spelling.{file_text}
 use Rattle.schema_core.specs.SchemaText.{head_line, attr_line}
 use Rattle.schema_core.proofs.printing.push_table.Given as goal
 

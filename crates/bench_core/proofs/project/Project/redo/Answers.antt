@@ -10,6 +10,7 @@ use Rattle.bench_core.specs.Bench.{Holds, tables_of, history}
 use Rattle.bench_core.proofs.Holding.{no-first, no-undone, some-first, not-nothing-to-redo, first-can, first-is, bench-forward, held-forward, history-was-redone, on-err, same-stored, stored-at, stored-set, stored-same, there-within, of-table, id-left, n-in_weights, n-rows-fit, n-cells-fit, n-counted}
 use Rattle.bench_core.specs.Indexed.{IsIndexed, tuples_of}
 use Rattle.bench_core.proofs.InStepWith.{indexed-refused}
+use Rattle.bench_core.proofs.ProbesOfChange.{no-redo-probes, redo-probes}
 use Rattle.bench_core.proofs.FollowedChange.{forward-can, forward-indexed}
 use Rattle.bench_core.proofs.project.Project.redo.Goals as goal
 
@@ -143,13 +144,16 @@ returns-clause-nothing g c =
     (λ is. absurd (cc), λ none. absurd (some-first c.args.self.now.log.undone c.in-Some.change.now last (no-undone c.args.self.now.pool c.args.self.now.log.undone (tables_of c.args.self.now) none)))
 
 pub returns-in_default-clause-probes : goal.returns-in_default-clause-probes
-returns-in_default-clause-probes g c = (0, omega arith)
+returns-in_default-clause-probes g c =
+    no-redo-probes c.args.self.now.rules c.args.self.now.pool c.args.self.now.log.past c.args.self.now.log.undone (tables_of c.args.self.now) (no-first c.args.self.now.log.undone (sym c.next.ensures ∙ ap option_copied c.in_default.is)) c.args.steps.now
 
 pub returns-in_err-new-clause-probes : goal.returns-in_err-new-clause-probes
-returns-in_err-new-clause-probes g c = (0, omega arith)
+returns-in_err-new-clause-probes g c =
+    redo-probes c.args.self.now.rules c.args.self.now.pool c.args.self.now.log.past c.args.self.now.log.undone (tables_of c.args.self.now) c.in-Some.change.now c.args.steps.now c.args.steps.now (omega arith) (sym c.next.ensures ∙ ap option_copied c.in-Some.is)
 
 pub returns-in_err-ready_insert-clause-probes : goal.returns-in_err-ready_insert-clause-probes
-returns-in_err-ready_insert-clause-probes g c = (0, omega arith)
+returns-in_err-ready_insert-clause-probes g c =
+    redo-probes c.args.self.now.rules c.args.self.now.pool c.args.self.now.log.past c.args.self.now.log.undone (tables_of c.args.self.now) c.in-Some.change.now c.args.steps.now c.args.steps.now (omega arith) (sym c.next.ensures ∙ ap option_copied c.in-Some.is)
 
 pub returns-in_err-ready_insert-clause-indexed : goal.returns-in_err-ready_insert-clause-indexed
 returns-in_err-ready_insert-clause-indexed g c =
@@ -183,7 +187,7 @@ returns-in_err-follow_change-clause-unchanged g c =
 
 pub returns-in_err-follow_change-clause-probes : goal.returns-in_err-follow_change-clause-probes
 returns-in_err-follow_change-clause-probes g c =
-    (c.in-Some.change.now.table, c.follow_change.ensures.probes)
+    redo-probes c.args.self.now.rules c.args.self.now.pool c.args.self.now.log.past c.args.self.now.log.undone (tables_of c.args.self.now) c.in-Some.change.now c.args.steps.now c.follow_change.new.steps c.follow_change.ensures.probes (sym c.next.ensures ∙ ap option_copied c.in-Some.is)
 
 pub returns-clause-indexed : goal.returns-clause-indexed
 returns-clause-indexed g c =
@@ -199,4 +203,4 @@ returns-clause-indexed g c =
 
 pub returns-clause-probes : goal.returns-clause-probes
 returns-clause-probes g c =
-    (c.in-Some.change.now.table, c.follow_change.ensures.probes)
+    redo-probes c.args.self.now.rules c.args.self.now.pool c.args.self.now.log.past c.args.self.now.log.undone (tables_of c.args.self.now) c.in-Some.change.now c.args.steps.now c.follow_change.new.steps c.follow_change.ensures.probes (sym c.next.ensures ∙ ap option_copied c.in-Some.is)

@@ -10,6 +10,7 @@ use Rattle.bench_core.specs.Bench.{Holds, tables_of, history}
 use Rattle.bench_core.proofs.Holding.{no-last, no-past, some-last, not-nothing-to-undo, last-made, last-is, bench-back, held-back, history-was-undone, on-err, same-stored, stored-at, stored-set, stored-same, there-within, of-table, n-in_weights, n-rows-fit, n-cells-fit, n-counted}
 use Rattle.bench_core.specs.Indexed.{IsIndexed, tuples_of}
 use Rattle.bench_core.proofs.InStepWith.{indexed-refused}
+use Rattle.bench_core.proofs.ProbesOfChange.{no-undo-probes, undo-probes}
 use Rattle.bench_core.proofs.FollowedChange.{back-can, back-indexed}
 use Rattle.bench_core.proofs.project.Project.undo.Goals as goal
 
@@ -134,13 +135,16 @@ returns-clause-nothing g c =
     (λ is. absurd (cc), λ none. absurd (some-last c.args.self.now.log.past c.in-Some.change.now last (no-past c.args.self.now.pool c.args.self.now.log.past (tables_of c.args.self.now) none)))
 
 pub returns-in_default-clause-probes : goal.returns-in_default-clause-probes
-returns-in_default-clause-probes g c = (0, omega arith)
+returns-in_default-clause-probes g c =
+    no-undo-probes c.args.self.now.rules c.args.self.now.pool c.args.self.now.log.past c.args.self.now.log.undone (tables_of c.args.self.now) (no-last c.args.self.now.log.past (sym c.last.ensures ∙ ap option_copied c.in_default.is)) c.args.steps.now
 
 pub returns-in_err-old-clause-probes : goal.returns-in_err-old-clause-probes
-returns-in_err-old-clause-probes g c = (0, omega arith)
+returns-in_err-old-clause-probes g c =
+    undo-probes c.args.self.now.rules c.args.self.now.pool c.args.self.now.log.past c.args.self.now.log.undone (tables_of c.args.self.now) c.in-Some.change.now c.args.steps.now c.args.steps.now (omega arith) (sym c.last.ensures ∙ ap option_copied c.in-Some.is)
 
 pub returns-in_err-ready_insert-clause-probes : goal.returns-in_err-ready_insert-clause-probes
-returns-in_err-ready_insert-clause-probes g c = (0, omega arith)
+returns-in_err-ready_insert-clause-probes g c =
+    undo-probes c.args.self.now.rules c.args.self.now.pool c.args.self.now.log.past c.args.self.now.log.undone (tables_of c.args.self.now) c.in-Some.change.now c.args.steps.now c.args.steps.now (omega arith) (sym c.last.ensures ∙ ap option_copied c.in-Some.is)
 
 pub returns-in_err-ready_insert-clause-indexed : goal.returns-in_err-ready_insert-clause-indexed
 returns-in_err-ready_insert-clause-indexed g c =
@@ -174,7 +178,7 @@ returns-in_err-follow_back-clause-unchanged g c =
 
 pub returns-in_err-follow_back-clause-probes : goal.returns-in_err-follow_back-clause-probes
 returns-in_err-follow_back-clause-probes g c =
-    (c.in-Some.change.now.table, c.follow_back.ensures.probes)
+    undo-probes c.args.self.now.rules c.args.self.now.pool c.args.self.now.log.past c.args.self.now.log.undone (tables_of c.args.self.now) c.in-Some.change.now c.args.steps.now c.follow_back.new.steps c.follow_back.ensures.probes (sym c.last.ensures ∙ ap option_copied c.in-Some.is)
 
 pub returns-clause-indexed : goal.returns-clause-indexed
 returns-clause-indexed g c =
@@ -190,4 +194,4 @@ returns-clause-indexed g c =
 
 pub returns-clause-probes : goal.returns-clause-probes
 returns-clause-probes g c =
-    (c.in-Some.change.now.table, c.follow_back.ensures.probes)
+    undo-probes c.args.self.now.rules c.args.self.now.pool c.args.self.now.log.past c.args.self.now.log.undone (tables_of c.args.self.now) c.in-Some.change.now c.args.steps.now c.follow_back.new.steps c.follow_back.ensures.probes (sym c.last.ensures ∙ ap option_copied c.in-Some.is)

@@ -5,7 +5,7 @@ use Rattle.row_store.specs.Tuple.{ids_of}
 use Rattle.row_store.specs.Watch.{IsWide}
 use Rattle.cind_index.specs.Entries.{ids_in, is_entry, key_on, pattern_on}
 use Rattle.cind_index.specs.KeysHeld.{held, HasKeyAt}
-use Rattle.cind_index.specs.Laws.{values_there}
+use Rattle.cind_index.proofs.OwnEntries.{values_there}
 use Rattle.cind_index.specs.Index.{made_of, given}
 use Rattle.cind_index.proofs.MapFacts.{on_ok, if_ok}
 use Rattle.cind_index.proofs.SideFacts.{wide_here, wide_front, wide_back, more_by, gives_own, given_here, not_held}

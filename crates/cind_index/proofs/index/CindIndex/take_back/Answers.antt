@@ -3,7 +3,7 @@ use Rattle.row_store.specs.Tuple.{ids_of}
 use Rattle.row_store.specs.Watch.{IsWide}
 use Rattle.cind_index.specs.declared.side.Side.TheVariants.{Left}
 use Rattle.cind_index.specs.Entries.{ids_in, is_entry, gives_on}
-use Rattle.cind_index.specs.Laws.{values_there}
+use Rattle.cind_index.proofs.OwnEntries.{values_there}
 use Rattle.cind_index.proofs.KeyFacts.{has_place}
 use Rattle.cind_index.proofs.SideFacts.{wide_front, wide_back, less_by, gives_own}
 use Rattle.cind_index.proofs.index.CindIndex.take_back.Goals as goal

@@ -1,0 +1,133 @@
+//! Reads the case files of a folder, and makes the call of each case.
+ghost use Rattle.text_lists.specs.Limits.{AreLimits};
+
+use crate::case::Case;
+use crate::limits::are_limits;
+use crate::reader::{CaseReader, Reading};
+use crate::report::Report;
+use shelf_io::{FetchFault, FolderShelf, MemoryShelf, MemorySink, Shelf};
+use std::alloc::{AllocError, Global};
+use std::io::{ErrorKind, Write};
+use std::process::ExitCode;
+use std::{fs, io};
+use text_lists::{Limits, Texts};
+
+/// What the calls of cases are made of. Each gives the number of its status.
+pub trait Program {
+    fn run(
+        &self,
+        alloc: Global,
+        words: &Texts,
+        shelf: &mut MemoryShelf,
+        out: &mut MemorySink,
+    ) -> u8;
+
+    /// The same under other limits.
+    fn run_with(
+        &self,
+        alloc: Global,
+        words: &Texts,
+        shelf: &mut MemoryShelf,
+        out: &mut MemorySink,
+        limits: Limits,
+    ) -> u8
+        requires { AreLimits limits };
+}
+
+/// Judges the cases of all files of the working folder whose names end in `.cases`, by rising names. Failures and the
+/// verdict go to standard output, the number of cases to standard error.
+pub fn run_folder<P: Program>(rt: HostRuntime, program: &P) -> ExitCode {
+    match judge_folder(rt, program) {
+        Ok(true) => ExitCode::SUCCESS,
+        Ok(false) => ExitCode::from(1),
+        Err(error) => {
+            let _ = eprintln!(rt; "{error}");
+            ExitCode::from(1)
+        }
+    }
+}
+
+fn judge_folder<P: Program>(rt: HostRuntime, program: &P) -> io::Result<bool> {
+    let names = case_files(rt)?;
+    let mut shelf = FolderShelf::new(rt.alloc(), rt);
+    let mut report = Report::new(rt.stdout());
+    for name in &names {
+        let name = name.as_str();
+        let before = report.cases();
+        let bytes = shelf.fetch(name, usize::MAX).map_err(error_of)?;
+        judge_file(rt.alloc(), program, name, &bytes, &mut report)?;
+        if report.cases() == before {
+            report.no_case(name)?;
+        }
+    }
+    if names.is_empty() {
+        report.no_case("*.cases")?;
+    }
+    let cases = report.cases();
+    eprintln!(rt; "{cases} cases")?;
+    report.end()
+}
+
+fn case_files(rt: HostRuntime) -> io::Result<Vec<String>> {
+    let mut names = Vec::new(rt.alloc());
+    for entry in fs::read_dir(&rt, ".")? {
+        let entry = entry?;
+        let name = entry.file_name();
+        if name.ends_with(".cases") {
+            names.push(String::from_str(rt.alloc(), name)?)?;
+        }
+    }
+    names.sort()?;
+    Ok(names)
+}
+
+fn error_of(fault: FetchFault) -> io::Error {
+    match fault {
+        FetchFault::Absent => io::Error::from(ErrorKind::NotFound),
+        FetchFault::Failed => io::Error::from(ErrorKind::Other),
+        FetchFault::Memory => io::Error::from(AllocError),
+    }
+}
+
+fn judge_file<P: Program, W: Write + Drop>(
+    alloc: Global,
+    program: &P,
+    name: &str,
+    bytes: &[u8],
+    report: &mut Report<W>,
+) -> io::Result<()> {
+    let mut reader = CaseReader::new(alloc);
+    let mut number: usize = 0;
+    for line in bytes.split(|byte| *byte == b'\n') {
+        number = number.saturating_add(1);
+        match reader.take(line)? {
+            Reading::More => {}
+            Reading::Case(case) => judge_case(alloc, program, name, &case, report)?,
+            Reading::Unreadable => report.unreadable(name, number, line)?,
+        }
+    }
+    match reader.take(b"")? {
+        Reading::More => Ok(()),
+        Reading::Case(case) => judge_case(alloc, program, name, &case, report),
+        Reading::Unreadable => report.unreadable(name, number, b""),
+    }
+}
+
+fn judge_case<P: Program, W: Write + Drop>(
+    alloc: Global,
+    program: &P,
+    file: &str,
+    case: &Case,
+    report: &mut Report<W>,
+) -> io::Result<()> {
+    let mut shelf = case.shelf(alloc)?;
+    let mut out = case.sink(alloc)?;
+    let status = match &case.limits {
+        None => program.run(alloc, &case.words, &mut shelf, &mut out),
+        Some(limits) if are_limits(limits) => {
+            program.run_with(alloc, &case.words, &mut shelf, &mut out, *limits)
+        }
+        Some(_) => return report.wrong_limits(file, case),
+    };
+    report.judge(file, case, status, out.written())
+}

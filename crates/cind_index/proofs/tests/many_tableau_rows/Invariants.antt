@@ -1,5 +1,0 @@
-use Rattle.cind_index.proofs.tests.many_tableau_rows.Given as goal
-
--- the counter's ledger is the blank that is handed in
-abbrev pub ghosts-walks : goal.ghosts-walks
-ghosts-walks g a = record { name = a.blank.name; parts = a.blank.parts }

@@ -1,7 +1,0 @@
-use Rattle.std.proofs.Common.{◌≡◌, map, take}
-use Rattle.rule_model.specs.Books.{book_edits}
-use Rattle.fix_engine.proofs.TestMasters.{list_of}
-use Rattle.fix_engine.proofs.tests.setup.column_lists.Given as goal
-
-abbrev pub invariant-loop-rule : goal.invariant-loop-rule
-invariant-loop-rule l = l.lists.items ≡ map list_of (take l.rule-index (book_edits l.rules))

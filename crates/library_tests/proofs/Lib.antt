@@ -1,0 +1,2 @@
+mod Masters
+mod NoRows

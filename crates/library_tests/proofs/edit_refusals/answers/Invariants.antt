@@ -1,0 +1,5 @@
+use Rattle.library_tests.proofs.edit_refusals.answers.Given as goal
+
+-- the counter's ledger is the blank that is handed in
+abbrev pub ghosts-first_wrong : goal.ghosts-first_wrong
+ghosts-first_wrong g a = record { name = a.blank.name; parts = a.blank.parts }

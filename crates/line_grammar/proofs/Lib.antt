@@ -1,0 +1,17 @@
+pub mod Runs
+pub mod Digits
+pub mod Utf8
+pub mod Texts
+pub mod TokenLemmas
+pub mod LineLemmas
+pub mod PushLemmas
+pub mod ListLemmas
+pub mod GoodTokens
+pub mod SpelledTexts
+pub mod SpelledTokens
+pub mod SpelledLines
+pub mod PartLemmas
+pub mod WrittenFiles
+pub mod FaultLemmas
+pub mod WalkLemmas
+pub mod LeadLemmas

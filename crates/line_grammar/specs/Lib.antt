@@ -1,0 +1,14 @@
+pub mod Faults
+pub mod Lines
+pub mod Tokens
+pub mod FileLines
+pub mod Groups
+pub mod GoodTokens
+pub mod Marks
+pub mod TokenLists
+pub mod Phrases
+pub mod Spelling
+pub mod Appending
+pub mod OneSpelling
+pub mod Takes
+pub mod Leads

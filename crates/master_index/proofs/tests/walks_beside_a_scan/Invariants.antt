@@ -1,5 +1,0 @@
-use Rattle.master_index.proofs.tests.walks_beside_a_scan.Given as goal
-
--- the counter's ledger is the blank that is handed in
-abbrev pub ghosts-walks : goal.ghosts-walks
-ghosts-walks g a = record { name = a.blank.name; parts = a.blank.parts }

@@ -1,7 +1,0 @@
-use Rattle.std.proofs.Common.{All}
-use Rattle.schema_core.specs.Names.{IsConstant}
-use Rattle.rule_model.proofs.tests.cutter.constants.Given as goal
-
--- each is a constant
-abbrev pub invariant-loop-word : goal.invariant-loop-word
-invariant-loop-word l = All IsConstant l.texts

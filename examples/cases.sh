@@ -1,0 +1,113 @@
+#!/bin/sh
+# cases.sh [--check]: makes crates/corpus/data/examples.cases from the examples of this folder and from the blocks of the
+# pages that a comment `<!-- FOLDER/FILE -->` stands before. With --check nothing is written: it tells what would change.
+set -eu
+LC_ALL=C
+export LC_ALL
+cd "$(dirname "$0")"
+stored=../crates/corpus/data/examples.cases
+made=$(mktemp -d)
+trap 'rm -rf "$made"' EXIT
+
+# Puts the marked blocks of a page into files below $made. A block `dialogue` has a script's commands behind `> `, each with
+# its reply below it; it becomes the files `script` and `transcript`.
+unpack() {
+    awk -v to="$made" '
+        /^```/ && inside { inside = 0; name = ""; next }
+        /^```/ { inside = 1; next }
+        !inside && /^<!-- [a-z]+\/[a-z.]+ -->$/ {
+            name = $2
+            folder = to "/" substr(name, 1, index(name, "/") - 1)
+            system("mkdir -p " folder)
+            next
+        }
+        !inside || !name { next }
+        name !~ /\/dialogue$/ { print > (to "/" name); next }
+        sub(/^> /, "") { print > (folder "/script"); next }
+        { print > (folder "/transcript") }' "$1"
+}
+
+# The bytes of a file as the lines of a case.
+content() {
+    if [ ! -s "$1" ]; then
+        return
+    elif [ -z "$(tail -c 1 "$1")" ]; then
+        sed 's/^/|/' "$1"
+    else
+        sed '$!s/^/|/; $s/^/\\/' "$1"
+        echo
+    fi
+}
+
+# The name, the wanted status, the file that has what is wanted, the folder of the files, and the words of the call.
+case_of() {
+    name=$1 status=$2 wanted=$3 folder=$4
+    shift 4
+    printf '\ncase %s\n' "$name"
+    for word; do
+        echo "word $word"
+    done
+    for file in "$folder"/*; do
+        held=${file##*/}
+        case $held in
+            README.md | transcript | report.json | '*') continue ;;
+        esac
+        echo "file $held"
+        content "$file"
+    done
+    echo "status $status"
+    content "$wanted"
+}
+
+cases() {
+    case_of 'the example first' 1 first/transcript first run p
+    case_of 'the example fixes' 0 fixes/transcript fixes run p
+    case_of 'the example orders' 1 orders/transcript orders run p
+
+    case_of 'the example questions: consistent' 1 questions/cert questions consistent p customer 100
+    case_of 'the example questions: three cases are not enough' 7 "$made/questions/spent" questions consistent p customer 3
+    case_of 'the example questions: a witness' 0 "$made/questions/witness" questions consistent q customer 100
+    case_of 'the example questions: implied' 0 questions/implied questions \
+        implies q 'customer: [id] -> [prices] row _ || _' 100
+    case_of 'the example questions: a counter' 1 "$made/questions/counter" questions \
+        implies q "customer: [prices] -> [id] row 'gross' || _" 100
+    case_of 'the example questions: a certificate that holds' 0 "$made/holds" questions check p cert
+    case_of 'the example questions: the certificate by the mended rules' 1 "$made/fails" questions check q cert
+    case_of 'the example questions: implied, tested' 0 "$made/holds" questions check q implied
+
+    case_of 'the readme: the example first' 1 "$made/first/written" first run p
+    case_of 'the page on formats: a session' 0 "$made/session/transcript" "$made/session" run p
+    case_of 'the page on formats: fixes' 0 "$made/fixes/transcript" "$made/fixes" run p
+    case_of 'the page on formats: a generated project' 1 "$made/generated/written" "$made/none" generate 7
+    case_of 'the page on formats: never' 1 "$made/questions/never" "$made/asked" consistent p customer 100
+    case_of 'the recipes: the orders as they came' 1 orders/report.json "$made/orders" report q
+    cat "$made/page.cases"
+}
+
+for page in ../README.md ../docs/FORMATS.md ../docs/READING.md; do
+    unpack "$page"
+done
+echo holds >"$made/holds"
+echo 'fails 7' >"$made/fails"
+
+# The page shows no more of the schemas than what is about them.
+cp fixes/p "$made/fixes/p"
+mkdir "$made/asked"
+cp "$made/questions/rules" "$made/asked/rules"
+{ cat "$made/questions/p" && echo "rules 'rules'"; } >"$made/asked/p"
+
+# As the recipes make it.
+mkdir "$made/orders"
+cp orders/*.csv orders/rules "$made/orders"
+: >"$made/orders/empty"
+sed "s/script 'script'/script 'empty'/" orders/p >"$made/orders/q"
+
+# The case that the page on reading shows.
+{ echo && cat "$made/case/shown"; } >"$made/page.cases"
+
+cases | sed 1d >"$made/examples.cases"
+if [ "${1-}" = --check ]; then
+    diff "$stored" "$made/examples.cases" || { echo "run examples/cases.sh: $stored isn't what it writes" && exit 1; }
+else
+    cp "$made/examples.cases" "$stored"
+fi
