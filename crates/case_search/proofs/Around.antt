@@ -14,7 +14,7 @@ use Rattle.case_tree.proofs.Cells.{ends_within, has_vars, same_cell}
 use Rattle.case_tree.proofs.Lists.{IsSomeAnd-from, IsSomeAnd-get_or, value_of}
 use Rattle.case_tree.proofs.Paths.{value_on-other}
 use Rattle.case_search.specs.Guards.{IsGuardedBut}
-use Rattle.case_search.specs.Step.{NoReason, QuietBut}
+use Rattle.case_search.specs.Step.{HasTrue, IsWanted, NoReason, QuietBut}
 
 -- some element, under one more
 Any-there : {X : Type 0} (P : X → Type 0) (x : X) (xs : List X) → Any P xs → Any P (x ∷ xs)
@@ -184,3 +184,9 @@ pub none_holds : (set : ClauseSet) (path : List Literal) (cells : List VarCell) 
 none_holds set path cells at d same in_range demanded all_false =
     let says : VarCell → Type 0 = λ cell. (cell.demanded ≡ true) × ((v : ℕ) → IsIn cell v → value_on path v ≡ Some false) in
     subst (λ (cells : List VarCell). IsSomeAnd (slice_get cells at) says) same ((IsSomeAnd-get_or says cells at d in_range).1 (demanded, all_false))
+
+-- a variable of a demanded cell with no true variable
+pub wanted_of : (set : ClauseSet) (path : List Literal) (cells : List VarCell) (at v : ℕ) (d : VarCell) → cells ≡ set.cells → at < length cells → IsSomeAnd (slice_get set.cells at) (λ cell. IsIn cell v) → (get_or cells at d).demanded ≡ true → (HasTrue path (get_or cells at d) → ⊥) → IsWanted set path v
+wanted_of set path cells at v d same in_range inside demanded none =
+    subst (Any (λ (cell : VarCell). (cell.demanded ≡ true) × IsIn cell v × ¬ HasTrue path cell)) same
+    (at, get_or cells at d, in_range, get_or_default cells at _ d in_range, (demanded, cell_has set cells at v d same inside, none))

@@ -5,4 +5,5 @@ pub mod Guarded
 pub mod Listed
 pub mod Models
 pub mod Signed
+pub mod Tested
 pub mod Weights

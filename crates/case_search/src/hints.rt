@@ -7,7 +7,9 @@
 //! down to each node that is no leaf, and on the way back up only what was hinted at a node is taken back.
 ghost use Rattle.std.specs.Prelude.{◌+◌, ◌^◌, ◌<◌};
 
+use crate::named::{vars_in, vars_named};
 use crate::places::{Places, opposite};
+use crate::recency::Recency;
 use case_tree::{Clauses, Literal, Reason, Trail, VarCell};
 use std::alloc::{AllocError, Global};
 use std::collections::BTreeSet;
@@ -32,16 +34,24 @@ struct Entered {
     before: usize,
 }
 
-// How many variables of a cell have no value, and whether one is true.
+// How many variables of a cell have no value, and how many are true.
 #[derive(Clone, Copy, Debug, PartialEq, Eq)]
 struct CellState {
     open: usize,
-    chosen: bool,
+    chosen: usize,
+}
+
+/// The order of the splits on variables that aren't forced: by their places, or the one of the latest conflict first.
+#[derive(Clone, Copy, Debug, PartialEq, Eq)]
+pub enum Order {
+    ByPlace,
+    ByConflicts,
 }
 
 /// The variables that are forced, and the demanded cells with no true variable, at the nearest node that is no leaf.
 #[derive(Debug, Drop)]
 pub struct Hints {
+    alloc: Global,
     // The clauses that watch each literal.
     watching: Places,
     // For each clause with two literals or more the two that it watches.
@@ -55,12 +65,20 @@ pub struct Hints {
     forced: BTreeSet<usize>,
     cells: Vec<CellState>,
     wanted: BTreeSet<usize>,
+    // Clauses that were learned, which go by the places after those of the question.
+    learned: Vec<Vec<Literal>>,
+    learned_literals: usize,
+    // A reason that holds, where one was come upon at the nearest node.
+    conflict: Option<Reason>,
+    order: Order,
+    recency: Recency,
 }
 
 impl Hints {
     /// The hints at the root.
-    pub fn new(alloc: Global, clauses: &Clauses) -> Result<Hints, AllocError> {
+    pub fn new(alloc: Global, clauses: &Clauses, order: Order) -> Result<Hints, AllocError> {
         let mut hints = Hints {
+            alloc,
             watching: Places::new(alloc, clauses.vars())?,
             watched: vec![in alloc; None; clauses.clause_count()]?,
             by_var: vec![in alloc; None; clauses.vars()]?,
@@ -69,6 +87,11 @@ impl Hints {
             forced: BTreeSet::new(alloc),
             cells: Vec::with_capacity(alloc, clauses.cells().len())?,
             wanted: BTreeSet::new(alloc),
+            learned: Vec::new(alloc),
+            learned_literals: 0,
+            conflict: None,
+            order,
+            recency: Recency::new(alloc, clauses)?,
         };
         for at in 0..clauses.clause_count() {
             hints.begin_clause(clauses.clause(at), at)?;
@@ -81,17 +104,169 @@ impl Hints {
 
     /// Why the first variable that is forced is.
     pub fn first_forced(&self) -> Option<Hint> {
-        let var = *self.forced.first()?;
-        if var < self.by_var.len() {
-            self.by_var[var]
+        self.hint_of(*self.forced.first()?)
+    }
+
+    /// A variable without a value of a demanded cell with no true variable, by the order of the splits.
+    pub fn wanted_split(&self, clauses: &Clauses, trail: &Trail) -> Option<usize> {
+        let at = match self.order {
+            Order::ByPlace => *self.wanted.first()?,
+            Order::ByConflicts => self.latest_wanted()?,
+        };
+        let cells = clauses.cells();
+        if at < cells.len() {
+            self.latest_open(&cells[at], trail)
         } else {
             None
         }
     }
 
-    /// The first demanded cell with no true variable.
-    pub fn first_wanted(&self) -> Option<usize> {
-        self.wanted.first().copied()
+    // Of the demanded cells with no true variable the one of the latest conflict, or the first.
+    fn latest_wanted(&self) -> Option<usize> {
+        let mut best = None;
+        for at in self.wanted.iter() {
+            best = self.later_cell(best, *at);
+        }
+        best
+    }
+
+    fn later_cell(&self, best: Option<usize>, at: usize) -> Option<usize> {
+        match best {
+            Some(cell) if self.recency.of_cell(cell) >= self.recency.of_cell(at) => best,
+            _ => Some(at),
+        }
+    }
+
+    // Of the variables of the cell without a value the one of the latest conflict, or the first.
+    fn latest_open(&self, cell: &VarCell, trail: &Trail) -> Option<usize>
+        requires { cell.now.first + cell.now.count < 2 ^ 64 }
+    {
+        let mut best = None;
+        for var in cell.first..cell.first + cell.count {
+            if trail.value(var).is_none() {
+                best = self.later_var(best, var);
+            }
+        }
+        best
+    }
+
+    fn later_var(&self, best: Option<usize>, var: usize) -> Option<usize> {
+        match best {
+            Some(_) if self.order == Order::ByPlace => best,
+            Some(other) if self.recency.of_var(other) >= self.recency.of_var(var) => best,
+            _ => Some(var),
+        }
+    }
+
+    /// Notes a conflict at a leaf below the nearest node, unless it is a hint's own leaf.
+    pub fn blame(
+        &mut self,
+        clauses: &Clauses,
+        last: Literal,
+        reason: Reason,
+    ) -> Result<(), AllocError> {
+        if self.order == Order::ByPlace {
+            return Ok(());
+        }
+        let hint = self.hint_of(last.var);
+        if let Some(hint) = hint {
+            if hint.literal == last {
+                return Ok(());
+            }
+        }
+        self.recency.begin();
+        self.named(clauses, reason)?;
+        if let Some(hint) = hint {
+            self.named(clauses, hint.reason)?;
+        }
+        Ok(())
+    }
+
+    /// A conflict that was come upon at the nearest node.
+    pub fn conflict(&self) -> Option<Reason> {
+        self.conflict
+    }
+
+    /// How many literals the nearest node's path has.
+    pub fn depth(&self) -> usize {
+        self.entered.len()
+    }
+
+    /// A literal of the path, the one of the first split at 0.
+    pub fn literal_at(&self, place: usize) -> Option<Literal> {
+        if place < self.entered.len() {
+            Some(self.entered[place].literal)
+        } else {
+            None
+        }
+    }
+
+    /// Counts a conflict.
+    pub fn begin_conflict(&mut self) {
+        self.recency.begin();
+    }
+
+    /// Adds a clause at the root.
+    pub fn add(&mut self, clauses: &Clauses, clause: Vec<Literal>) -> Result<(), AllocError> {
+        let at = clauses.clause_count().saturating_add(self.learned.len());
+        self.watched.push(None)?;
+        self.begin_clause(&clause, at)?;
+        self.learned_literals = self.learned_literals.saturating_add(clause.len());
+        self.learned.push(clause)?;
+        Ok(())
+    }
+
+    /// Adds a clause whose first literal is open, and all others of which are false. Of those the second became so last.
+    pub fn learn(&mut self, clauses: &Clauses, clause: Vec<Literal>) -> Result<(), AllocError> {
+        let at = clauses.clause_count().saturating_add(self.learned.len());
+        let first = clause.first().copied();
+        self.add(clauses, clause)?;
+        match first {
+            Some(literal) => self.note(opposite(literal), Reason::Clause(at)),
+            None => Ok(()),
+        }
+    }
+
+    /// The variables that a reason names. They become part of the latest conflict.
+    pub fn named(&mut self, clauses: &Clauses, reason: Reason) -> Result<Vec<usize>, AllocError> {
+        let vars = match reason {
+            Reason::Clause(at) => vars_in(self.alloc, self.clause(clauses, at))?,
+            _ => vars_named(self.alloc, clauses, reason)?,
+        };
+        self.recency.touch(clauses, &vars);
+        Ok(vars)
+    }
+
+    /// How many literals the learned clauses have together.
+    pub fn learned_literals(&self) -> usize {
+        self.learned_literals
+    }
+
+    /// Gives away the newer half of the learned clauses.
+    pub fn take_newer(&mut self) -> Result<Vec<Vec<Literal>>, AllocError> {
+        let half = self.learned.len() / 2;
+        self.learned.split_off(half)
+    }
+
+    // A clause of the question, or one that was learned.
+    fn clause<'a>(&'a self, clauses: &'a Clauses, at: usize) -> &'a [Literal] {
+        let count = clauses.clause_count();
+        if at < count {
+            clauses.clause(at)
+        } else if at - count < self.learned.len() {
+            &self.learned[at - count]
+        } else {
+            &[]
+        }
+    }
+
+    /// Why a variable is forced.
+    pub fn hint_of(&self, var: usize) -> Option<Hint> {
+        if var < self.by_var.len() {
+            self.by_var[var]
+        } else {
+            None
+        }
     }
 
     /// Goes down to a node that is no leaf, whose last split made the literal true.
@@ -113,6 +288,7 @@ impl Hints {
 
     /// Goes back up to the parent.
     pub fn leave(&mut self, clauses: &Clauses) -> Result<(), AllocError> {
+        self.conflict = None;
         let Some(entered) = self.entered.pop() else {
             return Ok(());
         };
@@ -156,7 +332,7 @@ impl Hints {
     fn begin_cell(&mut self, cell: &VarCell, at: usize) -> Result<(), AllocError> {
         self.cells.push(CellState {
             open: cell.count,
-            chosen: false,
+            chosen: 0,
         })?;
         if !cell.demanded {
             return Ok(());
@@ -225,18 +401,27 @@ impl Hints {
         let Some(kept) = self.kept_by(at, gone) else {
             return Ok(());
         };
-        if at >= clauses.clause_count() || trail.gives(kept.var, kept.positive) {
+        if trail.gives(kept.var, kept.positive) {
             return Ok(());
         }
-        match other_open(clauses.clause(at), trail, kept) {
+        match other_open(self.clause(clauses, at), trail, kept) {
             Some(other) => {
                 self.watch(other, at)?;
                 self.set_watched(at, Watched { one: kept, other });
                 self.watching.remove(gone, index);
                 Ok(())
             }
-            None => self.note(opposite(kept), Reason::Clause(at)),
+            None => self.force(trail, kept, at),
         }
+    }
+
+    // The last literal of a clause that isn't false is forced. Where it is false too, that is a conflict.
+    fn force(&mut self, trail: &Trail, last: Literal, at: usize) -> Result<(), AllocError> {
+        if trail.gives(last.var, !last.positive) {
+            self.conflict = Some(Reason::Clause(at));
+            return Ok(());
+        }
+        self.note(opposite(last), Reason::Clause(at))
     }
 
     fn watching_at(&self, gone: Literal, index: usize) -> Option<usize> {
@@ -278,13 +463,20 @@ impl Hints {
         let open = self.cells[at].open.saturating_sub(1);
         self.cells[at].open = open;
         if last.positive {
-            self.cells[at].chosen = true;
+            self.cells[at].chosen = self.cells[at].chosen.saturating_add(1);
             self.wanted.remove(&at);
-            self.force_others(&cells[at], trail, last.var)
-        } else if cells[at].demanded && open == 1 && !self.cells[at].chosen {
-            self.force_last(&cells[at], trail, at)
-        } else {
-            Ok(())
+            return self.force_others(&cells[at], trail, last.var);
+        }
+        if !cells[at].demanded || self.cells[at].chosen > 0 {
+            return Ok(());
+        }
+        match open {
+            0 => {
+                self.conflict = Some(Reason::NoneOf(at));
+                Ok(())
+            }
+            1 => self.force_last(&cells[at], trail, at),
+            _ => Ok(()),
         }
     }
 
@@ -298,16 +490,18 @@ impl Hints {
             return Ok(());
         }
         self.cells[at].open = self.cells[at].open.saturating_add(1);
-        if last.positive {
-            self.cells[at].chosen = false;
-            if cells[at].demanded {
-                self.wanted.insert(at)?;
-            }
+        if !last.positive {
+            return Ok(());
+        }
+        let chosen = self.cells[at].chosen.saturating_sub(1);
+        self.cells[at].chosen = chosen;
+        if chosen == 0 && cells[at].demanded {
+            self.wanted.insert(at)?;
         }
         Ok(())
     }
 
-    // Beside a true variable the others of its cell are forced to false.
+    // Beside a true variable the others of its cell are forced to false. Where another is true, that is a conflict.
     fn force_others(
         &mut self,
         cell: &VarCell,
@@ -317,15 +511,27 @@ impl Hints {
         requires { cell.now.first + cell.now.count < 2 ^ 64 }
     {
         for var in cell.first..cell.first + cell.count {
-            if trail.value(var).is_none() {
+            self.force_other(trail, var, chosen)?;
+        }
+        Ok(())
+    }
+
+    fn force_other(&mut self, trail: &Trail, var: usize, chosen: usize) -> Result<(), AllocError> {
+        let reason = Reason::Two(var.min(chosen), var.max(chosen));
+        match trail.value(var) {
+            None => {
                 let literal = Literal {
                     var,
                     positive: true,
                 };
-                self.note(literal, Reason::Two(var.min(chosen), var.max(chosen)))?;
+                self.note(literal, reason)
             }
+            Some(value) if value && var != chosen => {
+                self.conflict = Some(reason);
+                Ok(())
+            }
+            _ => Ok(()),
         }
-        Ok(())
     }
 
     // The only variable without a value of a demanded cell with no true one is forced to true.

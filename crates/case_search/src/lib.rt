@@ -2,11 +2,16 @@
 //! the budget of leaves is spent before, a partial tree. From a budget of `enough` on it never gives up.
 #![tactic(auto)]
 
+mod assignments;
 mod bound;
 mod guards;
 mod hints;
+mod learner;
 mod lists;
+mod named;
 mod places;
+mod prune;
+mod recency;
 mod search;
 mod step;
 

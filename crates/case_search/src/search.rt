@@ -1,15 +1,17 @@
 //! The search: a walk down and up the tree of cases, whose nodes are written in preorder as it comes to them.
 ghost use Rattle.std.specs.Prelude.{◌≡◌, ◌<◌, ◌≤◌, ◌++◌, Bool, Some, true, IfOk, OnOk, length, replicate};
 ghost use Rattle.std.specs.List.{All, range_with_len};
-ghost use Rattle.case_tree.specs.CaseTree.{IsOneTree, value_on, var_count};
+ghost use Rattle.case_tree.specs.CaseTree.{IsOneTree, Refutes, leaf_count, var_count};
 ghost use Rattle.case_tree.specs.Walk.{next_path};
 ghost use Rattle.case_search.specs.Answer.{HasOneFree, IsAnswer};
-ghost use Rattle.case_search.specs.Model.{values_of};
 
+use crate::assignments::values;
 use crate::guards::guard_all;
-use crate::hints::Hints;
+use crate::hints::{Hints, Order};
+use crate::learner::find_model;
+use crate::prune::pruned;
 use crate::step::{Step, next_step};
-use case_tree::{Clauses, Literal, Node, Trail, Tree};
+use case_tree::{Checked, Clauses, Literal, Node, Path, Trail, Tree, check};
 use std::alloc::{AllocError, Global};
 
 /// A model gives each variable a value under which all clauses and cells hold. A refuted clause set comes with the tree
@@ -21,9 +23,66 @@ pub enum Found {
     Spent(Tree),
 }
 
-/// Splits first where setting a variable makes a reason hold at once, then on a variable of a demanded cell with no true
-/// variable; the true subtree is searched first. The budget bounds the leaves.
+// What is settled within so many leaves is settled by the search in the order of places.
+const FIRST_LEAVES: u64 = 1000;
+
+/// Searches in the order of places for the first 1,000 leaves. Where the question is open then and the budget is
+/// greater, it looks for a model by learning, with as many conflicts as the budget has leaves, and then searches again
+/// from the root, the variables of the latest conflict first, and prunes the tree that it comes to.
 pub fn decide(alloc: Global, clauses: &Clauses, budget: u64) -> Result<Found, AllocError>
+    requires one_free { All (HasOneFree clauses.now) clauses.now.clauses }
+    requires some { 1 ≤ budget }
+    requires within { budget ≤ 1000000 }
+    ensures { IfOk result (IsAnswer clauses.now budget) }
+{
+    if budget <= FIRST_LEAVES {
+        return walk(alloc, clauses, Order::ByPlace, budget);
+    }
+    match walk(alloc, clauses, Order::ByPlace, FIRST_LEAVES)? {
+        Found::Model(values) => Ok(Found::Model(values)),
+        Found::Refuted(tree) => Ok(Found::Refuted(tree)),
+        Found::Spent(_) => go_on(alloc, clauses, budget),
+    }
+}
+
+// Where the first leaves left the question open.
+fn go_on(alloc: Global, clauses: &Clauses, budget: u64) -> Result<Found, AllocError>
+    requires one_free { All (HasOneFree clauses.now) clauses.now.clauses }
+    requires some { 1 ≤ budget }
+    requires within { budget ≤ 1000000 }
+    ensures { IfOk result (IsAnswer clauses.now budget) }
+{
+    if let Some(values) = find_model(alloc, clauses, budget)? {
+        return Ok(Found::Model(values));
+    }
+    match walk(alloc, clauses, Order::ByConflicts, budget)? {
+        Found::Model(values) => Ok(Found::Model(values)),
+        Found::Refuted(tree) => Ok(Found::Refuted(shorter(alloc, clauses, tree, budget)?)),
+        Found::Spent(tree) => Ok(Found::Spent(tree)),
+    }
+}
+
+// The tree without the splits that it doesn't need, where that refutes the clauses too.
+fn shorter(alloc: Global, clauses: &Clauses, tree: Tree, budget: u64) -> Result<Tree, AllocError>
+    requires refutes { Refutes clauses.now tree }
+    requires within { leaf_count tree ≤ budget }
+    ensures refutes { IfOk result (Refutes clauses.now) }
+    ensures within { IfOk result (λ shorter. leaf_count shorter ≤ budget) }
+{
+    let nodes = pruned(alloc, clauses, tree.nodes())?;
+    let Ok(pruned) = Tree::new(nodes) else {
+        return Ok(tree);
+    };
+    let mut path = Path::new(alloc, clauses.vars())?;
+    match check(clauses, &pruned, &mut path) {
+        Checked::Closed { leaves } if leaves <= budget => Ok(pruned),
+        _ => Ok(tree),
+    }
+}
+
+// Splits first where setting a variable makes a reason hold at once, then on a variable of a demanded cell with no true
+// variable; the true subtree is searched first. The budget bounds the leaves.
+fn walk(alloc: Global, clauses: &Clauses, order: Order, budget: u64) -> Result<Found, AllocError>
     requires one_free { All (HasOneFree clauses.now) clauses.now.clauses }
     requires some { 1 ≤ budget }
     requires within { budget ≤ 1000000 }
@@ -31,7 +90,7 @@ pub fn decide(alloc: Global, clauses: &Clauses, budget: u64) -> Result<Found, Al
 {
     let mut guards = guard_all(alloc, clauses)?;
     let mut trail = Trail::new(alloc, clauses.vars())?;
-    let mut hints = Hints::new(alloc, clauses)?;
+    let mut hints = Hints::new(alloc, clauses, order)?;
     let mut nodes = Vec::new(alloc);
     // The subtrees that aren't written yet, the present one among them.
     let mut pending = 1usize;
@@ -80,17 +139,6 @@ fn advance(clauses: &Clauses, hints: &mut Hints, trail: &mut Trail) -> Result<()
         hints.leave(clauses)?;
     }
     Ok(())
-}
-
-// The assignment in which exactly the variables are true that the path makes true.
-fn values(alloc: Global, trail: &Trail, vars: usize) -> Result<Vec<bool>, AllocError>
-    ensures { IfOk result (λ values. values.items ≡ values_of trail.now.path vars) }
-{
-    let mut values = Vec::with_capacity(alloc, vars)?;
-    for var in 0..vars {
-        values.push(trail.gives(var, true))?;
-    }
-    Ok(values)
 }
 
 // The nodes, and one unclosed node for each subtree that was not begun.

@@ -40,12 +40,28 @@ pub fn next_step(
     ensures trail { trail.new ≡ trail.old }
 {
     if let Some(reason) = reason_here(clauses, guards, trail) {
+        blame(clauses, hints, trail, reason)?;
         return Ok(Step::Leaf(reason));
     }
     enter(clauses, guards, hints, trail)?;
     match next_split(clauses, guards, hints, trail) {
         Some(var) => Ok(Step::Split(var)),
         None => Ok(Step::Model),
+    }
+}
+
+// Tells the hints of a leaf.
+fn blame(
+    clauses: &Clauses,
+    hints: &mut Hints,
+    trail: &mut Trail,
+    reason: Reason,
+) -> Result<(), AllocError>
+    ensures { trail.new ≡ trail.old }
+{
+    match last_of(trail) {
+        Some(last) => hints.blame(clauses, last, reason),
+        None => Ok(()),
     }
 }
 
@@ -118,7 +134,14 @@ fn hinted_split(clauses: &Clauses, hints: &Hints, trail: &mut Trail) -> Option<u
                 None
             }
         }
-        None => wanted_at(clauses, trail, hints.first_wanted()?),
+        None => {
+            let var = hints.wanted_split(clauses, trail)?;
+            if is_wanted(clauses, trail, var) {
+                Some(var)
+            } else {
+                None
+            }
+        }
     }
 }
 
@@ -139,17 +162,29 @@ fn is_right(clauses: &Clauses, trail: &mut Trail, hint: Hint) -> bool
     holds_then
 }
 
-// A variable without a value of the cell, where it is demanded and has no true variable.
-fn wanted_at(clauses: &Clauses, trail: &Trail, at: usize) -> Option<usize>
-    ensures open { IfSome result (IsOpen clauses.now trail.now.path) }
-    ensures wanted { IfSome result (IsWanted clauses.now trail.now.path) }
+// Whether the variable has no value and is of a demanded cell with no true variable.
+fn is_wanted(clauses: &Clauses, trail: &Trail, var: usize) -> bool
+    ensures open { IsTrue result → IsOpen clauses.now trail.now.path var }
+    ensures wanted { IsTrue result → IsWanted clauses.now trail.now.path var }
 {
-    let cells = clauses.cells();
-    if at < cells.len() {
-        wanted_in(&cells[at], trail)
-    } else {
-        None
+    if var >= clauses.vars() || trail.value(var).is_some() {
+        return false;
     }
+    let at = clauses.cell_of(var);
+    let cells = clauses.cells();
+    if at >= cells.len() {
+        return false;
+    }
+    lacks_true(&cells[at], trail)
+}
+
+// Whether the cell is demanded and has no true variable.
+fn lacks_true(cell: &VarCell, trail: &Trail) -> bool
+    requires { cell.now.first + cell.now.count < 2 ^ 64 }
+    ensures demanded { IsTrue result → cell.now.demanded ≡ true }
+    ensures none { IsTrue result → HasTrue trail.now.path cell.now → ⊥ }
+{
+    cell.demanded && !has_true(cell, trail)
 }
 
 // The split that needs no hints, and looks through all variables and cells.

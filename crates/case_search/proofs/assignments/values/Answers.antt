@@ -2,7 +2,7 @@ use Rattle.std.proofs.Common.{Bool, List, ◌∷◌, ◌++◌, [], sym, ap, ◌�
 use Rattle.case_tree.specs.CaseTree.{value_on}
 use Rattle.case_search.specs.Model.{values_of}
 use Rattle.case_search.proofs.Models.{is_true_from, values_of-more}
-use Rattle.case_search.proofs.search.values.Goals as goal
+use Rattle.case_search.proofs.assignments.values.Goals as goal
 
 pub loop-var-preserved : goal.loop-var-preserved
 loop-var-preserved c =
