@@ -14,6 +14,7 @@ mod tuples;
 pub mod verdict;
 
 pub use check::check_cert;
+pub use copies::{copy_cell, copy_cells};
 pub use made::{cert_of_consistency, cert_of_implication};
 pub use tree_lines::tree_text;
 pub use verdict::CertVerdict;

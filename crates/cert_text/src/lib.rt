@@ -17,7 +17,7 @@ pub use cert::{Answer, Asked, Cert, CertParts, NodeLine, Question, TreeLines, Tu
 pub use fault::{CertCause, CertFault};
 pub use names::{CellName, NodeName, ReasonName, VarName, Which};
 pub use parse::parse_cert;
-pub use print::{print_cert, push_cert, push_node};
+pub use print::{print_cert, push_cert, push_node, push_texts};
 
 #[cfg(test)]
 mod tests;

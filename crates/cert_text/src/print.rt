@@ -155,7 +155,8 @@ fn push_question(out: &mut Vec<u8>, question: &Question) -> Result<(), AllocErro
 
 // ---- answers
 
-fn push_texts(out: &mut Vec<u8>, word: &str, values: &[Text]) -> Result<(), AllocError>
+/// Appends a line of a word and of texts.
+pub fn push_texts(out: &mut Vec<u8>, word: &str, values: &[Text]) -> Result<(), AllocError>
     ensures { OnOk result (out.new.items ≡ out.old.items ++ (line_text (texts_line word.now values.now) ++ 10 ∷ [])) }
 {
     out.extend_from_slice(word.as_bytes())?;
