@@ -2,7 +2,7 @@
 
 ghost use Rattle.std.specs.Prelude.{◌≡◌, ◌++◌, ◌+◌, ◌<◌, ◌^◌, All, map, IfOk, OnOk};
 ghost use Rattle.std.specs.List.{enumerate_from};
-ghost use Rattle.rule_cover.specs.Pieces.{dep_pieces, numbers_in, deps_in, single, table_pieces};
+ghost use Rattle.rule_cover.specs.Pieces.{dep_pieces, deps_in, numbers_in, single, table_pieces};
 
 use crate::fates::Piece;
 use cert_check::{copy_cell, copy_cells};
