@@ -76,7 +76,7 @@ needed schema budget before (piece ∷ after) ((place, Kept first second) ∷ fa
 pub is_cover : (schema : Schema) (deps : List Dep) (table budget : ℕ) (fates : List (Piece × Fate)) → All (λ (piece : Dep). piece.table ≡ table) (deps_in (table_pieces table deps))
     → AreFates schema deps table budget fates → IsCover schema deps table budget fates
 is_cover schema deps table budget fates own are = record {
-  fates = are;
+  right = are;
   whole = λ tuples of. pieces_same table tuples deps;
   same = λ tuples of. (
     all_left schema table budget tuples of [] (deps_in (table_pieces table deps)) fates own are.right (none table tuples),

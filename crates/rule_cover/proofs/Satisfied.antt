@@ -22,13 +22,13 @@ first_in x xs = (0, omega arith, refl)
 
 module _ (table : ℕ) (tuples : List (List (List ℕ))) where
   pub fewer : (xs ys : List Dep) → SatisfyTable table (xs ++ ys) tuples → SatisfyTable table xs tuples
-  fewer xs ys all dep in own = all dep (Contains-append_left xs ys dep in) own
+  fewer xs ys all dep held own = all dep (Contains-append_left xs ys dep held) own
 
   pub behind : (xs ys : List Dep) → SatisfyTable table (xs ++ ys) tuples → SatisfyTable table ys tuples
-  behind xs ys all dep in own = all dep (Contains-append_right xs ys dep in) own
+  behind xs ys all dep held own = all dep (Contains-append_right xs ys dep held) own
 
   pub both : (xs ys : List Dep) → SatisfyTable table xs tuples → SatisfyTable table ys tuples → SatisfyTable table (xs ++ ys) tuples
-  both xs ys some rest dep in own = elim (Contains-append_cases xs ys dep in) [
+  both xs ys some rest dep held own = elim (Contains-append_cases xs ys dep held) [
     | inl here ↦ some dep here own
     | inr there ↦ rest dep there own
   ]
@@ -37,8 +37,8 @@ module _ (table : ℕ) (tuples : List (List (List ℕ))) where
   none dep (k, lt, is) own = absurd (omega lt)
 
   pub one : (dep : Dep) → (dep.table ≡ table → SatisfyDep dep tuples) → SatisfyTable table (dep ∷ []) tuples
-  one dep satisfied other in own =
-      let same = in_one dep other in in
+  one dep satisfied other held own =
+      let same = in_one dep other held in
       subst (λ (d : Dep). SatisfyDep d tuples) same (satisfied (ap (λ (d : Dep). d.table) same ∙ own))
 
   pub of_one : (dep : Dep) (deps : List Dep) → SatisfyTable table (dep ∷ deps) tuples → dep.table ≡ table → SatisfyDep dep tuples
@@ -47,8 +47,8 @@ module _ (table : ℕ) (tuples : List (List (List ℕ))) where
   -- ---- a dependency and its pieces
 
   whole_single : (dep : Dep) (row : TableauRow (List ℕ)) → SatisfyDep dep tuples → Contains dep.rule.rows row → SatisfyDep (single dep row) tuples
-  whole_single dep row whole in r t u left right in_r in_t in_u is_t is_u same match =
-      whole r t u left right (subst (λ (s : TableauRow (List ℕ)). Contains dep.rule.rows s) (in_one row r in_r) in) in_t in_u is_t is_u same match
+  whole_single dep row whole held r t u left right in_r in_t in_u is_t is_u same match =
+      whole r t u left right (subst (λ (s : TableauRow (List ℕ)). Contains dep.rule.rows s) (in_one row r in_r) held) in_t in_u is_t is_u same match
 
   singles_whole : (dep : Dep) → ((row : TableauRow (List ℕ)) → Contains dep.rule.rows row → SatisfyDep (single dep row) tuples) → SatisfyDep dep tuples
   singles_whole dep singles r t u left right in_r in_t in_u is_t is_u same match =
@@ -61,14 +61,14 @@ module _ (table : ℕ) (tuples : List (List (List ℕ))) where
   rows_pieces place start dep (row ∷ rows) singles =
       both (single dep row ∷ []) (deps_in (map (row_piece place dep) (enumerate_from (start + 1) rows)))
       (one (single dep row) (singles row (first_in row rows)))
-      (rows_pieces place (start + 1) dep rows (λ r in own. singles r (Contains-append_right (row ∷ []) rows r in) own))
+      (rows_pieces place (start + 1) dep rows (λ r held own. singles r (Contains-append_right (row ∷ []) rows r held) own))
 
   pieces_rows : (place start : ℕ) (dep : Dep) (rows : List (TableauRow (List ℕ))) → SatisfyTable table (deps_in (map (row_piece place dep) (enumerate_from start rows))) tuples
       → dep.table ≡ table → (row : TableauRow (List ℕ)) → Contains rows row → SatisfyDep (single dep row) tuples
   pieces_rows place start dep [] all own row (k, lt, is) = absurd (omega lt)
-  pieces_rows place start dep (first ∷ rows) all own row in =
+  pieces_rows place start dep (first ∷ rows) all own row held =
       let rest = deps_in (map (row_piece place dep) (enumerate_from (start + 1) rows)) in
-      elim (Contains-append_cases (first ∷ []) rows row in) [
+      elim (Contains-append_cases (first ∷ []) rows row held) [
         | inl here ↦ subst (λ (r : TableauRow (List ℕ)). SatisfyDep (single dep r) tuples) (in_one first row here) (of_one (single dep first) rest all own)
         | inr there ↦ pieces_rows place (start + 1) dep rows (behind (single dep first ∷ []) rest all) own row there
       ]
@@ -77,12 +77,12 @@ module _ (table : ℕ) (tuples : List (List (List ℕ))) where
   over_if place dep b = if b then dep_pieces (place, dep) else []
 
   dep_over : (place : ℕ) (dep : Dep) (b : Bool) → (dep.table == table) ≡ b → (dep.table ≡ table → SatisfyDep dep tuples) → SatisfyTable table (deps_in (over_if place dep b)) tuples
-  dep_over place dep true is satisfied = rows_pieces place 0 dep dep.rule.rows (λ row in own. whole_single dep row (satisfied own) in)
+  dep_over place dep true is satisfied = rows_pieces place 0 dep dep.rule.rows (λ row held own. whole_single dep row (satisfied own) held)
   dep_over place dep false is satisfied = none
 
   over_dep : (place : ℕ) (dep : Dep) (b : Bool) → (dep.table == table) ≡ b → SatisfyTable table (deps_in (over_if place dep b)) tuples → dep.table ≡ table → SatisfyDep dep tuples
   over_dep place dep true is all own = singles_whole dep (pieces_rows place 0 dep dep.rule.rows all own)
-  over_dep place dep false is all own = let not : true ≡ false = sym (eq-eqb dep.table table own) ∙ is in absurd (cc)
+  over_dep place dep false is all own = let differs : true ≡ false = sym (eq-eqb dep.table table own) ∙ is in absurd (cc)
 
   from_place : ℕ → List Dep → List (Piece × Dep)
   from_place place deps = flat_map (pieces_over table) (enumerate_from place deps)

@@ -16,6 +16,9 @@ use Rattle.rule_cover.specs.Rounds.{AskedPiece, Halves, again_if}
 
 -- ---- one round
 
+pub stay_is : (pieces : List Dep) (stay : ℕ) → stay ≤ length pieces → stay ≡ length (take stay pieces)
+stay_is pieces stay le = sym (length-take-le stay pieces le)
+
 pub taken_off : (pieces : List Dep) (stay : ℕ) (piece : Dep) → stay < length pieces → piece ≡ get_or pieces stay piece
     → (let halves : Halves = record { before = take stay pieces; after = drop stay pieces } in halves)
     ≡ record { before = take stay (remove pieces stay); after = piece ∷ drop stay (remove pieces stay) }
@@ -45,16 +48,16 @@ stayed schema false before piece all is = All-append (IsPiece schema) before [] 
 -- ---- fates found so far
 
 pub record HasFound (schema : Schema) (budget : ℕ) (pieces : List Dep) (numbers : List Piece) (index : ℕ) (round : Halves) (fates : List (Piece × Fate)) : Type 0 where
-  pub numbers : numbers_of fates ≡ take index numbers
-  pub left : length round.after + index ≡ length numbers
+  pub numbered : numbers_of fates ≡ take index numbers
+  pub others : length round.after + index ≡ length numbers
   pub before : All (IsPiece schema) round.before
   pub after : All (IsPiece schema) round.after
   pub goes_on : (rest : List (Piece × Fate)) → AreRight schema budget round.before round.after rest → AreRight schema budget [] pieces (fates ++ rest)
 
 pub found_none : (schema : Schema) (budget : ℕ) (pieces : List Dep) (numbers : List Piece) → length numbers ≡ length pieces → All (IsPiece schema) pieces → HasFound schema budget pieces numbers 0 (record { before = []; after = pieces }) []
 found_none schema budget pieces numbers long all = record {
-  numbers = refl;
-  left = omega (arith, long);
+  numbered = refl;
+  others = omega (arith, long);
   before = All-nil (IsPiece schema);
   after = all;
   goes_on = λ rest right. right;
@@ -66,8 +69,8 @@ pub found_more : (schema : Schema) (budget : ℕ) (pieces : List Dep) (numbers :
     → IsAnswer schema (asked.before ++ asked.after) asked.piece budget (answer_of fate)
     → HasFound schema budget pieces numbers (index + 1) (record { before = asked.before ++ again_if (stays fate) asked.piece; after = asked.after }) (fates ++ (number, fate) ∷ [])
 found_more schema budget pieces numbers index asked fates number fate lt is found answer = record {
-  numbers = map_push (λ (f : Piece × Fate). f.0) fates (number, fate) ∙ ap (λ (ns : List Piece). ns ++ number ∷ []) found.numbers ∙ ap (λ (n : Piece). take index numbers ++ n ∷ []) is ∙ sym (take_more numbers index number lt);
-  left = let l = found.left in omega (arith, l);
+  numbered = map_push (λ (f : Piece × Fate). f.0) fates (number, fate) ∙ ap (λ (ns : List Piece). ns ++ number ∷ []) found.numbered ∙ ap (λ (n : Piece). take index numbers ++ n ∷ []) is ∙ sym (take_more numbers index number lt);
+  others = let l = found.others in omega (arith, l);
   before = stayed schema (stays fate) asked.before asked.piece found.before (All-head (IsPiece schema) asked.piece asked.after found.after);
   after = All-tail (IsPiece schema) asked.piece asked.after found.after;
   goes_on = λ rest right. subst (AreRight schema budget [] pieces) (sym (append_assoc fates ((number, fate) ∷ []) rest)) (found.goes_on ((number, fate) ∷ rest) (answer, right));
@@ -80,8 +83,8 @@ right_end schema budget before (piece ∷ after) none = absurd (omega none)
 pub found_all : (schema : Schema) (budget : ℕ) (pieces : List Dep) (numbers : List Piece) (index : ℕ) (round : Halves) (fates : List (Piece × Fate)) → length numbers ≤ index
     → HasFound schema budget pieces numbers index round fates → (numbers_of fates ≡ numbers) × AreRight schema budget [] pieces fates
 found_all schema budget pieces numbers index round fates le found =
-    let l = found.left in (
-      found.numbers ∙ take_all index numbers le,
+    let l = found.others in (
+      found.numbered ∙ take_all index numbers le,
       subst (AreRight schema budget [] pieces) (append-nil fates) (found.goes_on [] (right_end schema budget round.before round.after (omega (arith, l, le)))),
     )
 
@@ -113,7 +116,6 @@ told_none schema pieces fates right all = record {
   goes_on = λ rest texts. texts;
 }
 
-
 -- there is a piece for each fate
 pub told_some : (schema : Schema) (pieces : List Dep) (fates : List (Piece × Fate)) (index : ℕ) (round : Halves) (out : List ℕ) (fate : Piece × Fate) → index < length fates → HasTold schema pieces fates index round out → 0 < length round.after
 told_some schema pieces fates index round out fate lt told =
@@ -138,8 +140,8 @@ told_more schema pieces fates index asked out text fate lt is told own =
       after = All-tail (IsPiece schema) asked.piece asked.after told.after;
       count = told.count ∙ ap (λ (fs : List (Piece × Fate)). length asked.before + length (left (asked.piece ∷ asked.after) fs)) next ∙ left_more asked.before asked.piece (stays fate.1) (left asked.after (drop (index + 1) fates));
       goes_on = λ rest texts.
-      subst (AreFateTexts schema [] pieces fates) (sym (append_assoc out text rest))
-      (told.goes_on (text ++ rest) (subst (λ (fs : List (Piece × Fate)). AreFateTexts schema asked.before (asked.piece ∷ asked.after) fs (text ++ rest)) (sym next) (text, rest, own, texts, refl)));
+          subst (AreFateTexts schema [] pieces fates) (sym (append_assoc out text rest))
+          (told.goes_on (text ++ rest) (subst (λ (fs : List (Piece × Fate)). AreFateTexts schema asked.before (asked.piece ∷ asked.after) fs (text ++ rest)) (sym next) (text, rest, own, texts, refl)));
     }
 
 -- the answer by which the asked piece has its fate

@@ -33,7 +33,7 @@ AskTheSame schema table some others =
 -- The fates of the pieces of a table are right. The same lists of tuples satisfy the pieces that stay, all pieces, and the
 -- dependencies of the table; and no kept piece is implied by the others that stay.
 pub record IsCover (schema : Schema) (deps : List Dep) (table budget : ℕ) (fates : List (Piece × Fate)) : Type 0 where
-  pub fates : AreFates schema deps table budget fates
+  pub right : AreFates schema deps table budget fates
   pub whole : AskTheSame schema table (deps_in (table_pieces table deps)) deps
   pub same : AskTheSame schema table (left (deps_in (table_pieces table deps)) fates) (deps_in (table_pieces table deps))
   pub needed : AreNeeded schema [] (deps_in (table_pieces table deps)) fates

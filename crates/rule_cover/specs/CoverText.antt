@@ -18,10 +18,14 @@ use Rattle.rule_cover.specs.declared.fates.Piece.{Piece}
 use Rattle.rule_cover.specs.Fates.{kept_piece, left}
 use Rattle.rule_cover.specs.Pieces.{deps_in, table_pieces}
 
--- `WORD RULE.K ATTR`, the tableau rows counted from 1
+-- ` RULE.K`, the tableau rows counted from 1
+abbrev pub place_parts : List ℕ → ℕ → List Part
+place_parts rule row = Space ∷ name rule ∷ mark Dot ∷ number (row + 1) ∷ []
+
+-- `WORD RULE.K ATTR`
 abbrev pub head_parts : Schema → List ℕ → Piece → Dep → List Part
 head_parts schema word place piece =
-    name word ∷ Space ∷ name piece.name ∷ mark Dot ∷ number (place.row + 1) ∷ Space ∷ name (attr_name (attrs_at schema piece.table) piece.rule.a) ∷ []
+    name word ∷ (place_parts piece.name place.row ++ Space ∷ name (attr_name (attrs_at schema piece.table) piece.rule.a) ∷ [])
 
 -- a head, and the nodes of a tree by their names in the question of the piece
 abbrev pub IsTreeFate : Schema → List ℕ → List Dep → Dep → Piece → List Node → List ℕ → Type 0

@@ -52,12 +52,12 @@ impl Round {
         Round { pieces, stay: 0 }
     }
 
-    /// How many pieces there are, where all were asked.
+    /// How many pieces stay so far.
+    #[tactic(auto, using(crate::proofs::Turns::stay_is))]
     pub fn count(&self) -> usize
-        requires { self.now.after ≡ [] }
         ensures { result ≡ length self.now.before }
     {
-        self.pieces.as_slice().len()
+        self.stay
     }
 
     pub fn ask(self) -> Question
@@ -91,12 +91,26 @@ impl Question {
     pub fn settle(self, stays: bool) -> Result<Round, AllocError>
         ensures { IfOk result (λ round. round ≡ record { before = self.before ++ again_if stays self.piece; after = self.after }) }
     {
-        if !stays {
-            return Ok(Round {
-                pieces: self.others,
-                stay: self.stay,
-            });
+        if stays {
+            self.keep()
+        } else {
+            Ok(self.leave_out())
         }
+    }
+
+    fn leave_out(self) -> Round
+        ensures { result ≡ record { before = self.before; after = self.after } }
+    {
+        Round {
+            pieces: self.others,
+            stay: self.stay,
+        }
+    }
+
+    #[tactic(auto, using(crate::proofs::Turns::put_back))]
+    fn keep(self) -> Result<Round, AllocError>
+        ensures { IfOk result (λ round. round ≡ record { before = self.before ++ self.piece ∷ []; after = self.after }) }
+    {
         let mut pieces = self.others.into_vec();
         pieces.insert(self.stay, self.piece)?;
         Ok(Round {

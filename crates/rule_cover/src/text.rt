@@ -3,13 +3,13 @@
 ghost use Rattle.std.specs.Prelude.{◌≡◌, ℕ, ◌+◌, ◌<◌, ◌^◌, ◌++◌, ◌∷◌, [], All, length, IfOk, OnOk};
 ghost use Rattle.schema_core.specs.Lookups.{attrs_at};
 ghost use Rattle.schema_core.specs.Schemas.{IsValidSchema};
-ghost use Rattle.schema_core.specs.Spelling.{file_text};
+ghost use Rattle.schema_core.specs.Spelling.{file_text, line_text};
 ghost use Rattle.rule_model.specs.Books.{book_deps};
 ghost use Rattle.rule_model.specs.Rules.{IsValidDep};
 ghost use Rattle.rule_parser.specs.RuleText.{attr_name};
 ghost use Rattle.cert_check.specs.Made.{IsRightTree};
 ghost use Rattle.cert_check.specs.Verdict.{asks_from};
-ghost use Rattle.rule_cover.specs.CoverText.{AreFateTexts, IsCoverText, AppendsSome, IsFateText, IsTextOf, IsTreeFate, head_parts, last_parts};
+ghost use Rattle.rule_cover.specs.CoverText.{AreFateTexts, IsCoverText, AppendsSome, IsFateText, IsTextOf, IsTreeFate, head_parts, last_parts, place_parts};
 ghost use Rattle.rule_cover.specs.Fates.{AreNumbersOf, AreSomeFates, AreSomeRight, IsSomeAnswer, numbers_of};
 ghost use Rattle.rule_cover.specs.Pieces.{IsPiece};
 
@@ -150,14 +150,22 @@ fn push_head(
     ensures { OnOk result (out.new.items ≡ out.old.items ++ file_text (head_parts schema.now word.now number piece.now ∷ [])) }
 {
     out.extend_from_slice(word.as_bytes())?;
-    out.push(b' ')?;
-    out.extend_from_slice(piece.name.as_str().as_bytes())?;
-    out.push(b'.')?;
-    push_number(out, number.row as u64 + 1)?;
+    push_place(out, &piece.name, number.row)?;
     out.push(b' ')?;
     out.extend_from_slice(attr_name(schema, piece).as_str().as_bytes())?;
     out.push(b'\n')?;
     Ok(())
+}
+
+/// Appends ` RULE.K`.
+fn push_place(out: &mut Vec<u8>, rule: &Text, row: usize) -> Result<(), AllocError>
+    requires { row + 1 < 2 ^ 64 }
+    ensures { OnOk result (out.new.items ≡ out.old.items ++ line_text (place_parts rule.now row)) }
+{
+    out.push(b' ')?;
+    out.extend_from_slice(rule.as_str().as_bytes())?;
+    out.push(b'.')?;
+    push_number(out, row as u64 + 1)
 }
 
 /// The name of the attribute on the right of a piece.
