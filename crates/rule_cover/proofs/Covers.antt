@@ -44,7 +44,7 @@ module _ (schema : Schema) (table budget : ℕ) (tuples : List (List (List ℕ))
   all_left before (piece ∷ after) ((place, Dropped tree) ∷ fates) own right stayed rest =
       let behind_it = all_left (before ++ []) after fates (All-tail (λ (p : Dep). p.table ≡ table) piece after own) right.1 (both table tuples before [] stayed (none table tuples)) rest in
       both table tuples (piece ∷ []) after
-      (implied_here (before ++ after) piece (All-head (λ (p : Dep). p.table ≡ table) piece after own) right.0.1.1 (both table tuples before after stayed behind_it))
+      (implied_here (before ++ after) piece (All-head (λ (p : Dep). p.table ≡ table) piece after own) right.0.2 (both table tuples before after stayed behind_it))
       behind_it
   all_left before (piece ∷ after) ((place, Kept first second) ∷ fates) own right stayed rest =
       let here = fewer table tuples (piece ∷ []) (left after fates) rest in

@@ -13,7 +13,7 @@ use Rattle.rule_model.specs.declared.dep.Dep.{Dep}
 use Rattle.rule_cover.specs.declared.fates.Piece.{Piece}
 use Rattle.rule_cover.specs.Pieces.{IsPiece, dep_pieces, deps_in, numbers_in, pieces_over, row_piece, single, table_pieces}
 
-over_if : ℕ → Dep → Bool → List (Piece × Dep)
+abbrev over_if : ℕ → Dep → Bool → List (Piece × Dep)
 over_if place dep b = if b then dep_pieces (place, dep) else []
 
 -- ---- each piece of a table
@@ -67,7 +67,7 @@ as_many pieces = length-map pieces (λ (piece : Piece × Dep). piece.0) ∙ sym 
 
 -- ---- the first piece is of a dependency of the table
 
-pub HasPlace : ℕ → ℕ → List Dep → Piece → Type 0
+abbrev pub HasPlace : ℕ → ℕ → List Dep → Piece → Type 0
 HasPlace table place deps number = (k : ℕ) × (number.dep ≡ place + k) × (k < length deps) × ((d : Dep) → (get_or deps k d).table ≡ table)
 
 later : (table place : ℕ) (dep : Dep) (deps : List Dep) (number : Piece) → HasPlace table (place + 1) deps number → HasPlace table place (dep ∷ deps) number
@@ -90,5 +90,5 @@ first_at table place (dep ∷ deps) number rest is =
 pub first_piece : (table : ℕ) (deps : List Dep) (number : Piece) (rest : List Piece) → numbers_in (table_pieces table deps) ≡ number ∷ rest → (number.dep < length deps) × ((d : Dep) → (get_or deps number.dep d).table ≡ table)
 first_piece table deps number rest is =
     let found = first_at table 0 deps number rest is in
-    let at : found.0 ≡ number.dep = omega (arith, found.1.0) in
-    subst (λ k. (k < length deps) × ((d : Dep) → (get_or deps k d).table ≡ table)) at (found.1.1.0, found.1.1.1)
+    let at : found.0 ≡ number.dep = omega (arith, found.1) in
+    subst (λ k. (k < length deps) × ((d : Dep) → (get_or deps k d).table ≡ table)) at (found.2, found.3)

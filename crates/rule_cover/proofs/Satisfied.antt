@@ -1,5 +1,5 @@
 -- Which dependencies of a table tuples satisfy: lists of dependencies, and the pieces of dependencies.
-use Rattle.std.proofs.Common.{◌≡◌, ℕ, ◌+◌, ◌<◌, ◌↔◌, Bool, true, false, List, [], ◌∷◌, ◌++◌, length, get_or, refl, sym, ap, ◌∙◌, subst, inl, inr, arith}
+use Rattle.std.proofs.Common.{◌≡◌, ℕ, zero, suc, ◌+◌, ◌<◌, ◌↔◌, Bool, true, false, List, [], ◌∷◌, ◌++◌, length, get_or, refl, sym, ap, ◌∙◌, subst, inl, inr, arith}
 use Rattle.std.specs.Prelude.{All, Contains, map, ◌==◌, if◌then◌else◌}
 use Rattle.std.specs.List.{enumerate_from, flat_map}
 use Rattle.std.proofs.lemmas.Bool.{cases_Bool, eq-eqb, eqb-true}
@@ -15,7 +15,7 @@ use Rattle.rule_cover.specs.Pieces.{dep_pieces, deps_in, pieces_over, row_piece,
 -- the only item
 pub in_one : {X : Type 0} (x y : X) → Contains (x ∷ []) y → x ≡ y
 in_one x y (zero, lt, is) = is
-in_one x y (suc k, lt, is) = absurd (omega lt)
+in_one x y (suc k, lt, is) = absurd (omega (arith, lt))
 
 pub first_in : {X : Type 0} (x : X) (xs : List X) → Contains (x ∷ xs) x
 first_in x xs = (0, omega arith, refl)
@@ -34,7 +34,7 @@ module _ (table : ℕ) (tuples : List (List (List ℕ))) where
   ]
 
   pub none : SatisfyTable table [] tuples
-  none dep (k, lt, is) own = absurd (omega lt)
+  none dep (k, lt, is) own = absurd (omega (arith, lt))
 
   pub one : (dep : Dep) → (dep.table ≡ table → SatisfyDep dep tuples) → SatisfyTable table (dep ∷ []) tuples
   one dep satisfied other held own =
@@ -65,7 +65,7 @@ module _ (table : ℕ) (tuples : List (List (List ℕ))) where
 
   pieces_rows : (place start : ℕ) (dep : Dep) (rows : List (TableauRow (List ℕ))) → SatisfyTable table (deps_in (map (row_piece place dep) (enumerate_from start rows))) tuples
       → dep.table ≡ table → (row : TableauRow (List ℕ)) → Contains rows row → SatisfyDep (single dep row) tuples
-  pieces_rows place start dep [] all own row (k, lt, is) = absurd (omega lt)
+  pieces_rows place start dep [] all own row (k, lt, is) = absurd (omega (arith, lt))
   pieces_rows place start dep (first ∷ rows) all own row held =
       let rest = deps_in (map (row_piece place dep) (enumerate_from (start + 1) rows)) in
       elim (Contains-append_cases (first ∷ []) rows row held) [
@@ -73,7 +73,7 @@ module _ (table : ℕ) (tuples : List (List (List ℕ))) where
         | inr there ↦ pieces_rows place (start + 1) dep rows (behind (single dep first ∷ []) rest all) own row there
       ]
 
-  over_if : ℕ → Dep → Bool → List (Piece × Dep)
+  abbrev over_if : ℕ → Dep → Bool → List (Piece × Dep)
   over_if place dep b = if b then dep_pieces (place, dep) else []
 
   dep_over : (place : ℕ) (dep : Dep) (b : Bool) → (dep.table == table) ≡ b → (dep.table ≡ table → SatisfyDep dep tuples) → SatisfyTable table (deps_in (over_if place dep b)) tuples
@@ -84,7 +84,7 @@ module _ (table : ℕ) (tuples : List (List (List ℕ))) where
   over_dep place dep true is all own = singles_whole dep (pieces_rows place 0 dep dep.rule.rows all own)
   over_dep place dep false is all own = let differs : true ≡ false = sym (eq-eqb dep.table table own) ∙ is in absurd (cc)
 
-  from_place : ℕ → List Dep → List (Piece × Dep)
+  abbrev from_place : ℕ → List Dep → List (Piece × Dep)
   from_place place deps = flat_map (pieces_over table) (enumerate_from place deps)
 
   parts : (place : ℕ) (dep : Dep) (deps : List Dep) → deps_in (from_place place (dep ∷ deps)) ≡ deps_in (pieces_over table (place, dep)) ++ deps_in (from_place (place + 1) deps)

@@ -24,10 +24,12 @@ pub taken_off : (pieces : List Dep) (stay : ℕ) (piece : Dep) → stay < length
     ≡ record { before = take stay (remove pieces stay); after = piece ∷ drop stay (remove pieces stay) }
 taken_off pieces stay piece lt is =
     let long : length (take stay pieces) ≡ stay = length-take-le stay pieces (omega (arith, lt)) in
+    let next : stay + 1 ≡ suc stay = omega arith in
     let front = sym (take_at (take stay pieces) (drop (suc stay) pieces) stay long) in
     let back : drop stay pieces ≡ piece ∷ drop stay (remove pieces stay) =
     drop_more pieces stay piece lt
     ∙ ap (λ (p : Dep). p ∷ drop (stay + 1) pieces) (sym is)
+    ∙ ap (λ n. piece ∷ drop n pieces) next
     ∙ ap (λ (ps : List Dep). piece ∷ ps) (sym (drop_at (take stay pieces) (drop (suc stay) pieces) stay long)) in
     λ i. record { before = front i; after = back i }
 
@@ -78,7 +80,7 @@ found_more schema budget pieces numbers index asked fates number fate lt is foun
 
 right_end : (schema : Schema) (budget : ℕ) (before after : List Dep) → length after ≡ 0 → AreRight schema budget before after []
 right_end schema budget before [] none = tt
-right_end schema budget before (piece ∷ after) none = absurd (omega none)
+right_end schema budget before (piece ∷ after) none = absurd (omega (arith, none))
 
 pub found_all : (schema : Schema) (budget : ℕ) (pieces : List Dep) (numbers : List Piece) (index : ℕ) (round : Halves) (fates : List (Piece × Fate)) → length numbers ≤ index
     → HasFound schema budget pieces numbers index round fates → (numbers_of fates ≡ numbers) × AreRight schema budget [] pieces fates
@@ -98,7 +100,7 @@ pub right_long : (schema : Schema) (budget : ℕ) (before after : List Dep) (fat
 right_long schema budget before [] [] right = refl
 right_long schema budget before [] (fate ∷ fates) right = absurd right
 right_long schema budget before (piece ∷ after) [] right = absurd right
-right_long schema budget before (piece ∷ after) (fate ∷ fates) right = ap (λ n. n + 1) (right_long schema budget _ after fates right.1)
+right_long schema budget before (piece ∷ after) (fate ∷ fates) right = ap suc (right_long schema budget (before ++ again_if (stays fate.1) piece) after fates right.1)
 
 pub record HasTold (schema : Schema) (pieces : List Dep) (fates : List (Piece × Fate)) (index : ℕ) (round : Halves) (out : List ℕ) : Type 0 where
   pub right : AreSomeRight schema round.before round.after (drop index fates)
@@ -112,7 +114,7 @@ told_none schema pieces fates right all = record {
   right = right;
   before = All-nil (IsPiece schema);
   after = all;
-  count = refl;
+  count = omega arith;
   goes_on = λ rest texts. texts;
 }
 

@@ -134,7 +134,8 @@ fn push_tree_fate(
 {
     let nodes = tree_text(alloc, schema, asked.others(), asked.piece(), tree)?;
     push_head(out, schema, word, number, asked.piece())?;
-    out.extend_from_slice(&nodes)
+    out.extend_from_slice(&nodes)?;
+    Ok(())
 }
 
 /// Appends `WORD RULE.K ATTR`, the rows counted from 1.
