@@ -10,6 +10,10 @@ use Rattle.schema_core.specs.declared.schema.Schema.{Schema}
 use Rattle.cfd_semantics.specs.declared.dependency.TableauRow.{TableauRow}
 use Rattle.rule_model.specs.Rules.{IsValidDep, IsValidRow}
 use Rattle.rule_model.specs.declared.dep.Dep.{Dep}
+use Rattle.schema_core.specs.Spelling.{file_text}
+use Rattle.rule_cover.specs.CoverText.{IsTextOf, last_parts}
+use Rattle.rule_cover.specs.Fates.{AreNumbersOf, numbers_of}
+use Rattle.rule_cover.specs.declared.fates.Fate.{Fate}
 use Rattle.rule_cover.specs.declared.fates.Piece.{Piece}
 use Rattle.rule_cover.specs.Pieces.{IsPiece, dep_pieces, deps_in, numbers_in, pieces_over, row_piece, single, table_pieces}
 
@@ -92,3 +96,14 @@ first_piece table deps number rest is =
     let found = first_at table 0 deps number rest is in
     let at : found.0 ≡ number.dep = omega (arith, found.1) in
     subst (λ k. (k < length deps) × ((d : Dep) → (get_or deps k d).table ≡ table)) at (found.2, found.3)
+
+pub first_of : (table : ℕ) (deps : List Dep) (fates : List (Piece × Fate)) → AreNumbersOf table deps fates → 0 < length fates → (d : Piece × Fate)
+    → ((get_or fates 0 d).0.dep < length deps) × ((e : Dep) → (get_or deps (get_or fates 0 d).0.dep e).table ≡ table)
+first_of table deps [] numbers some d = absurd (omega (arith, some))
+first_of table deps (fate ∷ fates) numbers some d = first_piece table deps fate.0 (numbers_of fates) (sym numbers)
+
+-- no pieces have no lines
+pub no_text : (schema : Schema) (pieces : List (Piece × Dep)) (fates : List (Piece × Fate)) (text : List ℕ) → length fates < 1 → numbers_of fates ≡ numbers_in pieces → text ≡ file_text (last_parts 0 0 ∷ []) → IsTextOf schema (deps_in pieces) fates text
+no_text schema [] [] text none numbers is = ([], refl, is)
+no_text schema (piece ∷ pieces) [] text none numbers is = absurd (cc)
+no_text schema pieces (fate ∷ fates) text none numbers is = absurd (omega (arith, none))

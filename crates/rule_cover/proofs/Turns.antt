@@ -1,6 +1,6 @@
 -- The rounds of asking, one after the other.
-use Rattle.std.proofs.Common.{◌≡◌, ℕ, suc, ◌+◌, ◌<◌, ◌≤◌, Bool, true, false, List, [], ◌∷◌, ◌++◌, length, take, drop, get_or, refl, sym, ap, ◌∙◌, subst, append_assoc, arith}
-use Rattle.std.specs.Prelude.{All, map}
+use Rattle.std.proofs.Common.{◌≡◌, ℕ, suc, ◌+◌, ◌<◌, ◌≤◌, Bool, true, false, List, [], ◌∷◌, ◌++◌, length, take, drop, get_or, Result, Ok, Err, refl, sym, ap, ◌∙◌, subst, append_assoc, arith}
+use Rattle.std.specs.Prelude.{All, IfOk, map}
 use Rattle.std.specs.List.{insert, remove}
 use Rattle.std.proofs.lemmas.List.{append-nil, drop_all, drop_at, drop_more, length-append, length-take-le, length_push, map_push, nil_from_length, take_all, take_at, take_more}
 use Rattle.std.proofs.lemmas.List.Elements.{All-append, All-cons, All-head, All-nil, All-tail}
@@ -171,3 +171,9 @@ told_all schema pieces fates index round out le told =
     subst (λ (ds : List Dep). AreFateTexts schema round.before ds (drop index fates) []) (sym none)
     (subst (λ (fs : List (Piece × Fate)). AreFateTexts schema round.before [] fs []) (sym ended) refl) in
     (none, omega (arith, counted), subst (AreFateTexts schema [] pieces fates) (append-nil out) (told.goes_on [] rest))
+
+-- ---- results
+
+pub if_ok : {X E : Type 0} (P Q : X → Type 0) → ((x : X) → P x → Q x) → (result : Result X E) → IfOk result P → IfOk result Q
+if_ok P Q more (Ok x) is = more x is
+if_ok P Q more (Err error) is = tt

@@ -8,10 +8,10 @@ ghost use Rattle.rule_cover.specs.Fates.{AreRight, answer_of, numbers_of};
 ghost use Rattle.rule_cover.specs.Pieces.{IsPiece};
 
 use crate::fates::{CoverFault, Fate, Piece, PieceFates};
-use crate::pieces::{Pieces, table_pieces};
+use crate::pieces::table_pieces;
 use crate::rounds::Round;
 use cfd_implication::{Implication, implies_from};
-use rule_model::RuleBook;
+use rule_model::{Dep, RuleBook};
 use schema_core::{List, Schema};
 use std::alloc::{AllocError, Global};
 
@@ -44,27 +44,29 @@ fn cover_table(
     ensures { IfOk result (λ found. IsCover rules.now.schema (book_deps rules.now) table budget found.fates) }
 {
     let pieces = table_pieces(alloc, rules.deps().as_slice(), table)?;
-    let fates = fates_of(alloc, rules.schema(), pieces, budget)?;
+    let numbers = pieces.numbers.as_slice();
+    let fates = fates_of(alloc, rules.schema(), numbers, pieces.deps, budget)?;
     Ok(PieceFates { fates })
 }
 
 fn fates_of(
     alloc: Global,
     schema: &Schema,
-    pieces: Pieces,
+    numbers: &[Piece],
+    pieces: List<Dep>,
     budget: u64,
 ) -> Result<List<(Piece, Fate)>, AllocError>
     requires schema { IsValidSchema schema.now }
-    requires pieces { All (IsPiece schema.now) pieces.deps }
-    requires numbers { length pieces.numbers ≡ length pieces.deps }
+    requires pieces { All (IsPiece schema.now) pieces }
+    requires numbers { length numbers.now ≡ length pieces }
     requires some { 1 ≤ budget }
     requires within { budget ≤ 1000000 }
-    ensures numbers { IfOk result (λ fates. numbers_of fates ≡ pieces.numbers) }
-    ensures right { IfOk result (AreRight schema.now budget [] pieces.deps) }
+    ensures numbers { IfOk result (λ fates. numbers_of fates ≡ numbers.now) }
+    ensures right { IfOk result (AreRight schema.now budget [] pieces) }
 {
-    let mut round = Round::first(pieces.deps);
+    let mut round = Round::first(pieces);
     let mut fates = List::new(alloc);
-    for number in pieces.numbers.as_slice() {
+    for number in numbers {
         let asked = round.ask();
         let answer = implies_from(alloc, schema, asked.others(), asked.piece(), budget)?;
         let fate = fate_of(answer);

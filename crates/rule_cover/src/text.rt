@@ -1,11 +1,12 @@
 //! The lines of the fates of pieces.
 
-ghost use Rattle.std.specs.Prelude.{◌≡◌, ℕ, ◌+◌, ◌<◌, ◌^◌, ◌++◌, ◌∷◌, [], All, length, IfOk, OnOk};
+ghost use Rattle.std.specs.Prelude.{◌≡◌, ℕ, ◌+◌, ◌<◌, ◌^◌, ◌++◌, ◌∷◌, [], All, length, slice_index_or, IfOk, OnOk};
 ghost use Rattle.schema_core.specs.Lookups.{attrs_at};
 ghost use Rattle.schema_core.specs.Schemas.{IsValidSchema};
 ghost use Rattle.schema_core.specs.Spelling.{file_text, line_text};
 ghost use Rattle.rule_model.specs.Books.{book_deps};
 ghost use Rattle.rule_model.specs.Rules.{IsValidDep};
+ghost use Rattle.rule_model.specs.declared.dep.Dep.{Dep as AnyDep};
 ghost use Rattle.rule_parser.specs.RuleText.{attr_name};
 ghost use Rattle.cert_check.specs.Made.{IsRightTree};
 ghost use Rattle.cert_check.specs.Verdict.{asks_from};
@@ -37,10 +38,18 @@ pub fn cover_text(
     match fates {
         [] => no_fates(alloc),
         [(first, _), ..] => {
-            let pieces = table_pieces(alloc, deps, deps[first.dep].table)?;
+            let pieces = table_pieces(alloc, deps, table_of(deps, *first))?;
             fates_text(alloc, rules.schema(), pieces, fates)
         }
     }
+}
+
+/// The table of a piece.
+fn table_of(deps: &[Dep], piece: Piece) -> usize
+    requires { piece.dep < length deps.now }
+    ensures { (d : AnyDep) → result ≡ (slice_index_or deps.now piece.dep d).table }
+{
+    deps[piece.dep].table
 }
 
 /// The text of no pieces.
