@@ -1,8 +1,8 @@
 -- The rounds of asking, one after the other.
-use Rattle.std.proofs.Common.{◌≡◌, ℕ, suc, ◌+◌, ◌<◌, ◌≤◌, Bool, true, false, List, [], ◌∷◌, ◌++◌, length, take, drop, get_or, Result, Ok, Err, refl, sym, ap, ◌∙◌, subst, append_assoc, arith}
+use Rattle.std.proofs.Common.{◌≡◌, ℕ, suc, ◌+◌, ◌<◌, ◌≤◌, ◌^◌, Bool, true, false, List, [], ◌∷◌, ◌++◌, length, take, drop, get_or, Result, Ok, Err, refl, sym, ap, ◌∙◌, subst, append_assoc, arith}
 use Rattle.std.specs.Prelude.{All, IfOk, map}
 use Rattle.std.specs.List.{insert, remove}
-use Rattle.std.proofs.lemmas.List.{append-nil, drop_all, drop_at, drop_more, length-append, length-take-le, length_push, map_push, nil_from_length, take_all, take_at, take_more}
+use Rattle.std.proofs.lemmas.List.{append-nil, drop_all, drop_at, drop_more, get_or-map, length-append, length-map, length-take-le, length_push, map_push, nil_from_length, take_all, take_at, take_more}
 use Rattle.std.proofs.lemmas.List.Elements.{All-append, All-cons, All-head, All-nil, All-tail}
 use Rattle.schema_core.specs.declared.schema.Schema.{Schema}
 use Rattle.rule_model.specs.declared.dep.Dep.{Dep}
@@ -46,6 +46,17 @@ put_back others stay piece le =
 pub stayed : (schema : Schema) (b : Bool) (before : List Dep) (piece : Dep) → All (IsPiece schema) before → IsPiece schema piece → All (IsPiece schema) (before ++ again_if b piece)
 stayed schema true before piece all is = All-append (IsPiece schema) before (piece ∷ []) all (All-cons (IsPiece schema) piece [] is (All-nil (IsPiece schema)))
 stayed schema false before piece all is = All-append (IsPiece schema) before [] all (All-nil (IsPiece schema))
+
+-- the round behind the one in which a piece was asked
+abbrev pub next_round : AskedPiece → Bool → Halves
+next_round asked b = record { before = asked.before ++ again_if b asked.piece; after = asked.after }
+
+abbrev pub round_of : AskedPiece → Halves
+round_of asked = record { before = asked.before; after = asked.piece ∷ asked.after }
+
+-- all pieces of a question are valid
+pub all_others : (schema : Schema) (asked : AskedPiece) → All (IsPiece schema) asked.before → All (IsPiece schema) (asked.piece ∷ asked.after) → All (IsPiece schema) (asked.before ++ asked.after)
+all_others schema asked before after = All-append (IsPiece schema) asked.before asked.after before (All-tail (IsPiece schema) asked.piece asked.after after)
 
 -- ---- fates found so far
 
@@ -177,3 +188,9 @@ told_all schema pieces fates index round out le told =
 pub if_ok : {X E : Type 0} (P Q : X → Type 0) → ((x : X) → P x → Q x) → (result : Result X E) → IfOk result P → IfOk result Q
 if_ok P Q more (Ok x) is = more x is
 if_ok P Q more (Err error) is = tt
+
+pub number_within : (fates : List (Piece × Fate)) (index : ℕ) (item : Piece × Fate) → index < length fates → item ≡ get_or fates index item → All (λ (number : Piece). number.row + 1 < 2 ^ 64) (numbers_of fates) → item.0.row + 1 < 2 ^ 64
+number_within fates index item lt is within =
+    let number = λ (f : Piece × Fate). f.0 in
+    let long = length-map fates number in
+    subst (λ (n : Piece). n.row + 1 < 2 ^ 64) (get_or-map number fates index item item.0 lt ∙ ap number (sym is)) (within index item.0 (omega (arith, lt, long)))

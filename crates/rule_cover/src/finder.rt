@@ -44,8 +44,14 @@ fn cover_table(
     ensures { IfOk result (λ found. IsCover rules.now.schema (book_deps rules.now) table budget found.fates) }
 {
     let pieces = table_pieces(alloc, rules.deps().as_slice(), table)?;
-    let numbers = pieces.numbers.as_slice();
-    let fates = fates_of(alloc, rules.schema(), numbers, pieces.deps, budget)?;
+    let numbers = pieces.numbers;
+    let fates = fates_of(
+        alloc,
+        rules.schema(),
+        numbers.as_slice(),
+        pieces.deps,
+        budget,
+    )?;
     Ok(PieceFates { fates })
 }
 
@@ -67,11 +73,12 @@ fn fates_of(
     let mut round = Round::first(pieces);
     let mut fates = List::new(alloc);
     for number in numbers {
+        let number = *number;
         let asked = round.ask();
         let answer = implies_from(alloc, schema, asked.others(), asked.piece(), budget)?;
         let fate = fate_of(answer);
         round = asked.settle(fate.stays())?;
-        fates.push((*number, fate))?;
+        fates.push((number, fate))?;
     }
     Ok(fates)
 }
