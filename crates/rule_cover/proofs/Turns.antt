@@ -89,6 +89,14 @@ found_more schema budget pieces numbers index asked fates number fate lt is foun
   goes_on = λ rest right. subst (AreRight schema budget [] pieces) (sym (append_assoc fates ((number, fate) ∷ []) rest)) (found.goes_on ((number, fate) ∷ rest) (answer, right));
 }
 
+pub found_pushed : (schema : Schema) (budget : ℕ) (pieces : List Dep) (numbers : List Piece) (index : ℕ) (asked : AskedPiece) (fates longer : List (Piece × Fate)) (number : Piece) (fate : Fate)
+    → index < length numbers → longer ≡ fates ++ (number, fate) ∷ [] → number ≡ get_or numbers index number
+    → HasFound schema budget pieces numbers index (round_of asked) fates
+    → IsAnswer schema (asked.before ++ asked.after) asked.piece budget (answer_of fate)
+    → HasFound schema budget pieces numbers (index + 1) (next_round asked (stays fate)) longer
+found_pushed schema budget pieces numbers index asked fates longer number fate lt pushed is found answer =
+    subst (λ (all : List (Piece × Fate)). HasFound schema budget pieces numbers (index + 1) (next_round asked (stays fate)) all) (sym pushed) (found_more schema budget pieces numbers index asked fates number fate lt is found answer)
+
 right_end : (schema : Schema) (budget : ℕ) (before after : List Dep) → length after ≡ 0 → AreRight schema budget before after []
 right_end schema budget before [] none = tt
 right_end schema budget before (piece ∷ after) none = absurd (omega (arith, none))

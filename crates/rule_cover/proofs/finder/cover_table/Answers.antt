@@ -25,7 +25,7 @@ returns c =
     let read = c.as_slice.ensures ∙ c.deps.ensures.deps in
     let deps-are : c.in_ok-pieces.pieces.deps ≡ deps_in (table_pieces c.args.table (book_deps rules)) = c.in_ok-pieces.ensures.deps ∙ ap (λ (ds : List Dep). deps_in (table_pieces c.args.table ds)) read in
     is_cover rules.schema (book_deps rules) c.args.table c.args.budget fates (pieces_own c.args.table (book_deps rules)) (record {
-      numbers = c.in_ok-fates.ensures.numbers ∙ c.as_slice-numbers.ensures ∙ c.in_ok-pieces.ensures.numbers ∙ ap (λ (ds : List Dep). numbers_in (table_pieces c.args.table ds)) read;
+      numbers = c.in_ok-fates.ensures.numbers ∙ c.as_slice-2.ensures ∙ c.in_ok-pieces.ensures.numbers ∙ ap (λ (ds : List Dep). numbers_in (table_pieces c.args.table ds)) read;
       right =
           subst (λ (ds : List Dep). AreRight rules.schema c.args.budget [] ds fates) deps-are
           (subst (λ (schema : Schema). AreRight schema c.args.budget [] c.in_ok-pieces.pieces.deps fates) c.schema.ensures.schema c.in_ok-fates.ensures.right);

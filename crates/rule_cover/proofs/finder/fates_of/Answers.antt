@@ -1,5 +1,6 @@
 use Rattle.std.proofs.Common.{◌≡◌, ℕ, ◌+◌, Bool, ◌∷◌, ◌++◌, [], List, length, sym, ap, ◌∙◌, subst, arith}
 use Rattle.std.specs.Prelude.{All}
+use Rattle.std.proofs.lemmas.List.{get_or_default}
 use Rattle.std.proofs.lemmas.List.Elements.{All-head, All-weaker}
 use Rattle.rule_model.specs.Rules.{IsValidDep}
 use Rattle.rule_model.specs.declared.dep.Dep.{Dep}
@@ -10,7 +11,7 @@ use Rattle.rule_cover.specs.declared.fates.Piece.{Piece}
 use Rattle.rule_cover.specs.Fates.{AreRight, answer_of}
 use Rattle.rule_cover.specs.Pieces.{IsPiece}
 use Rattle.rule_cover.specs.Rounds.{Halves}
-use Rattle.rule_cover.proofs.Turns.{HasFound, all_others, found_all, found_more, found_none, next_round}
+use Rattle.rule_cover.proofs.Turns.{HasFound, all_others, found_all, found_none, found_pushed, next_round}
 use Rattle.rule_cover.proofs.finder.fates_of.Goals as goal
 
 pub loop-number-init : goal.loop-number-init
@@ -59,10 +60,9 @@ loop-number-preserved c =
     let of_piece = subst (λ (d : Dep). IsAnswer schema c.others.result.now d budget c.in_ok-answer.answer) c.piece.ensures c.in_ok-answer.ensures in
     let of_others = subst (λ (ds : List Dep). IsAnswer schema ds asked.piece budget c.in_ok-answer.answer) c.others.ensures of_piece in
     let answer = subst (λ (a : Implication). IsAnswer schema (asked.before ++ asked.after) asked.piece budget a) (sym c.fate_of-fate.ensures) of_others in
-    let more = found_more schema budget pieces numbers index asked c.loop-number.fates c.loop-number-item.result fate c.loop-number-test.true c.loop-number-item.is found answer in
-    subst (λ (fates : List (Piece × Fate)). HasFound schema budget pieces numbers (index + 1) c.in_ok-round.round fates) (sym c.in_ok-push.ensures.ok)
-    (subst (λ (round : Halves). HasFound schema budget pieces numbers (index + 1) round (c.loop-number.fates ++ (c.loop-number-item.result, fate) ∷ []))
-    (sym (c.in_ok-round.ensures ∙ ap (λ (b : Bool). next_round asked b) c.stays.ensures)) more)
+    let lt = c.loop-number-test.true in
+    let more = found_pushed schema budget pieces numbers index asked c.loop-number.fates c.push.new.self _ fate lt c.in_ok-push.ensures.ok (get_or_default numbers index _ _ lt) found answer in
+    subst (λ (round : Halves). HasFound schema budget pieces numbers (index + 1) round c.push.new.self) (sym (c.in_ok-round.ensures ∙ ap (λ (b : Bool). next_round asked b) c.stays.ensures)) more
 
 pub returns-clause-numbers : goal.returns-clause-numbers
 returns-clause-numbers c =
