@@ -72,10 +72,11 @@ fn told_of(alloc: Global, rules: &RuleBook, table: &Text, budget: u64) -> Result
     ensures whole { IfOk result (λ told. IsWhole told.status) }
 {
     match cover(alloc, rules, table.as_str(), budget) {
-        Ok(found) => Ok(Told {
-            text: cover_text(alloc, rules, &found)?,
-            status: status_of(found.fates.as_slice()),
-        }),
+        Ok(found) => {
+            let text = cover_text(alloc, rules, &found)?;
+            let status = status_of(found.fates.as_slice());
+            Ok(Told { text, status })
+        }
         Err(_) => Err(AllocError),
     }
 }
