@@ -5,7 +5,7 @@ use Rattle.std.specs.List.{list_all}
 use Rattle.std.specs.Str.{bytes_eq}
 use Rattle.std.specs.Str.Parse.{digits_value}
 use Rattle.call_words.specs.declared.form.Form.{Form}
-use Rattle.call_words.specs.declared.form.Form.TheVariants.{Check, Consistent, Generate, Implies, Report, Run}
+use Rattle.call_words.specs.declared.form.Form.TheVariants.{Check, Consistent, Cover, Generate, Implies, Report, Run}
 
 -- a word that isn't empty and doesn't begin with `-`
 abbrev pub is_plain : List ℕ → Bool
@@ -41,6 +41,7 @@ abbrev pub question_form : List ℕ → List ℕ → List ℕ → ℕ → Option
 question_form name project asked budget =
     if bytes_eq name (codes "consistent") then Some (Consistent project asked budget)
     else if bytes_eq name (codes "implies") then Some (Implies project asked budget)
+    else if bytes_eq name (codes "cover") then Some (Cover project asked budget)
     else None
 
 -- a project that is drawn off a number
@@ -77,5 +78,6 @@ IsFit (Run project) = Unit {0}
 IsFit (Report project) = Unit {0}
 IsFit (Consistent project table budget) = IsBudget budget
 IsFit (Implies project dep budget) = IsBudget budget
+IsFit (Cover project table budget) = IsBudget budget
 IsFit (Check project cert) = Unit {0}
 IsFit (Generate seed) = Unit {0}

@@ -30,6 +30,12 @@ pub enum Form {
         dep: Text,
         budget: u64,
     },
+    /// `cover PROJECT TABLE BUDGET`
+    Cover {
+        project: Text,
+        table: Text,
+        budget: u64,
+    },
     /// `check PROJECT CERT`
     Check {
         project: Text,
@@ -149,6 +155,13 @@ fn question_form(
         Ok(Some(Form::Implies {
             project,
             dep,
+            budget: leaves,
+        }))
+    } else if name.is("cover") {
+        let (project, table) = read_three(alloc, name, project, asked, budget)?;
+        Ok(Some(Form::Cover {
+            project,
+            table,
             budget: leaves,
         }))
     } else {

@@ -2,7 +2,7 @@
 use Rattle.std.specs.Prelude.{ℕ, List, Option, None, Some, Ok, codes}
 use Rattle.text_lists.specs.declared.limits.Limits.{Limits}
 use Rattle.call_words.specs.declared.form.Form.{Form}
-use Rattle.call_words.specs.declared.form.Form.TheVariants.{Check, Consistent, Generate, Implies, Report, Run}
+use Rattle.call_words.specs.declared.form.Form.TheVariants.{Check, Consistent, Cover, Generate, Implies, Report, Run}
 use Rattle.cli_output.specs.declared.status.Status.TheVariants.{Usage}
 use Rattle.cli_output.specs.Fetching.{given}
 use Rattle.cli_output.specs.Output.{Only, Task}
@@ -11,6 +11,7 @@ use Rattle.cfd_cli.specs.ReportForm.{report_task}
 use Rattle.cfd_cli.specs.RunForm.{run_task}
 use Rattle.rule_forms.specs.CheckForm.{check_task}
 use Rattle.rule_forms.specs.ConsistentForm.{consistent_task}
+use Rattle.rule_forms.specs.CoverForm.{cover_task}
 use Rattle.rule_forms.specs.ImpliesForm.{implies_task}
 use Rattle.call_words.specs.Words.{form_of}
 
@@ -33,6 +34,7 @@ form_task limits (Some (Run project)) = run_task limits project
 form_task limits (Some (Report project)) = report_task limits project
 form_task limits (Some (Consistent project table budget)) = consistent_task limits project table budget
 form_task limits (Some (Implies project dep budget)) = implies_task limits project dep budget
+form_task limits (Some (Cover project table budget)) = cover_task limits project table budget
 form_task limits (Some (Check project cert)) = check_task limits project cert
 form_task limits (Some (Generate seed)) = generate_task seed
 

@@ -11,7 +11,7 @@ use crate::run_form::run_project;
 use call_words::{Form, form_of};
 use cli_output::{Status, end_with};
 use probe_steps::Steps;
-use rule_forms::{check_project, consistent_project, implies_project};
+use rule_forms::{check_project, consistent_project, cover_project, implies_project};
 use schema_core::{Limits, Texts};
 use shelf_io::{Shelf, Sink};
 use std::alloc::{AllocError, Global};
@@ -104,6 +104,11 @@ fn answer<S: Shelf, O: Sink, L: Ledger>(
             dep,
             budget,
         } => implies_project(alloc, project, dep, *budget, shelf, out, limits),
+        Form::Cover {
+            project,
+            table,
+            budget,
+        } => cover_project(alloc, project, table, *budget, shelf, out, limits),
         Form::Check { project, cert } => check_project(alloc, project, cert, shelf, out, limits),
         Form::Generate { seed } => generate_project(alloc, *seed, out, steps),
     }

@@ -1,1 +1,2 @@
 pub mod CertAnswers
+pub mod CoverTables

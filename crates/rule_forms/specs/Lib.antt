@@ -1,4 +1,5 @@
 pub mod Certificates
 pub mod CheckForm
 pub mod ConsistentForm
+pub mod CoverForm
 pub mod ImpliesForm

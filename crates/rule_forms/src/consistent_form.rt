@@ -41,7 +41,7 @@ pub fn consistent_project<S: Shelf, O: Sink>(
 
 /// The rules of a project that has the table.
 #[tactic(auto, unfolding(crate::specs::ConsistentForm::fetch_known))]
-fn fetch_known<S: Shelf>(
+pub fn fetch_known<S: Shelf>(
     alloc: Global,
     shelf: &mut S,
     project: &Text,

@@ -5,8 +5,10 @@
 mod certificates;
 pub mod check_form;
 pub mod consistent_form;
+mod cover_form;
 pub mod implies_form;
 
 pub use check_form::check_project;
 pub use consistent_form::consistent_project;
+pub use cover_form::cover_project;
 pub use implies_form::implies_project;

@@ -1,0 +1,4 @@
+pub mod Satisfied
+pub mod Covers
+pub mod PieceFacts
+pub mod Turns

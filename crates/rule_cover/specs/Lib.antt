@@ -1,0 +1,5 @@
+pub mod Pieces
+pub mod Fates
+pub mod Rounds
+pub mod Cover
+pub mod CoverText
