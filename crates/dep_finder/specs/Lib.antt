@@ -1,0 +1,2 @@
+pub mod Deps
+pub mod FoundText

@@ -1,0 +1,141 @@
+//! What is found, as rules.
+ghost use Rattle.std.specs.Prelude.{◌≡◌, ◌≤◌, ◌<◌, ◌++◌, List, ℕ, Some, length, codes, decimal, All, IfErr, IfOk};
+ghost use Rattle.dep_search.specs.Found.{left_sides, side_at};
+ghost use Rattle.dep_search.specs.Keys.{IsCandidate};
+ghost use Rattle.dep_search.specs.Rows.{Row, row_at};
+ghost use Rattle.dep_search.specs.declared.candidate.Candidate.{Candidate};
+ghost use Rattle.dep_search.specs.declared.finder.FindFault.TheVariants.{TooMany};
+ghost use Rattle.dep_finder.specs.Deps.{AreFound, AreMore, IsOver, cell_of, cells_of, dep_of, deps_from, found_name, rule_of};
+
+use cfd_semantics::{Dependency, Pattern, TableauRow};
+use dep_search::{Candidate, FindFault, all_found, left_sides, sorted};
+use rule_model::{Cell, Dep};
+use schema_core::{List, Table, Text, Texts};
+use std::alloc::{AllocError, Global};
+
+/// The dependencies of at most so many attributes on the left that the rows of a table satisfy, and of which they satisfy no
+/// part: plain ones, and constant ones that at least so many rows match. They are named d1, d2 and so on.
+pub fn find_deps(
+    alloc: Global,
+    table: &Table,
+    number: usize,
+    rows: &List<Texts>,
+    width: usize,
+    support: usize,
+    most: usize,
+) -> Result<List<Dep>, FindFault>
+    requires rows { All (λ (row : Row). length row ≡ length table.now.attrs) rows.now }
+    requires some { 1 ≤ width }
+    requires narrow { width ≤ 3 }
+    requires support { 1 ≤ support }
+    ensures found { IfOk result (AreFound table.now number rows.now width support) }
+    ensures over { IfOk result (All (IsOver table.now.attrs)) }
+    ensures few { IfOk result (λ found. length found ≤ most) }
+    ensures many { IfErr result (λ fault. fault ≡ TooMany → AreMore table.now rows.now width support most) }
+{
+    let rows = rows.as_slice();
+    let attrs = table.attrs.as_slice().len();
+    let sides = left_sides(alloc, attrs, width)?;
+    let found = all_found(alloc, rows, attrs, support, sides.as_slice(), most)?;
+    let found = sorted(alloc, rows, sides.as_slice(), found.as_slice())?;
+    Ok(deps_of(alloc, number, rows, sides.as_slice(), found.as_slice())?)
+}
+
+fn deps_of(
+    alloc: Global,
+    number: usize,
+    rows: &[Texts],
+    sides: &[List<usize>],
+    found: &[Candidate],
+) -> Result<List<Dep>, AllocError>
+    requires { All (IsCandidate rows.now sides.now) found.now }
+    ensures { IfOk result (λ deps. deps ≡ deps_from number rows.now sides.now 0 found.now) }
+{
+    let mut deps = List::new(alloc);
+    for place in 0..found.len() {
+        deps.push(dep_of(alloc, number, rows, sides, place, &found[place])?)?;
+    }
+    Ok(deps)
+}
+
+fn dep_of(
+    alloc: Global,
+    number: usize,
+    rows: &[Texts],
+    sides: &[List<usize>],
+    place: usize,
+    candidate: &Candidate,
+) -> Result<Dep, AllocError>
+    requires candidate { IsCandidate rows.now sides.now candidate.now }
+    requires place { place < 9223372036854775808 }
+    ensures { IfOk result (λ dep. dep ≡ dep_of number rows.now sides.now place candidate.now) }
+{
+    Ok(Dep {
+        name: numbered(alloc, place + 1)?,
+        table: number,
+        rule: rule_of(alloc, rows, sides[candidate.side].as_slice(), candidate)?,
+    })
+}
+
+fn numbered(alloc: Global, number: usize) -> Result<Text, AllocError>
+    ensures { IfOk result (λ name. name ≡ codes "d" ++ decimal number) }
+{
+    Ok(Text::from(format!(in alloc; "d{number}")?))
+}
+
+fn rule_of(
+    alloc: Global,
+    rows: &[Texts],
+    x: &[usize],
+    candidate: &Candidate,
+) -> Result<Dependency<Text>, AllocError>
+    requires row { (r : ℕ) → candidate.now.row ≡ Some r → r < length rows.now }
+    requires x { (r : ℕ) → candidate.now.row ≡ Some r → All (λ attr. attr < length (row_at rows.now r)) x.now }
+    requires a { (r : ℕ) → candidate.now.row ≡ Some r → candidate.now.a < length (row_at rows.now r) }
+    ensures { IfOk result (λ rule. rule ≡ rule_of rows.now x.now candidate.now) }
+{
+    let row = TableauRow {
+        x: cells_of(alloc, rows, candidate.row, x)?,
+        a: cell_of(alloc, rows, candidate.row, candidate.a)?,
+    };
+    let mut tableau = List::new(alloc);
+    tableau.push(row)?;
+    Ok(Dependency {
+        x: List::from(Vec::from_slice(alloc, x)?),
+        a: candidate.a,
+        rows: tableau,
+    })
+}
+
+fn cells_of(
+    alloc: Global,
+    rows: &[Texts],
+    row: Option<usize>,
+    attrs: &[usize],
+) -> Result<List<Cell>, AllocError>
+    requires row { (r : ℕ) → row ≡ Some r → r < length rows.now }
+    requires attrs { (r : ℕ) → row ≡ Some r → All (λ attr. attr < length (row_at rows.now r)) attrs.now }
+    ensures { IfOk result (λ cells. cells ≡ cells_of rows.now row attrs.now) }
+{
+    let mut cells = List::new(alloc);
+    for attr in attrs {
+        cells.push(cell_of(alloc, rows, row, *attr)?)?;
+    }
+    Ok(cells)
+}
+
+fn cell_of(
+    alloc: Global,
+    rows: &[Texts],
+    row: Option<usize>,
+    attr: usize,
+) -> Result<Cell, AllocError>
+    requires row { (r : ℕ) → row ≡ Some r → r < length rows.now }
+    requires attr { (r : ℕ) → row ≡ Some r → attr < length (row_at rows.now r) }
+    ensures { IfOk result (λ cell. cell ≡ cell_of rows.now row attr) }
+{
+    match row {
+        None => Ok(Pattern::Any),
+        Some(r) => Ok(Pattern::Is(rows[r].as_slice()[attr].clone()?)),
+    }
+}

@@ -1,0 +1,7 @@
+pub mod Counted
+pub mod Told
+pub mod Parted
+pub mod Listed
+pub mod Kept
+pub mod InOrder
+pub mod Candidates
