@@ -18,6 +18,3 @@ pub use candidate::Candidate;
 pub use finder::{FindFault, all_found};
 pub use sides::left_sides;
 pub use sorting::sorted;
-
-#[cfg(test)]
-mod tests;
