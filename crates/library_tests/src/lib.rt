@@ -5,8 +5,6 @@
 #[cfg(test)]
 mod checked_trees;
 #[cfg(test)]
-mod drawn_lines;
-#[cfg(test)]
 mod edit_refusals;
 #[cfg(test)]
 mod fix_runs;
