@@ -8,7 +8,7 @@ use std::alloc::AllocError;
 use std::env;
 use std::io::ErrorKind;
 use std::process::ExitCode;
-use std::rt::Env;
+use std::rt::{Env, Files};
 use text_lists::{List, Text, Texts};
 
 // The words after the program's name. Where one of them isn't UTF-8 there are none, which have no form either.
@@ -26,13 +26,28 @@ fn words_of<R: Env + AllocGlobal>(rt: &R) -> Result<Texts, AllocError> {
     Ok(words)
 }
 
+// One line on standard error where the status alone says how the call ended.
+fn tell<R: Files>(rt: HostRuntime, status: Status, shelf: &FolderShelf<R>) {
+    let _told = match (status, shelf.unread()) {
+        (Status::ReadFault, Some(unread)) => {
+            eprintln!(rt; "cfdbench: {}: {}", unread.name, unread.error)
+        }
+        (Status::ReadFault, None) => eprintln!(rt; "cfdbench: a file couldn't be read"),
+        (Status::WriteFault, _) => eprintln!(rt; "cfdbench: standard output took no more"),
+        (Status::Memory, _) => eprintln!(rt; "cfdbench: there wasn't enough memory"),
+        _ => Ok(()),
+    };
+}
+
 fn main(rt: HostRuntime) -> ExitCode {
     let alloc = rt.alloc();
     let status = match words_of(&rt) {
         Ok(words) => {
             let mut shelf = FolderShelf::new(alloc, rt);
             let mut out = StdSink::new(rt);
-            run(alloc, &words, &mut shelf, &mut out)
+            let status = run(alloc, &words, &mut shelf, &mut out);
+            tell(rt, status, &shelf);
+            status
         }
         Err(AllocError) => Status::Memory,
     };

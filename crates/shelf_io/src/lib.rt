@@ -14,7 +14,7 @@ mod std_sink;
 mod steady_shelf;
 mod steady_sink;
 
-pub use folder_shelf::FolderShelf;
+pub use folder_shelf::{FolderShelf, Unread};
 pub use memory_shelf::MemoryShelf;
 pub use memory_sink::MemorySink;
 pub use shelf::{FetchFault, Shelf};

@@ -98,6 +98,8 @@ fn the_folder_is_read(rt: HostRuntime) -> Result<(), Fail> {
     ] {
         assert_eq!(rt; shelf.fetch(name, 9).err(), Some(want), "{name}");
     }
+    let unread = shelf.unread().map(|unread| unread.name.as_str());
+    assert_eq!(rt; unread, Some("/dev/null/x"));
     assert_eq!(rt;
         (
             shelf.counts.calls,
