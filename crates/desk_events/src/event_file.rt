@@ -175,11 +175,7 @@ impl<'a> Gather<Line<'a>> for Events {
 
 /// The events that a file spells, one a line, or the first faulty line, counted from 1, with its cause.
 #[tactic(auto, unfolding(crate::specs::EventFiles::events_of))]
-pub fn parse_events(
-    alloc: Global,
-    bytes: &[u8],
-    limits: &Limits,
-) -> Result<List<Event>, EventFault>
+pub fn parse_events(alloc: Global, bytes: &[u8], limits: &Limits) -> Result<List<Event>, EventFault>
     ensures exact { IsUnlessMemory line_tells (events_of limits.now bytes.now) result }
     ensures count { IfOk result (λ events. length events ≤ limits.now.commands) }
 {
