@@ -1,4 +1,0 @@
-pub mod Ends
-pub mod FullTables
-pub mod Reports
-pub mod TableLoop

@@ -6,10 +6,10 @@ use Rattle.call_words.specs.declared.form.Form.TheVariants.{Check, Consistent, C
 use Rattle.cli_output.specs.declared.status.Status.TheVariants.{Usage}
 use Rattle.cli_output.specs.Fetching.{given}
 use Rattle.cli_output.specs.Output.{Only, Task}
-use Rattle.cfd_cli.specs.DeskForm.{desk_task}
-use Rattle.cfd_cli.specs.GenerateForm.{generate_task}
-use Rattle.cfd_cli.specs.ReportForm.{report_task}
-use Rattle.cfd_cli.specs.RunForm.{run_task}
+use Rattle.project_forms.specs.DeskForm.{desk_task}
+use Rattle.project_forms.specs.GenerateForm.{generate_task}
+use Rattle.project_forms.specs.ReportForm.{report_task}
+use Rattle.project_forms.specs.RunForm.{run_task}
 use Rattle.rule_forms.specs.CheckForm.{check_task}
 use Rattle.rule_forms.specs.ConsistentForm.{consistent_task}
 use Rattle.rule_forms.specs.CoverForm.{cover_task}

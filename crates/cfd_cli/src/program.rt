@@ -5,13 +5,10 @@ ghost use Rattle.cfd_cli.specs.Forms.{form_task, task_of, usage_line};
 ghost use Rattle.cli_output.specs.Output.{Output, UsesDevices, Writes};
 ghost use Rattle.call_words.specs.Words.{HasForm, IsFit};
 
-use crate::desk_form::desk_project;
-use crate::generate_form::generate_project;
-use crate::report_form::report_project;
-use crate::run_form::run_project;
 use call_words::{Form, form_of};
 use cli_output::{Status, end_with};
 use probe_steps::Steps;
+use project_forms::{desk_project, generate_project, report_project, run_project};
 use rule_forms::{check_project, consistent_project, cover_project, implies_project};
 use schema_core::{Limits, Texts};
 use shelf_io::{Shelf, Sink};

@@ -3,7 +3,7 @@ use Rattle.call_words.specs.declared.form.Form.{Form}
 use Rattle.cli_output.specs.Output.{Output, Writes}
 use Rattle.cli_output.proofs.Outputs.{output-found}
 use Rattle.cfd_cli.specs.Forms.{form_task}
-use Rattle.cfd_cli.specs.GenerateForm.{generate_task}
+use Rattle.project_forms.specs.GenerateForm.{generate_task}
 use Rattle.cfd_cli.proofs.program.answer.Goals as goal
 
 pub returns-in-Generate-clause-written : goal.returns-in-Generate-clause-written

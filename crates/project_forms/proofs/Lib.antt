@@ -1,0 +1,4 @@
+pub mod Ends
+pub mod FullTables
+pub mod Reports
+pub mod TableLoop

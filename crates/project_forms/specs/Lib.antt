@@ -1,0 +1,6 @@
+pub mod DeskForm
+pub mod GenerateForm
+pub mod Project
+pub mod ReportForm
+pub mod RunForm
+pub mod Transcripts

@@ -1,0 +1,92 @@
+//! The form `report PROJECT`: the list of the state that the project's script leads to, as JSON.
+ghost use Rattle.std.specs.Prelude.{◌≡◌, IfOk};
+ghost use Rattle.text_lists.specs.Limits.{AreLimits};
+ghost use Rattle.violation_report.specs.Listing.{listing};
+ghost use Rattle.violation_report.specs.Report.{report_text};
+ghost use Rattle.cli_output.specs.Output.{Ends, Output, UsesDevices, Writes};
+ghost use Rattle.project_forms.specs.Project.{read_of};
+ghost use Rattle.project_forms.specs.ReportForm.{report_of, report_outputs, report_task};
+ghost use Rattle.project_forms.specs.Transcripts.{found_status};
+
+use crate::project::{Project, fetch_project};
+use bench_core::Bench;
+use cli_output::{Status, end_by, end_with};
+use probe_steps::Steps;
+use schema_core::{Limits, Text};
+use session::serve;
+use shelf_io::{Shelf, Sink, SteadySink};
+use std::alloc::{AllocError, Global};
+use std::sync::ledger::Ledger;
+use violation_report::{json_report, list};
+
+/// Tells what the script of a project leads to.
+pub fn report_project<S: Shelf, O: Sink, L: Ledger>(
+    alloc: Global,
+    project: &Text,
+    shelf: &mut S,
+    out: &mut O,
+    limits: &Limits,
+    steps: &mut Steps<L>,
+) -> Status
+    requires { AreLimits limits.now }
+    ensures written { Writes (Output limits.now (report_task limits.now project.now) (S.told shelf.old).holding) result (O.told out.old).written (O.told out.new).written }
+    ensures devices { UsesDevices limits.now (report_task limits.now project.now) result (S.told shelf.old) (S.told shelf.new) (O.told out.old) (O.told out.new) }
+{
+    let mut left = limits.all_bytes;
+    match fetch_project(alloc, shelf, project, limits, &mut left, steps) {
+        Ok(project) => report(alloc, project, out, steps),
+        Err(stop) => end_by(alloc, &stop, out),
+    }
+}
+
+/// Answers the script with no one listening, and tells the list of its last state.
+fn report<O: Sink, L: Ledger>(
+    alloc: Global,
+    project: Project,
+    out: &mut O,
+    steps: &mut Steps<L>,
+) -> Status
+    ensures { Ends (report_outputs (read_of project)) result (O.told out.old) (O.told out.new) }
+{
+    let Project {
+        mut bench,
+        commands,
+    } = project;
+    let mut unheard = SteadySink::new();
+    match serve(alloc, &mut bench, &commands, &mut unheard, steps) {
+        Ok(()) => tell(alloc, &bench, out, steps),
+        Err(_) => Status::Memory,
+    }
+}
+
+/// Tells the list of the bench.
+fn tell<O: Sink, L: Ledger>(
+    alloc: Global,
+    bench: &Bench,
+    out: &mut O,
+    steps: &mut Steps<L>,
+) -> Status
+    ensures { Ends (report_of bench.now.rules bench.now.history.present) result (O.told out.old) (O.told out.new) }
+{
+    match report_of(alloc, bench, steps) {
+        Ok((text, status)) => end_with(out, &text, status),
+        Err(AllocError) => Status::Memory,
+    }
+}
+
+fn report_of<L: Ledger>(
+    alloc: Global,
+    bench: &Bench,
+    steps: &mut Steps<L>,
+) -> Result<(Vec<u8>, Status), AllocError>
+    ensures text { IfOk result (λ report. report.0.items ≡ report_text bench.now.rules (listing bench.now.rules bench.now.history.present)) }
+    ensures status { IfOk result (λ report. report.1 ≡ found_status (listing bench.now.rules bench.now.history.present)) }
+{
+    let lines = list(alloc, bench, steps)?;
+    let text = json_report(alloc, bench.rules(), &lines)?;
+    if lines.as_slice().is_empty() {
+        Ok((text, Status::Clean))
+    } else {
+        Ok((text, Status::Findings))
+    }
+}

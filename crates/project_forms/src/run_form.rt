@@ -1,0 +1,70 @@
+//! The form `run PROJECT`: answers the project's script.
+ghost use Rattle.text_lists.specs.Limits.{AreLimits};
+ghost use Rattle.violation_report.specs.Listing.{listing};
+ghost use Rattle.cli_output.specs.Output.{Ends, Output, UsesDevices, Writes};
+ghost use Rattle.project_forms.specs.Project.{read_of};
+ghost use Rattle.project_forms.specs.RunForm.{run_outputs, run_task};
+ghost use Rattle.project_forms.specs.Transcripts.{HasStatus};
+
+use crate::project::{Project, fetch_project};
+use bench_core::Bench;
+use cli_output::{Status, end_by};
+use probe_steps::Steps;
+use schema_core::{Limits, Text};
+use session::{ServeFault, serve};
+use shelf_io::{Shelf, Sink};
+use std::alloc::{AllocError, Global};
+use std::sync::ledger::Ledger;
+use violation_report::count;
+
+/// Answers the script of a project.
+pub fn run_project<S: Shelf, O: Sink, L: Ledger>(
+    alloc: Global,
+    project: &Text,
+    shelf: &mut S,
+    out: &mut O,
+    limits: &Limits,
+    steps: &mut Steps<L>,
+) -> Status
+    requires { AreLimits limits.now }
+    ensures written { Writes (Output limits.now (run_task limits.now project.now) (S.told shelf.old).holding) result (O.told out.old).written (O.told out.new).written }
+    ensures devices { UsesDevices limits.now (run_task limits.now project.now) result (S.told shelf.old) (S.told shelf.new) (O.told out.old) (O.told out.new) }
+{
+    let mut left = limits.all_bytes;
+    match fetch_project(alloc, shelf, project, limits, &mut left, steps) {
+        Ok(project) => answer(alloc, project, out, steps),
+        Err(stop) => end_by(alloc, &stop, out),
+    }
+}
+
+/// Answers the script, and tells whether its last state has a violation.
+fn answer<O: Sink, L: Ledger>(
+    alloc: Global,
+    project: Project,
+    out: &mut O,
+    steps: &mut Steps<L>,
+) -> Status
+    ensures { Ends (run_outputs (read_of project)) result (O.told out.old) (O.told out.new) }
+{
+    let Project {
+        mut bench,
+        commands,
+    } = project;
+    match serve(alloc, &mut bench, &commands, out, steps) {
+        Ok(()) => status_of(&bench, steps),
+        Err(ServeFault::WriteFault) => Status::WriteFault,
+        Err(ServeFault::Memory) => Status::Memory,
+    }
+}
+
+// The lines are counted, and not listed.
+#[tactic(auto, using(crate::proofs::Reports::none_counted, crate::proofs::Reports::some_counted))]
+pub fn status_of<L: Ledger>(bench: &Bench, steps: &mut Steps<L>) -> Status
+    ensures { HasStatus (listing bench.now.rules bench.now.history.present) result }
+{
+    match count(bench, steps) {
+        Ok(lines) if lines == 0 => Status::Clean,
+        Ok(_) => Status::Findings,
+        Err(AllocError) => Status::Memory,
+    }
+}

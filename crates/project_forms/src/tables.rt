@@ -1,0 +1,100 @@
+//! The files of the tables, and the bench of what they hold.
+ghost use Rattle.std.specs.Prelude.{◌≡◌, length, map, All, IfOk};
+ghost use Rattle.std.specs.List.{AllZip};
+ghost use Rattle.text_lists.specs.Limits.{AreLimits};
+ghost use Rattle.schema_core.specs.Rows.{IsRowOf};
+ghost use Rattle.bench_core.specs.Loading.{AreTables, loaded};
+ghost use Rattle.csv_tables.specs.TableFiles.{table_of};
+ghost use Rattle.cli_output.specs.Fetching.{Fetches, Reads, about};
+ghost use Rattle.project_forms.specs.Project.{bench_of, fetch_table, fetch_tables, tabled, tables_of};
+
+use bench_core::{Bench, LoadFault};
+use cli_output::{Cause, Stop, fetch_file, refused};
+use csv_tables::{TableFault, read_table};
+use probe_steps::Steps;
+use rule_model::RuleBook;
+use schema_core::{Limits, List, Schema, Table, Texts};
+use shelf_io::Shelf;
+use std::alloc::{AllocError, Global};
+use std::sync::ledger::Ledger;
+
+/// The rows of each table, in the order of the schema.
+pub fn fetch_tables<S: Shelf>(
+    alloc: Global,
+    shelf: &mut S,
+    tables: &[Table],
+    limits: &Limits,
+    left: &mut u64,
+) -> Result<List<List<Texts>>, Stop>
+    requires { AreLimits limits.now }
+    ensures tables { Fetches (fetch_tables limits.now tables.now) (λ all. all) (length tables.now) result (S.told shelf.old) (S.told shelf.new) left.old left.new }
+    ensures valid { IfOk result (λ all. AllZip (λ table rows. All (IsRowOf table.attrs limits.now.cell_bytes) rows) tables.now all) }
+{
+    let mut all = List::new(alloc);
+    for table in tables {
+        let rows = fetch_table(alloc, shelf, table, limits, left)?;
+        all.push(rows)?;
+    }
+    Ok(all)
+}
+
+#[tactic(auto, unfolding(crate::specs::Project::fetch_table))]
+fn fetch_table<S: Shelf>(
+    alloc: Global,
+    shelf: &mut S,
+    table: &Table,
+    limits: &Limits,
+    left: &mut u64,
+) -> Result<List<Texts>, Stop>
+    requires { AreLimits limits.now }
+    ensures table { Fetches (fetch_table limits.now table.now) (λ rows. rows) 1 result (S.told shelf.old) (S.told shelf.new) left.old left.new }
+    ensures valid { IfOk result (All (IsRowOf table.now.attrs limits.now.cell_bytes)) }
+{
+    let bytes = fetch_file(shelf, &table.file, limits, left)?;
+    rows_of(alloc, table, &bytes, limits)
+}
+
+fn rows_of(alloc: Global, table: &Table, bytes: &[u8], limits: &Limits) -> Result<List<Texts>, Stop>
+    requires { AreLimits limits.now }
+    ensures rows { Reads (about table.now.file (tabled (table_of table.now limits.now bytes.now))) (λ rows. rows) result }
+    ensures valid { IfOk result (All (IsRowOf table.now.attrs limits.now.cell_bytes)) }
+{
+    match read_table(alloc, table, bytes, limits) {
+        Ok(rows) => Ok(rows),
+        Err(TableFault::Memory) => Err(Stop::Memory),
+        Err(fault) => refused(&table.file, Cause::Table(fault)),
+    }
+}
+
+/// The bench of tables that were read.
+pub fn load<L: Ledger>(
+    alloc: Global,
+    rules: RuleBook,
+    tables: List<List<Texts>>,
+    limits: &Limits,
+    steps: &mut Steps<L>,
+) -> Result<Bench, Stop>
+    requires limits { AreLimits limits.now }
+    requires tables { AreTables rules.schema limits.now.cell_bytes tables }
+    ensures { Reads (bench_of rules limits.now (loaded rules limits.now tables)) tables_of result }
+{
+    let names = file_names(alloc, rules.schema())?;
+    match Bench::load(alloc, rules, tables, *limits, steps) {
+        Ok(bench) => Ok(bench),
+        Err(LoadFault::RowsFull { table }) => {
+            let name = &names.as_slice()[table];
+            refused(name, Cause::RowsFull)
+        }
+        Err(LoadFault::Memory) => Err(Stop::Memory),
+    }
+}
+
+fn file_names(alloc: Global, schema: &Schema) -> Result<Texts, AllocError>
+    ensures { IfOk result (λ names. names ≡ map (λ table. table.file) schema.now.tables) }
+{
+    let mut names = List::new(alloc);
+    for table in schema.tables.as_slice() {
+        names.push(table.file.clone()?)?;
+    }
+    Ok(names)
+}
