@@ -1,0 +1,2 @@
+pub mod EachHasReply
+pub mod CountedReplies
