@@ -29,8 +29,8 @@ loop-event-preserved g c =
       answered = answers-more IsReply start c.loop-event.desk c.answer_one.new.desk c.args.events.now c.loop-event.event-index c.event-item.result _ between now here item so_far.answered next;
       counted = answers-more IsCountedReply (start, c.args.steps.now) (c.loop-event.desk, c.loop-event.steps) (c.answer_one.new.desk, c.answer_one.new.steps) c.args.events.now c.loop-event.event-index c.event-item.result _ between now here item so_far.counted counted;
       rules = c.answer_one.ensures.made_with.0 ∙ so_far.rules;
-      limits = c.answer_one.ensures.made_with.1.0 ∙ so_far.limits;
-      last = c.answer_one.ensures.made_with.1.1 ∙ so_far.last;
+      limits = c.answer_one.ensures.made_with.1 ∙ so_far.limits;
+      last = c.answer_one.ensures.made_with.2 ∙ so_far.last;
       faults = omega (arith, so_far.faults, c.answer_one.ensures.faults);
     }
 
