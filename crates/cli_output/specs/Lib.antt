@@ -3,3 +3,4 @@ pub mod Output
 pub mod Refusals
 pub mod RuleFiles
 pub mod Statuses
+pub mod TableFiles

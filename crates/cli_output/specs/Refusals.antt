@@ -99,6 +99,7 @@ cause_text (cause.Table fault) = table_text fault
 cause_text (cause.Line line why) = flaw_text why ++ at_line line
 cause_text cause.RowsFull = codes "RowsFull"
 cause_text cause.UnknownTable = codes "UnknownTable"
+cause_text cause.TooManyFound = codes "TooMany found"
 
 -- the line for a file or a word
 abbrev pub refusal_line : List ℕ → Cause → List ℕ

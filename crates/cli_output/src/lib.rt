@@ -8,9 +8,11 @@ pub mod fetching;
 pub mod refusal;
 pub mod rule_files;
 pub mod status;
+pub mod table_files;
 
 pub use ending::{end_by, end_with};
 pub use fetching::{Stop, fetch_file, refused};
 pub use refusal::{Cause, LineFlaw, Refusal, refusal_line};
 pub use rule_files::{fetch_book, fetch_rules, fetch_schema};
 pub use status::Status;
+pub use table_files::fetch_table;

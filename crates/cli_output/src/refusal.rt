@@ -31,6 +31,8 @@ pub enum Cause {
     RowsFull,
     /// A word is the name of no table.
     UnknownTable,
+    /// More dependencies hold in a table than are written.
+    TooManyFound,
 }
 
 /// What is refused, the name of a file or a word, and why.
@@ -74,6 +76,7 @@ fn push_cause(line: &mut Vec<u8>, cause: &Cause) -> Result<(), AllocError>
         }
         Cause::RowsFull => line.extend_from_slice(b"RowsFull"),
         Cause::UnknownTable => line.extend_from_slice(b"UnknownTable"),
+        Cause::TooManyFound => line.extend_from_slice(b"TooMany found"),
     }
 }
 

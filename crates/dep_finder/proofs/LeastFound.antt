@@ -1,0 +1,85 @@
+-- The rules of what is found are the least ones.
+use Rattle.std.proofs.Common.{◌≡◌, ℕ, ◌<◌, ◌≤◌, suc, List, [], ◌∷◌, map, length, Some, All, refl, sym, ap, subst, ◌∙◌}
+use Rattle.std.specs.List.{Contains}
+use Rattle.std.proofs.lemmas.List.Elements.{All-map}
+use Rattle.std.proofs.lemmas.List.Sorted.{All-permutation, Contains-permutation}
+use Rattle.cfd_semantics.specs.declared.dependency.Dependency.{Dependency}
+use Rattle.cfd_semantics.proofs.Members.{contains-map}
+use Rattle.dep_search.specs.Found.{IsFound, IsInOrder, all_found, left_sides, side_at}
+use Rattle.dep_search.specs.Rows.{Row, row_at}
+use Rattle.dep_search.specs.declared.candidate.Candidate.{Candidate}
+use Rattle.rule_model.specs.declared.dep.Dep.{Dep}
+use Rattle.dep_finder.specs.Deps.{deps_from, rule_of}
+use Rattle.dep_finder.specs.Minimal.{AreLeast, Hold, IsCandidate, IsMinimal, LeavesOne, constant, part, plain}
+use Rattle.dep_finder.specs.Minimal.IsCandidate.{as_constant, as_plain}
+use Rattle.dep_finder.proofs.Meaning.{AreWide, text_at, texts_at}
+use Rattle.dep_finder.proofs.Laws.{constant_cells, constant_left, constant_minimal, constants_of, part_plain, plain_left, plain_minimal, sides_of, tests_of}
+use Rattle.dep_finder.proofs.FoundLists.{constant_of, found_each, plain_of, sides_are}
+
+abbrev pub rules_of : List Row → List (List ℕ) → List Candidate → List (Dependency (List ℕ))
+rules_of rows sides found = map (λ (c : Candidate). rule_of rows (side_at sides c.side) c) found
+
+module _ (rows : List Row) (attrs width support : ℕ) (wide : AreWide attrs rows) (some : 1 ≤ support) (found : List Candidate) (is : IsFound rows attrs width support found) where
+  abbrev sides : List (List ℕ)
+  sides = left_sides attrs width
+
+  abbrev rule : Candidate → Dependency (List ℕ)
+  rule c = rule_of rows (side_at sides c.side) c
+
+  -- what is so of each that is found is so of the rules
+  each_rule : (P : Dependency (List ℕ) → Type 0) → All (λ (c : Candidate). P (rule c)) (all_found rows support attrs sides) → All P (rules_of rows sides found)
+  each_rule P all = All-map P rule found (All-permutation (λ (c : Candidate). P (rule c)) (all_found rows support attrs sides) found is.all all)
+
+  has_rule : (c : Candidate) → Contains (all_found rows support attrs sides) c → Contains (rules_of rows sides found) (rule c)
+  has_rule c among = contains-map rule found c (Contains-permutation (all_found rows support attrs sides) found c is.all among)
+
+  candidates : All (IsCandidate rows attrs width support) (rules_of rows sides found)
+  candidates = each_rule (IsCandidate rows attrs width support) (found_each (λ (c : Candidate). IsCandidate rows attrs width support (rule c)) rows support attrs sides
+      (λ side a sl al outside test. as_plain (side_at sides side) a (sides_of attrs width (side_at sides side) a (sides_are attrs width side [] sl) al outside) refl)
+      (λ side a r sl al outside rl test. as_constant (side_at sides side) a (texts_at rows r (side_at sides side)) (text_at rows r a)
+      (sides_of attrs width (side_at sides side) a (sides_are attrs width side [] sl) al outside)
+      (constants_of rows support (side_at sides side) a r (tests_of rows support (side_at sides side) a r test))
+      (constant_cells (row_at rows r) (side_at sides side) a (text_at rows r a))))
+
+  minimal : All (IsMinimal rows) (rules_of rows sides found)
+  minimal = each_rule (IsMinimal rows) (found_each (λ (c : Candidate). IsMinimal rows (rule c)) rows support attrs sides
+      (λ side a sl al outside test. plain_minimal rows attrs (side_at sides side) a wide (sides_are attrs width side [] sl).within al test)
+      (λ side a r sl al outside rl test. subst (IsMinimal rows) (constant_cells (row_at rows r) (side_at sides side) a (text_at rows r a))
+      (constant_minimal rows attrs support (side_at sides side) a r wide (sides_are attrs width side [] sl).within al test)))
+
+  enough : (rule : Dependency (List ℕ)) → IsCandidate rows attrs width support rule → Hold rows rule → LeavesOne (rules_of rows sides found) rule
+  enough rule (as_plain x a are same) holds =
+      let left = plain_left rows attrs width support x a wide are (subst (Hold rows) (sym same) holds) in
+      subst (LeavesOne (rules_of rows sides found)) same
+      (left.kept, subst (Contains (rules_of rows sides found)) (ap (λ (y : List ℕ). plain y a) left.is ∙ sym (part_plain left.kept x a)) (has_rule (plain_of a left.side) left.found))
+  enough rule (as_constant x a values value are constants same) holds =
+      let left = constant_left rows attrs width support x a values value wide some are constants (subst (Hold rows) (sym same) holds) in
+      subst (LeavesOne (rules_of rows sides found)) same
+      (left.kept, subst (Contains (rules_of rows sides found))
+      (sym (constant_cells (row_at rows left.r) (side_at sides left.side) a (text_at rows left.r a))
+      ∙ ap (λ (y : List ℕ). constant y a (texts_at rows left.r y) (text_at rows left.r a)) left.is ∙ sym left.same)
+      (has_rule (constant_of a left.side left.r) left.found))
+
+  pub are_least : AreLeast rows attrs width support (rules_of rows sides found)
+  are_least = record { candidates = candidates; minimal = minimal; enough = enough }
+
+-- ---- the rules of dependencies that are named
+
+rules_from : (number : ℕ) (rows : List Row) (sides : List (List ℕ)) (start : ℕ) (found : List Candidate)
+    → map (λ (dep : Dep). dep.rule) (deps_from number rows sides start found) ≡ rules_of rows sides found
+rules_from number rows sides start [] = refl
+rules_from number rows sides start (c ∷ found) = ap (λ (rules : List (Dependency (List ℕ))). rule_of rows (side_at sides c.side) c ∷ rules) (rules_from number rows sides (suc start) found)
+
+-- what is searched, sorted and named, each step over the same left sides
+pub record AreNamed (number : ℕ) (rows : List Row) (attrs width support : ℕ) (deps : List Dep) : Type 0 where
+  pub all : List Candidate
+  pub sorted : List Candidate
+  pub is_all : all ≡ all_found rows support attrs (left_sides attrs width)
+  pub in_order : IsInOrder rows (left_sides attrs width) all sorted
+  pub named : deps ≡ deps_from number rows (left_sides attrs width) 0 sorted
+
+pub named_least : (number : ℕ) (rows : List Row) (attrs width support : ℕ) (deps : List Dep) → AreWide attrs rows → 1 ≤ support → AreNamed number rows attrs width support deps
+    → AreLeast rows attrs width support (map (λ (dep : Dep). dep.rule) deps)
+named_least number rows attrs width support deps wide some are =
+    subst (AreLeast rows attrs width support) (sym (ap (map (λ (dep : Dep). dep.rule)) are.named ∙ rules_from number rows (left_sides attrs width) 0 are.sorted))
+    (are_least rows attrs width support wide some are.sorted (subst (λ (all : List Candidate). IsInOrder rows (left_sides attrs width) all are.sorted) are.is_all are.in_order))
