@@ -7,6 +7,7 @@ ghost use Rattle.call_words.specs.Words.{HasForm, IsFit};
 
 use call_words::{Form, form_of};
 use cli_output::{Status, end_with};
+use find_form::find_project;
 use probe_steps::Steps;
 use project_forms::{desk_project, generate_project, report_project, run_project};
 use rule_forms::{check_project, consistent_project, cover_project, implies_project};
@@ -108,6 +109,21 @@ fn answer<S: Shelf, O: Sink, L: Ledger>(
             budget,
         } => cover_project(alloc, project, table, *budget, shelf, out, limits),
         Form::Check { project, cert } => check_project(alloc, project, cert, shelf, out, limits),
+        Form::Find {
+            project,
+            table,
+            width,
+            support,
+        } => find_project(
+            alloc,
+            project,
+            table,
+            *width as usize,
+            *support as usize,
+            shelf,
+            out,
+            limits,
+        ),
         Form::Desk { project, events } => {
             desk_project(alloc, project, events, shelf, out, limits, steps)
         }

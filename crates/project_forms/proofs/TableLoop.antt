@@ -11,7 +11,8 @@ use Rattle.cli_output.specs.declared.fetching.Stop.{Stop}
 use Rattle.cli_output.specs.declared.fetching.Stop.TheVariants.{Refused, ReadFault, Memory}
 use Rattle.cli_output.specs.Fetching.{Fetching, OrRefusal, Outcome, ◌>>=◌, followed, given, refusal_in}
 use Rattle.bench_core.specs.Loading.{Tuples}
-use Rattle.project_forms.specs.Project.{fetch_table, fetch_tables}
+use Rattle.cli_output.specs.TableFiles.{fetch_table}
+use Rattle.project_forms.specs.Project.{fetch_tables}
 
 -- ---- the tables that are left, behind those that were fetched
 

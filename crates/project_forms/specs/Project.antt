@@ -5,8 +5,6 @@ use Rattle.text_lists.specs.declared.limits.Limits.{Limits}
 use Rattle.schema_core.specs.declared.schema.Schema.{Schema}
 use Rattle.schema_core.specs.declared.schema.Table.{Table}
 use Rattle.rule_model.specs.Books.{Book}
-use Rattle.csv_tables.specs.TableFiles.{table_of}
-use Rattle.csv_tables.specs.declared.fault.TableFault.{TableFault}
 use Rattle.bench_core.specs.Bench.{BenchModel}
 use Rattle.bench_core.specs.History.{History}
 use Rattle.bench_core.specs.Loading.{Tuples, loaded}
@@ -22,6 +20,7 @@ use Rattle.cli_output.specs.declared.refusal.LineFlaw.{LineFlaw}
 use Rattle.cli_output.specs.declared.refusal.LineFlaw.TheVariants as flaw
 use Rattle.cli_output.specs.Fetching.{Fetching, OrRefusal, ◌>>=◌, about, file, given}
 use Rattle.cli_output.specs.RuleFiles.{fetch_rules, fetch_schema, spelled}
+use Rattle.cli_output.specs.TableFiles.{fetch_table}
 
 -- ---- what is read, or why its file is refused
 
@@ -56,11 +55,6 @@ flaw_of (script.TooMany limit) = flaw.TooMany limit
 abbrev pub script_line : ℕ → ScriptCause → Cause
 script_line line why = cause.Line line (flaw_of why)
 
--- the rows of a table file, or its fault as the cause of a refusal
-abbrev pub tabled : Result Tuples TableFault → Result Tuples Cause
-tabled (Ok rows) = Ok rows
-tabled (Err fault) = Err (cause.Table fault)
-
 -- the file name of a numbered table
 abbrev pub file_of : Schema → ℕ → List ℕ
 file_of schema table = option_map_or (λ (t : Table). t.file) (slice_get schema.tables table) []
@@ -71,10 +65,6 @@ bench_of rules limits (Ok state) = Ok (record { rules = rules; limits = limits; 
 bench_of rules limits (Err table) = Err (record { what = file_of rules.schema table; cause = cause.RowsFull })
 
 -- ---- the files, in their order
-
--- the rows of a table
-unfoldable pub fetch_table : Limits → Table → Fetching Tuples
-fetch_table limits table = file limits table.file >>= λ bytes. given (about table.file (tabled (table_of table limits bytes)))
 
 -- the rows of each table, one table after the other
 abbrev pub fetch_tables : Limits → List Table → Fetching (List Tuples)

@@ -4,13 +4,11 @@ ghost use Rattle.std.specs.List.{AllZip};
 ghost use Rattle.text_lists.specs.Limits.{AreLimits};
 ghost use Rattle.schema_core.specs.Rows.{IsRowOf};
 ghost use Rattle.bench_core.specs.Loading.{AreTables, loaded};
-ghost use Rattle.csv_tables.specs.TableFiles.{table_of};
-ghost use Rattle.cli_output.specs.Fetching.{Fetches, Reads, about};
-ghost use Rattle.project_forms.specs.Project.{bench_of, fetch_table, fetch_tables, tabled, tables_of};
+ghost use Rattle.cli_output.specs.Fetching.{Fetches, Reads};
+ghost use Rattle.project_forms.specs.Project.{bench_of, fetch_tables, tables_of};
 
 use bench_core::{Bench, LoadFault};
-use cli_output::{Cause, Stop, fetch_file, refused};
-use csv_tables::{TableFault, read_table};
+use cli_output::{Cause, Stop, fetch_table, refused};
 use probe_steps::Steps;
 use rule_model::RuleBook;
 use schema_core::{Limits, List, Schema, Table, Texts};
@@ -36,34 +34,6 @@ pub fn fetch_tables<S: Shelf>(
         all.push(rows)?;
     }
     Ok(all)
-}
-
-#[tactic(auto, unfolding(crate::specs::Project::fetch_table))]
-fn fetch_table<S: Shelf>(
-    alloc: Global,
-    shelf: &mut S,
-    table: &Table,
-    limits: &Limits,
-    left: &mut u64,
-) -> Result<List<Texts>, Stop>
-    requires { AreLimits limits.now }
-    ensures table { Fetches (fetch_table limits.now table.now) (λ rows. rows) 1 result (S.told shelf.old) (S.told shelf.new) left.old left.new }
-    ensures valid { IfOk result (All (IsRowOf table.now.attrs limits.now.cell_bytes)) }
-{
-    let bytes = fetch_file(shelf, &table.file, limits, left)?;
-    rows_of(alloc, table, &bytes, limits)
-}
-
-fn rows_of(alloc: Global, table: &Table, bytes: &[u8], limits: &Limits) -> Result<List<Texts>, Stop>
-    requires { AreLimits limits.now }
-    ensures rows { Reads (about table.now.file (tabled (table_of table.now limits.now bytes.now))) (λ rows. rows) result }
-    ensures valid { IfOk result (All (IsRowOf table.now.attrs limits.now.cell_bytes)) }
-{
-    match read_table(alloc, table, bytes, limits) {
-        Ok(rows) => Ok(rows),
-        Err(TableFault::Memory) => Err(Stop::Memory),
-        Err(fault) => refused(&table.file, Cause::Table(fault)),
-    }
 }
 
 /// The bench of tables that were read.

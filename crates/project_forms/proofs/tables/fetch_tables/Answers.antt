@@ -4,7 +4,8 @@ use Rattle.std.proofs.lemmas.List.{take_all}
 use Rattle.std.proofs.lemmas.Result.{err_from_is_err_and}
 use Rattle.cli_output.specs.Fetching.{Fetches}
 use Rattle.bench_core.specs.Loading.{Tuples}
-use Rattle.project_forms.specs.Project.{fetch_table, fetch_tables}
+use Rattle.cli_output.specs.TableFiles.{fetch_table}
+use Rattle.project_forms.specs.Project.{fetch_tables}
 use Rattle.cli_output.proofs.Faults.{Rose-from, same_fault}
 use Rattle.project_forms.proofs.TableLoop.{AreRowsOf, GoesOn, goes_on-none, goes_on-more, goes_on-fetches, goes_on-refused, all_found, all_left, all_fetches, AllZip-take_more}
 use Rattle.project_forms.proofs.tables.fetch_tables.Goals as goal
