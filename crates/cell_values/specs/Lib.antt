@@ -4,3 +4,4 @@ pub mod Fresh
 pub mod Values
 pub mod Literals
 pub mod Standing
+pub mod Assigned

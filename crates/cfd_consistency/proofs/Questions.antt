@@ -22,12 +22,13 @@ use Rattle.case_tree.specs.CaseTree.{IsAllowed, Refutes, var_count}
 use Rattle.case_tree.specs.declared.tree.Node.{Node}
 use Rattle.case_tree.proofs.Soundness.{sound}
 use Rattle.case_search.specs.Answer.{HasOneFree}
+use Rattle.cell_values.specs.Assigned.{HasAllowed}
 use Rattle.cell_values.specs.TableRules.{Rule, rule_of, rules_with, table_rules}
 use Rattle.cell_values.specs.Values.{occurring}
 use Rattle.cell_values.proofs.ValueOrder.{total}
 use Rattle.cfd_consistency.specs.Answer.{HasLaw}
 use Rattle.cfd_consistency.specs.Consistent.{IsConsistent, IsWitness}
-use Rattle.cfd_consistency.specs.Question.{HasAllowed, question}
+use Rattle.cfd_consistency.specs.Question.{question}
 use Rattle.cfd_consistency.specs.Witness.{tuple_of}
 use Rattle.cfd_consistency.proofs.Asked.{IsValidRule}
 use Rattle.cfd_consistency.proofs.CellLists.{cells_count, truth_by}
@@ -87,11 +88,14 @@ module _ (book : Book) (good : IsBook book) (table : ℕ) (within : table < leng
       let all = by_rule tuple witness.satisfies in
       (truth_by (occurring attrs rules) (text_of tuple), allowed_of attrs attrs_valid rules rules_valid tuple witness.typed (λ rule there. All-contains (IsSatisfied tuple) rules rule all there))
 
-  pub law : HasAllowed (question book table) ↔ IsConsistent book table
-  law = (
-    λ some. (tuple_of attrs (occurring attrs rules) some.0, witness_of some.0 some.1),
-    λ some. allowed_by some.0 some.1,
-  )
+  pub law : HasLaw book table
+  law = record {
+    exactly = (
+      λ some. (tuple_of attrs (occurring attrs rules) some.0, witness_of some.0 some.1),
+      λ some. allowed_by some.0 some.1,
+    );
+    shown = witness_of;
+  }
 
   -- ---- what the search and the answer need
 
@@ -104,7 +108,7 @@ module _ (book : Book) (good : IsBook book) (table : ℕ) (within : table < leng
 
   -- a tree that refutes the question shows that no tuple satisfies all
   pub none_if_refuted : (tree : List Node) → Refutes (question book table) tree → ¬ IsConsistent book table
-  none_if_refuted tree refutes some = let allowed = law.1 some in sound (question book table) tree refutes allowed.0 allowed.1
+  none_if_refuted tree refutes some = let allowed = law.exactly.1 some in sound (question book table) tree refutes allowed.0 allowed.1
 
   pub question_vars : var_count (question book table).cells ≡ total (occurring attrs rules)
   unfolding question

@@ -10,7 +10,7 @@ use Rattle.schema_core.specs.declared.schema.Attr.{Attr}
 use Rattle.rule_model.specs.Books.{Book, book_deps}
 use Rattle.case_tree.specs.declared.clauses.Literal.{Literal}
 use Rattle.case_tree.specs.declared.clauses.VarCell.{VarCell}
-use Rattle.case_tree.specs.CaseTree.{ClauseSet, IsAllowed}
+use Rattle.case_tree.specs.CaseTree.{ClauseSet}
 use Rattle.cell_values.specs.declared.values.CellValues.{CellValues}
 use Rattle.cell_values.specs.TableRules.{Rule, rules_with}
 use Rattle.cell_values.specs.Values.{occurring, values_for, values_before}
@@ -60,7 +60,3 @@ table_question attrs rules = question_of (occurring attrs rules) rules
 
 unfoldable pub question : Book → ℕ → ClauseSet
 question rules table = table_question (attrs_at rules.schema table) (rules_with table (book_deps rules) [])
-
--- some assignment is allowed
-abbrev pub HasAllowed : ClauseSet → Type 0
-HasAllowed set = (truth : ℕ → Bool) × IsAllowed set truth

@@ -1,5 +1,5 @@
 -- The question over a schema.
-use Rattle.std.proofs.Common.{◌≡◌, ℕ, ◌≤◌, Bool, List, [], ◌∷◌, length, get_or, Option, Some, None, refl, ap, subst, arith}
+use Rattle.std.proofs.Common.{◌≡◌, ℕ, ◌≤◌, Bool, List, [], ◌∷◌, length, get_or, Option, Some, None, inl, inr, refl, ap, subst, arith}
 use Rattle.std.specs.Prelude.{Contains, slice_get}
 use Rattle.std.specs.Option.{option_map_or}
 use Rattle.std.specs.List.{All, AllByRecursion}
@@ -16,16 +16,18 @@ use Rattle.rule_model.specs.declared.dep.Dep.{Dep}
 use Rattle.rule_model.specs.Rules.{IsValidDep}
 use Rattle.cell_values.specs.declared.values.CellValues.{CellValues}
 use Rattle.cell_values.specs.TableRules.{table_rules, rules_with}
+use Rattle.cell_values.specs.Tuples.{IsTupleOf}
 use Rattle.cell_values.specs.Values.{AreFew, occurring, values_for}
 use Rattle.cfd_implication.specs.declared.side.Side.TheVariants.{First, Second}
-use Rattle.cfd_implication.specs.Implied.{IsCounter}
-use Rattle.cfd_implication.specs.Pairs.{tuple_of}
+use Rattle.cfd_implication.specs.Answers.{HasLaw}
+use Rattle.cfd_implication.specs.Implied.{IsCounter, IsNotImplied}
+use Rattle.cfd_implication.specs.Pairs.{stands_for, tuple_of}
 use Rattle.cfd_implication.specs.Question.{question, var_total}
 use Rattle.cfd_implication.proofs.Order.{values_at}
 use Rattle.cfd_implication.proofs.Bounds.{cells_count}
 use Rattle.cfd_implication.proofs.Occurs.{rises}
 use Rattle.cfd_implication.proofs.Main.{good_at}
-use Rattle.cfd_implication.proofs.Theorems.{each_valid, in_table, both_satisfy, both_break}
+use Rattle.cfd_implication.proofs.Theorems.{allowed_or_implied, each_valid, in_table, both_satisfy, both_break}
 use Rattle.cfd_implication.proofs.WellFormed.{well_formed, all_one_free}
 use Rattle.cfd_implication.proofs.PairFacts.{fit, is_tuple, is_short}
 
@@ -90,3 +92,23 @@ module _ (schema : Schema) (deps : List Dep) (dep : Dep) (valid : IsValidSchema 
         one_short = is_short attrs attrs_good rules dep.rule each truth First;
         other_short = is_short attrs attrs_good rules dep.rule each truth Second;
       }
+
+  tuples_of : (one other : List (List ℕ)) → IsCounter schema deps dep one other → IsNotImplied schema deps dep
+  tuples_of one other shows = (
+    one ∷ other ∷ [],
+    All-from_recursion (IsTupleOf (attrs_at schema dep.table)) (one ∷ other ∷ []) (shows.one_tuple, (shows.other_tuple, tt)),
+    shows.satisfy,
+    shows.breaks,
+  )
+
+  pub law : length dep.rule.rows ≡ 1 → HasLaw schema deps dep
+  law one_row = record {
+    exactly = (
+      λ some. tuples_of (stands_for First schema deps dep some.0) (stands_for Second schema deps dep some.0) (counter one_row some.0 some.1),
+      λ not. elim (allowed_or_implied schema deps dep (attrs_each schema dep.table valid) deps_valid dep_valid one_row not.0 not.1 not.2) [
+        | inl some ↦ some
+        | inr satisfied ↦ absurd (not.3 satisfied)
+      ],
+    );
+    shown = counter one_row;
+  }

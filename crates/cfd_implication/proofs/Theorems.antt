@@ -1,5 +1,5 @@
 -- Two tuples from an allowed assignment, and no counterexample where there is none.
-use Rattle.std.proofs.Common.{◌≡◌, ◌≢◌, ℕ, suc, ◌+◌, ◌<◌, Bool, true, false, ◌&&◌, List, [], ◌∷◌, ◌++◌, length, Option, Some, refl, sym, ap, ◌∙◌, subst, inl, inr, arith}
+use Rattle.std.proofs.Common.{◌≡◌, ◌≢◌, ◌⊎◌, ℕ, suc, ◌+◌, ◌<◌, Bool, true, false, ◌&&◌, List, [], ◌∷◌, ◌++◌, length, Option, Some, refl, sym, ap, ◌∙◌, subst, inl, inr, arith}
 use Rattle.std.specs.Prelude.{Contains, filter, nat_eq}
 use Rattle.std.specs.List.{flat_map, All, AllByRecursion}
 use Rattle.std.specs.Str.{bytes_eq}
@@ -20,13 +20,15 @@ use Rattle.schema_core.specs.declared.schema.Attr.{Attr}
 use Rattle.schema_core.specs.declared.schema.Schema.{Schema}
 use Rattle.rule_model.specs.declared.dep.Dep.{Dep}
 use Rattle.rule_model.specs.Rules.{IsValidDep}
+use Rattle.rule_model.specs.Satisfied.{SatisfyDep}
+use Rattle.cell_values.specs.Assigned.{HasAllowed}
 use Rattle.cell_values.specs.declared.values.CellValues.{CellValues}
 use Rattle.cell_values.specs.TableRules.{Rule, rule_of, table_rules}
 use Rattle.cell_values.specs.Tuples.{IsTupleOf}
 use Rattle.cell_values.specs.Values.{occurring}
 use Rattle.cell_values.proofs.Meaning.{is_constant}
 use Rattle.cfd_implication.specs.declared.side.Side.TheVariants.{First, Second}
-use Rattle.cfd_implication.specs.Implied.{IsImplied}
+use Rattle.cfd_implication.specs.Implied.{IsImplied, SatisfyTable}
 use Rattle.cfd_implication.specs.Question.{equal_var, value_var, agreeing_at, constant_clauses, rule_clauses, asked_clauses, question}
 use Rattle.cfd_implication.proofs.Truths.{clause_true, all_true, all_flat, text_of, left_of}
 use Rattle.cfd_implication.proofs.TwoTuples.{sides_in, sides_there, sides_are, satisfies_to, same_list, list_same, same_text, text_same}
@@ -55,6 +57,20 @@ within_all n m (x ∷ xs) same all = (let low = all.0 in omega arith, within_all
 ranged : (n place : ℕ) → place < n → Contains (range_with_len 0 n) place
 ranged n place low = let size = length-range_with_len 0 n in (place, omega arith, get_or-range_with_len 0 n place place low ∙ omega arith)
 
+-- one of two things at each element: the first at some element, or the second at all
+each_or : {B : Type 0} {X : Type 0} (P : X → Type 0) (xs : List X) → ((x : X) → Contains xs x → B ⊎ P x) → B ⊎ ((x : X) → Contains xs x → P x)
+each_or P [] each = inr (λ x there. absurd (contains_nothing x there))
+each_or P (y ∷ ys) each = elim (each y (contains-here y ys)) [
+  | inl some ↦ inl some
+  | inr here ↦ elim (each_or P ys (λ x there. each x (contains-there x y ys there))) [
+    | inl some ↦ inl some
+    | inr rest ↦ inr (λ x there. elim (contains_cases x y ys there) [
+      | inl same ↦ subst P same here
+      | inr more ↦ rest x more
+    ])
+  ]
+]
+
 module _ (attrs : List Attr) (valid : AllByRecursion IsValidAttr attrs) (rules : List Rule) (asked : Rule) (each_rule : (rule : Rule) → Contains (rules ++ asked ∷ []) rule → IsRuleOf attrs rule) (one_row : length asked.rows ≡ 1) where
   abbrev cells : List CellValues
   cells = occurring attrs (rules ++ asked ∷ [])
@@ -82,10 +98,11 @@ module _ (attrs : List Attr) (valid : AllByRecursion IsValidAttr attrs) (rules :
 
   -- ---- from tuples
 
-  module _ (none_allowed : HasNoneAllowed (question_of attrs valid rules asked)) (tuples : List (List (List ℕ))) (are : All (IsTupleOf attrs) tuples) (satisfy : (rule : Rule) → Contains rules rule → Satisfies bytes_eq rule tuples) where
-    refuted : (one other : List (List ℕ)) (row : TableauRow (List ℕ)) → Contains tuples one → Contains tuples other → Contains asked.rows row
-        → left_of one asked.x ≡ left_of other asked.x → all_match bytes_eq row.x (left_of one asked.x) ≡ true → Breaks one other asked.a row.a ≡ true → ⊥
-    refuted one other row one_there other_there row_there same match broken =
+  module _ (tuples : List (List (List ℕ))) (are : All (IsTupleOf attrs) tuples) (satisfy : (rule : Rule) → Contains rules rule → Satisfies bytes_eq rule tuples) where
+    -- two tuples that break a row, the one that breaks it alone put first
+    allowed : (one other : List (List ℕ)) (row : TableauRow (List ℕ)) → Contains tuples one → Contains tuples other → Contains asked.rows row
+        → left_of one asked.x ≡ left_of other asked.x → all_match bytes_eq row.x (left_of one asked.x) ≡ true → Breaks one other asked.a row.a ≡ true → HasAllowed (question_of attrs valid rules asked)
+    allowed one other row one_there other_there row_there same match broken =
         let one_tuple = All-contains (IsTupleOf attrs) tuples one are one_there in
         let other_tuple = All-contains (IsTupleOf attrs) tuples other are other_there in
         let truth = truth_of one other cells in
@@ -103,40 +120,73 @@ module _ (attrs : List Attr) (valid : AllByRecursion IsValidAttr attrs) (rules :
         subst (λ z. all_true truth (asked_clauses cells asked z) ≡ true) (only_row asked.rows row r one_row row_there r_there)
         (asked_holds attrs valid rules asked truth one other one_tuple other_tuple tells each_rule row row_there
         ∙ and_from (same_values bytes_eq (left_of one asked.x) (left_of other asked.x) && all_match bytes_eq row.x (left_of one asked.x)) (Breaks one other asked.a row.a)
-        (and_from (same_values bytes_eq (left_of one asked.x) (left_of other asked.x)) (all_match bytes_eq row.x (left_of one asked.x)) (list_same (left_of one asked.x) (left_of other asked.x) same) match) broken)) in
-        none_allowed truth
-        (record {
-          at_most_one = has_one truth one other 0 cells stands tells;
-          one_demanded = has_some truth one other 0 cells stands tells;
-          clauses_true = all_of_true truth ((a ++ b) ++ c) (list_all-append (clause_true truth) (a ++ b) c ∙ and_from (all_true truth (a ++ b)) (all_true truth c) (list_all-append (clause_true truth) a b ∙ and_from (all_true truth a) (all_true truth b) a_holds b_holds) c_holds);
-        })
+        (and_from (same_values bytes_eq (left_of one asked.x) (left_of other asked.x)) (all_match bytes_eq row.x (left_of one asked.x)) (list_same (left_of one asked.x) (left_of other asked.x) same) match) broken)) in (
+          truth,
+          record {
+            at_most_one = has_one truth one other 0 cells stands tells;
+            one_demanded = has_some truth one other 0 cells stands tells;
+            clauses_true = all_of_true truth ((a ++ b) ++ c) (list_all-append (clause_true truth) (a ++ b) c ∙ and_from (all_true truth (a ++ b)) (all_true truth c) (list_all-append (clause_true truth) a b ∙ and_from (all_true truth a) (all_true truth b) a_holds b_holds) c_holds);
+          },
+        )
 
     -- what a row asks of two tuples that agree on the left and match it there
+    abbrev Keeps : List (List ℕ) → List (List ℕ) → TableauRow (List ℕ) → Type 0
+    Keeps t u row = (bytes_eq (text_of t asked.a) (text_of u asked.a) ≡ true) × (matches bytes_eq row.a (text_of t asked.a) ≡ true)
+
+    abbrev Obeys : TableauRow (List ℕ) → List (List ℕ) → List (List ℕ) → Type 0
+    Obeys row t u = same_values bytes_eq (left_of t asked.x) (left_of u asked.x) ≡ true → all_match bytes_eq row.x (left_of t asked.x) ≡ true → Keeps t u row
+
+    abbrev Breakable : Type 0
+    Breakable = HasAllowed (question_of attrs valid rules asked)
+
     asked_of : (t u : List (List ℕ)) (row : TableauRow (List ℕ)) → Contains tuples t → Contains tuples u → Contains asked.rows row → left_of t asked.x ≡ left_of u asked.x → all_match bytes_eq row.x (left_of t asked.x) ≡ true
-        → (bytes_eq (text_of t asked.a) (text_of u asked.a) ≡ true) × (matches bytes_eq row.a (text_of t asked.a) ≡ true)
+        → Breakable ⊎ Keeps t u row
     asked_of t u row t_there u_there row_there same match =
         let match_other : all_match bytes_eq row.x (left_of u asked.x) ≡ true = ap (all_match bytes_eq row.x) (sym same) ∙ match in
         elim (cases_Bool (matches bytes_eq row.a (text_of t asked.a))) [
-          | inr fails ↦ absurd (refuted t u row t_there u_there row_there same match (breaks_if_no_match t u asked.a row.a fails))
+          | inr fails ↦ inl (allowed t u row t_there u_there row_there same match (breaks_if_no_match t u asked.a row.a fails))
           | inl left ↦ elim (cases_Bool (matches bytes_eq row.a (text_of u asked.a))) [
-            | inr fails ↦ absurd (refuted u t row u_there t_there row_there (sym same) match_other (breaks_if_no_match u t asked.a row.a fails))
+            | inr fails ↦ inl (allowed u t row u_there t_there row_there (sym same) match_other (breaks_if_no_match u t asked.a row.a fails))
             | inl right ↦ elim (cases_Bool (bytes_eq (text_of t asked.a) (text_of u asked.a))) [
-              | inl equal ↦ (equal, left)
-              | inr differ ↦ absurd (refuted t u row t_there u_there row_there same match (breaks_if_differ t u asked.a row.a differ left right))
+              | inl equal ↦ inr (equal, left)
+              | inr differ ↦ inl (allowed t u row t_there u_there row_there same match (breaks_if_differ t u asked.a row.a differ left right))
             ]
           ]
         ]
 
-    pub none_breaks : Satisfies bytes_eq asked tuples
-    none_breaks row t u first second there t_there u_there is_first is_second same match =
-        let left = sides_are asked t first is_first in
-        let right = sides_are asked u second is_second in
-        let x_first : first.x ≡ left_of t asked.x = ap (λ (s : Sides (List ℕ)). s.x) left in
-        let x_second : second.x ≡ left_of u asked.x = ap (λ (s : Sides (List ℕ)). s.x) right in
-        let a_first : first.a ≡ text_of t asked.a = ap (λ (s : Sides (List ℕ)). s.a) left in
-        let a_second : second.a ≡ text_of u asked.a = ap (λ (s : Sides (List ℕ)). s.a) right in
-        let given = asked_of t u row t_there u_there there (sym x_first ∙ same_list first.x second.x same ∙ x_second) (ap (all_match bytes_eq row.x) (sym x_first) ∙ match) in
-        (text_same first.a second.a (a_first ∙ same_text (text_of t asked.a) (text_of u asked.a) given.0 ∙ sym a_second), ap (matches bytes_eq row.a) a_first ∙ given.1)
+    pair_obeys : (row : TableauRow (List ℕ)) → Contains asked.rows row → (t : List (List ℕ)) → Contains tuples t → (u : List (List ℕ)) → Contains tuples u → Breakable ⊎ Obeys row t u
+    pair_obeys row row_there t t_there u u_there = elim (cases_Bool (same_values bytes_eq (left_of t asked.x) (left_of u asked.x))) [
+      | inr differ ↦ inr (λ same match. absurd (false≢true (sym differ ∙ same)))
+      | inl same ↦ elim (cases_Bool (all_match bytes_eq row.x (left_of t asked.x))) [
+        | inr fails ↦ inr (λ also match. absurd (false≢true (sym fails ∙ match)))
+        | inl match ↦ elim (asked_of t u row t_there u_there row_there (same_list (left_of t asked.x) (left_of u asked.x) same) match) [
+          | inl some ↦ inl some
+          | inr keeps ↦ inr (λ also again. keeps)
+        ]
+      ]
+    ]
+
+    all_obey : Breakable ⊎ ((row : TableauRow (List ℕ)) → Contains asked.rows row → (t : List (List ℕ)) → Contains tuples t → (u : List (List ℕ)) → Contains tuples u → Obeys row t u)
+    all_obey =
+        each_or (λ row. (t : List (List ℕ)) → Contains tuples t → (u : List (List ℕ)) → Contains tuples u → Obeys row t u) asked.rows (λ row row_there.
+        each_or (λ t. (u : List (List ℕ)) → Contains tuples u → Obeys row t u) tuples (λ t t_there.
+        each_or (Obeys row t) tuples (pair_obeys row row_there t t_there)))
+
+    -- some assignment is allowed, or the tuples satisfy the asked dependency
+    pub allowed_or_satisfied : HasAllowed (question_of attrs valid rules asked) ⊎ Satisfies bytes_eq asked tuples
+    allowed_or_satisfied = elim all_obey [
+      | inl some ↦ inl some
+      | inr obey ↦ inr (λ row t u first second there t_there u_there is_first is_second same match.
+          let left = sides_are asked t first is_first in
+          let right = sides_are asked u second is_second in
+          let x_first : first.x ≡ left_of t asked.x = ap (λ (s : Sides (List ℕ)). s.x) left in
+          let x_second : second.x ≡ left_of u asked.x = ap (λ (s : Sides (List ℕ)). s.x) right in
+          let a_first : first.a ≡ text_of t asked.a = ap (λ (s : Sides (List ℕ)). s.a) left in
+          let a_second : second.a ≡ text_of u asked.a = ap (λ (s : Sides (List ℕ)). s.a) right in
+          let agree : left_of t asked.x ≡ left_of u asked.x = sym x_first ∙ same_list first.x second.x same ∙ x_second in
+          let given = obey row there t t_there u u_there (list_same (left_of t asked.x) (left_of u asked.x) agree) (ap (all_match bytes_eq row.x) (sym x_first) ∙ match) in
+          (text_same first.a second.a (a_first ∙ same_text (text_of t asked.a) (text_of u asked.a) given.0 ∙ sym a_second), ap (matches bytes_eq row.a) a_first ∙ given.1))
+    ]
 
   -- ---- to tuples
 
@@ -254,8 +304,17 @@ each_valid schema deps dep valid dep_valid rule there = elim (Contains-append_ca
   ]
 ]
 
-pub implied_if_none : (schema : Schema) (deps : List Dep) (dep : Dep) → AllByRecursion IsValidAttr (attrs_at schema dep.table) → All (IsValidDep schema) deps → IsValidDep schema dep → length dep.rule.rows ≡ 1 → HasNoneAllowed (question schema deps dep) → IsImplied schema deps dep
+-- some assignment of the question is allowed, or tuples that satisfy the dependencies of the table satisfy the asked one
+pub allowed_or_implied : (schema : Schema) (deps : List Dep) (dep : Dep) → AllByRecursion IsValidAttr (attrs_at schema dep.table) → All (IsValidDep schema) deps → IsValidDep schema dep → length dep.rule.rows ≡ 1
+    → (tuples : List (List (List ℕ))) → All (IsTupleOf (attrs_at schema dep.table)) tuples → SatisfyTable dep.table deps tuples → HasAllowed (question schema deps dep) ⊎ SatisfyDep dep tuples
 unfolding question
-implied_if_none schema deps dep attrs valid dep_valid one_row none tuples are satisfy =
-    none_breaks (attrs_at schema dep.table) attrs (table_rules dep.table deps) dep.rule (each_valid schema deps dep valid dep_valid) one_row none tuples are
+allowed_or_implied schema deps dep attrs valid dep_valid one_row tuples are satisfy =
+    allowed_or_satisfied (attrs_at schema dep.table) attrs (table_rules dep.table deps) dep.rule (each_valid schema deps dep valid dep_valid) one_row tuples are
     (λ rule there. let from = from_table dep.table deps rule there in subst (λ r. Satisfies bytes_eq r tuples) from.is (satisfy from.dep from.there from.of_table))
+
+pub implied_if_none : (schema : Schema) (deps : List Dep) (dep : Dep) → AllByRecursion IsValidAttr (attrs_at schema dep.table) → All (IsValidDep schema) deps → IsValidDep schema dep → length dep.rule.rows ≡ 1 → HasNoneAllowed (question schema deps dep) → IsImplied schema deps dep
+implied_if_none schema deps dep attrs valid dep_valid one_row none tuples are satisfy =
+    elim (allowed_or_implied schema deps dep attrs valid dep_valid one_row tuples are satisfy) [
+      | inl some ↦ absurd (none some.0 some.1)
+      | inr satisfied ↦ satisfied
+    ]

@@ -1,13 +1,22 @@
 -- What a decider of implication may answer.
-use Rattle.std.specs.Prelude.{◌≡◌, ℕ, ◌<◌, ◌≤◌, List}
+use Rattle.std.specs.Prelude.{◌≡◌, ℕ, ◌<◌, ◌≤◌, ◌↔◌, Bool, List}
 use Rattle.schema_core.specs.declared.schema.Schema.{Schema}
-use Rattle.case_tree.specs.CaseTree.{IsPartial, Refutes, leaf_count}
+use Rattle.case_tree.specs.CaseTree.{IsAllowed, IsPartial, Refutes, leaf_count}
 use Rattle.case_search.specs.Enough.{enough_of}
 use Rattle.rule_model.specs.declared.dep.Dep.{Dep}
-use Rattle.cfd_implication.specs.Implied.{IsCounter, IsImplied}
+use Rattle.cell_values.specs.Assigned.{HasAllowed}
+use Rattle.cfd_implication.specs.Implied.{IsCounter, IsImplied, IsNotImplied}
+use Rattle.cfd_implication.specs.Pairs.{stands_for}
 use Rattle.cfd_implication.specs.Question.{question}
+use Rattle.cfd_implication.specs.declared.side.Side.TheVariants.{First, Second}
 use Rattle.cfd_implication.specs.declared.answer.Implication.{Implication}
 use Rattle.cfd_implication.specs.declared.answer.Implication.TheVariants.{Counter, Implied, Spent}
+
+-- The law of the question: some assignment is allowed exactly where the dependency isn't implied, and the two tuples that
+-- an allowed one stands for show it.
+pub record HasLaw (schema : Schema) (deps : List Dep) (dep : Dep) : Type 0 where
+  pub exactly : HasAllowed (question schema deps dep) ↔ IsNotImplied schema deps dep
+  pub shown : (truth : ℕ → Bool) → IsAllowed (question schema deps dep) truth → IsCounter schema deps dep (stands_for First schema deps dep truth) (stands_for Second schema deps dep truth)
 
 -- Two tuples that show that it isn't implied; a tree that refutes the question, and it is implied; or a tree that is right
 -- as far as it goes, with as many leaves as the budget, which is less than enough.

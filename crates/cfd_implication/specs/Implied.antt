@@ -15,6 +15,11 @@ abbrev pub IsImplied : Schema → List Dep → Dep → Type 0
 IsImplied schema deps dep =
     (tuples : List (List (List ℕ))) → All (IsTupleOf (attrs_at schema dep.table)) tuples → SatisfyTable dep.table deps tuples → SatisfyDep dep tuples
 
+-- It is not: some finite list of tuples of that table satisfies those dependencies and not this one.
+abbrev pub IsNotImplied : Schema → List Dep → Dep → Type 0
+IsNotImplied schema deps dep =
+    (tuples : List (List (List ℕ))) × All (IsTupleOf (attrs_at schema dep.table)) tuples × SatisfyTable dep.table deps tuples × (¬ SatisfyDep dep tuples)
+
 -- Two tuples of the table that satisfy its dependencies and not this one, of short texts.
 pub record IsCounter (schema : Schema) (deps : List Dep) (dep : Dep) (one other : List (List ℕ)) : Type 0 where
   pub one_tuple : IsTupleOf (attrs_at schema dep.table) one

@@ -1,13 +1,17 @@
 -- The two tuples that an assignment stands for.
-use Rattle.std.specs.Prelude.{ℕ, Bool, true, false, if◌then◌else◌, nat_lt, List, [], length, map, find, Option, Some, None, slice_index_or, ◌==◌}
+use Rattle.std.specs.Prelude.{ℕ, Bool, true, false, if◌then◌else◌, nat_lt, List, [], ◌∷◌, length, map, find, Option, Some, None, slice_index_or, ◌==◌}
 use Rattle.std.specs.List.{range_with_len}
-use Rattle.schema_core.specs.Lookups.{domain_at}
+use Rattle.schema_core.specs.Lookups.{attrs_at, domain_at}
 use Rattle.schema_core.specs.declared.schema.Attr.{Attr}
 use Rattle.schema_core.specs.declared.schema.Domain.{Domain}
 use Rattle.schema_core.specs.declared.schema.Domain.TheVariants.{AnyText, Finite}
+use Rattle.schema_core.specs.declared.schema.Schema.{Schema}
+use Rattle.rule_model.specs.declared.dep.Dep.{Dep}
 use Rattle.cell_values.specs.declared.values.CellValues.{CellValues}
 use Rattle.cell_values.specs.Fresh.{fresh_past}
 use Rattle.cell_values.specs.Standing.{chosen}
+use Rattle.cell_values.specs.TableRules.{rules_with}
+use Rattle.cell_values.specs.Values.{occurring}
 use Rattle.cfd_implication.specs.declared.side.Side.{Side}
 use Rattle.cfd_implication.specs.declared.side.Side.TheVariants.{First, Second}
 use Rattle.cfd_implication.specs.Question.{equal_var, value_var}
@@ -48,3 +52,9 @@ pair_text side cells truth attr domain (Some cell) = value_text side cells truth
 
 abbrev pub tuple_of : Side → List Attr → List CellValues → (ℕ → Bool) → List (List ℕ)
 tuple_of side attrs cells truth = map (λ attr. pair_text side cells truth attr (domain_at attrs attr) (find (λ (cell : CellValues). cell.attr == attr) cells)) (range_with_len 0 (length attrs))
+
+-- the tuples that an assignment of the question's variables stands for
+abbrev pub stands_for : Side → Schema → List Dep → Dep → (ℕ → Bool) → List (List ℕ)
+stands_for side schema deps dep truth =
+    let attrs = attrs_at schema dep.table in
+    tuple_of side attrs (occurring attrs (rules_with dep.table deps (dep ∷ []))) truth

@@ -4,7 +4,7 @@ ghost use Rattle.std.specs.Prelude.{◌≡◌, ◌≤◌, length, All, IfOk};
 ghost use Rattle.schema_core.specs.Schemas.{IsValidSchema};
 ghost use Rattle.rule_model.specs.Books.{book_deps};
 ghost use Rattle.rule_model.specs.Rules.{IsValidDep};
-ghost use Rattle.cfd_implication.specs.Answers.{IsAnswer};
+ghost use Rattle.cfd_implication.specs.Answers.{HasLaw, IsAnswer};
 
 use crate::answer::Implication;
 use crate::question::{Question, attrs_at};
@@ -18,6 +18,26 @@ use std::alloc::{AllocError, Global};
 /// Whether dependencies imply one more, of one tableau row, within a budget of leaves. Those of other tables than its own
 /// are passed over.
 pub fn implies_from(
+    alloc: Global,
+    schema: &Schema,
+    deps: &List<Dep>,
+    dep: &Dep,
+    budget: u64,
+) -> Result<Implication, AllocError>
+    requires schema { IsValidSchema schema.now }
+    requires deps { All (IsValidDep schema.now) deps.now }
+    requires dep { IsValidDep schema.now dep.now }
+    requires row { length dep.now.rule.rows ≡ 1 }
+    requires some { 1 ≤ budget }
+    requires within { budget ≤ 1000000 }
+    ensures answer { IfOk result (IsAnswer schema.now deps.now dep.now budget) }
+    ensures law { HasLaw schema.now deps.now dep.now }
+{
+    let answer = decide_dep(alloc, schema, deps, dep, budget)?;
+    Ok(answer)
+}
+
+fn decide_dep(
     alloc: Global,
     schema: &Schema,
     deps: &List<Dep>,
@@ -57,7 +77,8 @@ pub fn implies(
     requires row { length dep.now.rule.rows ≡ 1 }
     requires some { 1 ≤ budget }
     requires within { budget ≤ 1000000 }
-    ensures { IfOk result (IsAnswer rules.now.schema (book_deps rules.now) dep.now budget) }
+    ensures answer { IfOk result (IsAnswer rules.now.schema (book_deps rules.now) dep.now budget) }
+    ensures law { HasLaw rules.now.schema (book_deps rules.now) dep.now }
 {
     implies_from(alloc, rules.schema(), rules.deps(), dep, budget)
 }

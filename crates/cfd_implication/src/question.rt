@@ -9,6 +9,7 @@ ghost use Rattle.rule_model.specs.Books.{book_deps};
 ghost use Rattle.rule_model.specs.Rules.{IsValidDep};
 ghost use Rattle.cell_values.specs.TableRules.{rules_with, table_rules};
 ghost use Rattle.cell_values.specs.Values.{AreFew, occurring, values_for};
+ghost use Rattle.cfd_implication.specs.Answers.{HasLaw};
 ghost use Rattle.cfd_implication.specs.Question.{agreeing_at, asked_clauses, clauses_of, question};
 ghost use Rattle.cfd_implication.specs.declared.side.Side.TheVariants.{First};
 
@@ -114,7 +115,7 @@ impl Question {
 }
 
 /// The clauses of the question whether dependencies of a table imply one more over it. Those of other tables are passed
-/// over.
+/// over. Of one tableau row, it isn't implied exactly where some assignment is allowed.
 pub fn clauses_from(
     alloc: Global,
     schema: &Schema,
@@ -124,7 +125,8 @@ pub fn clauses_from(
     requires schema { IsValidSchema schema.now }
     requires deps { All (IsValidDep schema.now) deps.now }
     requires dep { IsValidDep schema.now dep.now }
-    ensures { IfOk result (λ clauses. clauses ≡ question schema.now deps.now dep.now) }
+    ensures clauses { IfOk result (λ clauses. clauses ≡ question schema.now deps.now dep.now) }
+    ensures law { length dep.now.rule.rows ≡ 1 → HasLaw schema.now deps.now dep.now }
 {
     Ok(Question::new(alloc, schema, deps.as_slice(), dep)?.clauses)
 }
@@ -136,7 +138,8 @@ pub fn implication_clauses(
     dep: &Dep,
 ) -> Result<Clauses, AllocError>
     requires { IsValidDep rules.now.schema dep.now }
-    ensures { IfOk result (λ clauses. clauses ≡ question rules.now.schema (book_deps rules.now) dep.now) }
+    ensures clauses { IfOk result (λ clauses. clauses ≡ question rules.now.schema (book_deps rules.now) dep.now) }
+    ensures law { length dep.now.rule.rows ≡ 1 → HasLaw rules.now.schema (book_deps rules.now) dep.now }
 {
     clauses_from(alloc, rules.schema(), rules.deps(), dep)
 }

@@ -9,4 +9,4 @@ pub returns : goal.returns
 returns c =
     let asked = c.args.asked.now in
     if_both (IsCertOfDep asked.rules asked.dep c.in_ok-answer.answer) (λ cert. IsVerdict asked.rules cert Holds) (IsDepAnswer asked c.args.budget)
-    (λ cert is holds. dep_answer asked.rules asked.dep c.args.budget c.in_ok-answer.answer cert c.in_ok-answer.ensures is holds) c.cert_of_implication.result c.cert_of_implication.ensures.parts c.cert_of_implication.ensures.holds
+    (λ cert is holds. dep_answer asked.rules asked.dep c.args.budget c.in_ok-answer.answer cert c.in_ok-answer.ensures.answer is holds) c.cert_of_implication.result c.cert_of_implication.ensures.parts c.cert_of_implication.ensures.holds
