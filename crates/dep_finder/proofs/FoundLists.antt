@@ -51,11 +51,11 @@ of_size attrs (suc size) x e rising within =
     let whole : front ++ last ∷ [] ≡ x = sym (take_more x size 0 inside) ∙ take_all (size + 1) x (omega (arith, e)) in
     let long : length front ≡ size = front_long x size (omega (arith, e)) in
     let rises : IsRising front = λ i j d lt jl.
-        subst (λ (m : ℕ). m < get_or front j d) (sym (front_at x size i d (omega (arith, long))))
-        (subst (λ (m : ℕ). get_or x i d < m) (sym (front_at x size j d (omega (arith, long)))) (rising i j d lt (omega (arith, long, e)))) in
+    subst (λ (m : ℕ). m < get_or front j d) (sym (front_at x size i d (omega (arith, long))))
+    (subst (λ (m : ℕ). get_or x i d < m) (sym (front_at x size j d (omega (arith, long)))) (rising i j d lt (omega (arith, long, e)))) in
     let below : All (λ before. before < last) front = λ k d kl.
-        subst (λ (m : ℕ). m < last) (sym (front_at x size k d (omega (arith, long))))
-        (subst (λ (m : ℕ). get_or x k d < m) (get_or_default x size d 0 inside) (rising k size d (omega (arith, long)) inside)) in
+    subst (λ (m : ℕ). m < last) (sym (front_at x size k d (omega (arith, long))))
+    (subst (λ (m : ℕ). get_or x k d < m) (get_or_default x size d 0 inside) (rising k size d (omega (arith, long)) inside)) in
     let (n, nl, is) = of_size attrs size front long rises (All-take (λ (attr : ℕ). attr < attrs) size x within) in
     let sides = sides_of_size attrs size in
     let there : slice_index_or sides n [] ≡ front = get_or_default sides n [] front nl ∙ is in

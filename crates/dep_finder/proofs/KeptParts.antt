@@ -91,13 +91,13 @@ kept_is_part kept (attr ∷ x) e =
     let rest = kept_is_part kept x in
     let whole = filter_all kept x in
     let with_it = λ (f : list_all kept x ≡ false). Contains-append_right (proper_parts x) (with_first attr x ++ x ∷ []) (attr ∷ filter kept x)
-        (Contains-append_left (with_first attr x) (x ∷ []) (attr ∷ filter kept x) (contains-map (λ (part : List ℕ). attr ∷ part) (proper_parts x) (filter kept x) (rest f))) in
+    (Contains-append_left (with_first attr x) (x ∷ []) (attr ∷ filter kept x) (contains-map (λ (part : List ℕ). attr ∷ part) (proper_parts x) (filter kept x) (rest f))) in
     let without : Contains (proper_parts x ++ (with_first attr x ++ x ∷ [])) (filter kept x) =
-        ⊎_elim
-        (λ (all : list_all kept x ≡ true). Contains-append_right (proper_parts x) (with_first attr x ++ x ∷ []) (filter kept x)
-        (Contains-append_right (with_first attr x) (x ∷ []) (filter kept x) (subst (Contains (x ∷ [])) (sym (whole all)) (contains-here x []))))
-        (λ (some : list_all kept x ≡ false). Contains-append_left (proper_parts x) (with_first attr x ++ x ∷ []) (filter kept x) (rest some))
-        (cases_Bool (list_all kept x)) in
+    ⊎_elim
+    (λ (all : list_all kept x ≡ true). Contains-append_right (proper_parts x) (with_first attr x ++ x ∷ []) (filter kept x)
+    (Contains-append_right (with_first attr x) (x ∷ []) (filter kept x) (subst (Contains (x ∷ [])) (sym (whole all)) (contains-here x []))))
+    (λ (some : list_all kept x ≡ false). Contains-append_left (proper_parts x) (with_first attr x ++ x ∷ []) (filter kept x) (rest some))
+    (cases_Bool (list_all kept x)) in
     let by = elim (kept attr) as (λ b. (b && list_all kept x) ≡ false → Contains (proper_parts x ++ (with_first attr x ++ x ∷ [])) (cond b (attr ∷ filter kept x) (filter kept x))) [
       | true ↦ λ f. with_it f
       | false ↦ λ f. without

@@ -105,7 +105,7 @@ constant_minimal rows attrs support x a r wide within al is =
       least = λ kept away held.
           let z = filter kept x in
           let still = constant_held rows attrs z a (texts_at rows r z) (text_at rows r a) wide (All-filter kept (λ attr. attr < attrs) x within) al
-              (subst (Hold rows) (part_constant kept (row_at rows r) x a (text_at rows r a)) held) in
+          (subst (Hold rows) (part_constant kept (row_at rows r) x a (text_at rows r a)) held) in
           both_ways (list_any less (proper_parts x)) tests.least (any_from less (proper_parts x) z (kept_is_part kept x away) (settles_from rows z a r still));
     }
 
@@ -198,8 +198,8 @@ support_too rows support x values kept r other many has same =
     let test = λ (row : Row). pointwise bytes_eq values (texts row x) in
     let z = filter kept x in
     let wider = tally_wider (λ s. test (row_at rows s)) (λ s. agree rows z r s) (length rows) (λ s sl e.
-        let equal = (pointwise_decides bytes_eq-Decides values (texts_at rows s x)).0 e in
-        (agree_decides rows z r s).1 (same ∙ same_on_kept (row_at rows other) (row_at rows s) kept x (sym has ∙ equal))) in
+    let equal = (pointwise_decides bytes_eq-Decides values (texts_at rows s x)).0 e in
+    (agree_decides rows z r s).1 (same ∙ same_on_kept (row_at rows other) (row_at rows s) kept x (sym has ∙ equal))) in
     le-leb support (tally (λ s. agree rows z r s) (length rows)) (omega (arith, many, count_rows test rows, wider))
 
 -- no part settles A for the one row, since none does for the other
@@ -230,7 +230,7 @@ constant_left rows attrs width support x a values value wide some are constants 
     let same_at_a = same_a rows z a r other rl first.same least.passes in
     let (side, sl, is) = left_side attrs width z rising (omega (arith, filter_shorter least.kept x, are.narrow)) (All-filter least.kept (λ attr. attr < attrs) x are.x_within) in
     let short = subst (All (λ (text : List ℕ). length text ≤ 1024)) (sym first.same)
-        (short_on_kept (row_at rows other) least.kept x (subst (All (λ (text : List ℕ). length text ≤ 1024)) has constants.short)) in
+    (short_on_kept (row_at rows other) least.kept x (subst (All (λ (text : List ℕ). length text ≤ 1024)) has constants.short)) in
     let short_a = subst (λ (text : List ℕ). length text ≤ 1024) (has_a ∙ same_at_a) constants.short_a in
     let Short = λ (text : List ℕ). length text ≤ 1024 in
     let tested : IsTested rows support z a r = record {

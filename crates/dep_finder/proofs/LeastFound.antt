@@ -54,11 +54,13 @@ module _ (rows : List Row) (attrs width support : ℕ) (wide : AreWide attrs row
       (left.kept, subst (Contains (rules_of rows sides found)) (ap (λ (y : List ℕ). plain y a) left.is ∙ sym (part_plain left.kept x a)) (has_rule (plain_of a left.side) left.found))
   enough rule (as_constant x a values value are constants same) holds =
       let left = constant_left rows attrs width support x a values value wide some are constants (subst (Hold rows) (sym same) holds) in
-      subst (LeavesOne (rules_of rows sides found)) same
-      (left.kept, subst (Contains (rules_of rows sides found))
-      (sym (constant_cells (row_at rows left.r) (side_at sides left.side) a (text_at rows left.r a))
-      ∙ ap (λ (y : List ℕ). constant y a (texts_at rows left.r y) (text_at rows left.r a)) left.is ∙ sym left.same)
-      (has_rule (constant_of a left.side left.r) left.found))
+      subst (LeavesOne (rules_of rows sides found)) same (
+        left.kept,
+        subst (Contains (rules_of rows sides found))
+            (sym (constant_cells (row_at rows left.r) (side_at sides left.side) a (text_at rows left.r a))
+            ∙ ap (λ (y : List ℕ). constant y a (texts_at rows left.r y) (text_at rows left.r a)) left.is ∙ sym left.same)
+            (has_rule (constant_of a left.side left.r) left.found),
+      )
 
   pub are_least : AreLeast rows attrs width support (rules_of rows sides found)
   are_least = record { candidates = candidates; minimal = minimal; enough = enough }
@@ -83,3 +85,22 @@ pub named_least : (number : ℕ) (rows : List Row) (attrs width support : ℕ) (
 named_least number rows attrs width support deps wide some are =
     subst (AreLeast rows attrs width support) (sym (ap (map (λ (dep : Dep). dep.rule)) are.named ∙ rules_from number rows (left_sides attrs width) 0 are.sorted))
     (are_least rows attrs width support wide some are.sorted (subst (λ (all : List Candidate). IsInOrder rows (left_sides attrs width) all are.sorted) are.is_all are.in_order))
+
+-- the steps, each with its own names for what is the same
+pub steps_named : (number : ℕ) (rows rows_seen : List Row) (attrs attrs_seen width support : ℕ) (sides searched ordered named : List (List ℕ)) (all all_seen sorted sorted_seen : List Candidate) (deps : List Dep)
+    → rows_seen ≡ rows → attrs_seen ≡ attrs → sides ≡ left_sides attrs_seen width → searched ≡ sides → ordered ≡ sides → named ≡ sides
+    → all ≡ all_found rows_seen support attrs_seen searched → all_seen ≡ all → IsInOrder rows_seen ordered all_seen sorted → sorted_seen ≡ sorted
+    → deps ≡ deps_from number rows_seen named 0 sorted_seen → AreNamed number rows attrs width support deps
+steps_named number rows rows_seen attrs attrs_seen width support sides searched ordered named all all_seen sorted sorted_seen deps er ea es e1 e2 e3 ef ex in_order ey ed =
+    let same : sides ≡ left_sides attrs width = es ∙ ap (λ (n : ℕ). left_sides n width) ea in
+    let first : searched ≡ left_sides attrs width = e1 ∙ same in
+    let second : ordered ≡ left_sides attrs width = e2 ∙ same in
+    let third : named ≡ left_sides attrs width = e3 ∙ same in
+    record {
+      all = all;
+      sorted = sorted;
+      is_all = ef ∙ (λ i. all_found (er i) support (ea i) (first i));
+      in_order = subst (λ (r : List Row). IsInOrder r (left_sides attrs width) all sorted) er
+          (subst (λ (s : List (List ℕ)). IsInOrder rows_seen s all sorted) second (subst (λ (xs : List Candidate). IsInOrder rows_seen ordered xs sorted) ex in_order));
+      named = ed ∙ (λ i. deps_from number (er i) (third i) 0 (ey i));
+    }

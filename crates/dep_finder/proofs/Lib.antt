@@ -1,2 +1,9 @@
+pub mod FoundLists
+pub mod KeptParts
+pub mod Laws
+pub mod LeastFound
+pub mod LeastParts
+pub mod Meaning
 pub mod Numbered
 pub mod Over
+pub mod SameTexts

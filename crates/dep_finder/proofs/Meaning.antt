@@ -188,8 +188,8 @@ plain_held rows attrs x a wide within al holds = λ r rl s sl same.
     let rule = plain x a in
     let there = λ (k : ℕ) (kl : k < length rows). sides_there rule (row_at rows k) attrs (wide k [] kl) within al in
     let told = holds (record { x = map (λ attr. Any) x; a = Any }) (row_at rows r) (row_at rows s) _ _ (contains-here _ []) (Contains-get_or rows r [] rl) (Contains-get_or rows s [] sl)
-        (there r rl) (there s sl) ((pointwise_decides bytes_eq-Decides (texts_at rows r x) (texts_at rows s x)).1 same)
-        (any_match x (texts_at rows r x) (texts_long (row_at rows r) x)) in
+    (there r rl) (there s sl) ((pointwise_decides bytes_eq-Decides (texts_at rows r x) (texts_at rows s x)).1 same)
+    (any_match x (texts_at rows r x) (texts_long (row_at rows r) x)) in
     (bytes_eq-Decides (text_at rows r a) (text_at rows s a)).0 told.0
 
 pub constant_holds : (rows : List Row) (attrs : ℕ) (x : List ℕ) (a : ℕ) (values : List (List ℕ)) (value : List ℕ) → AreWide attrs rows → AreWithin attrs x → a < attrs
@@ -211,6 +211,6 @@ constant_held rows attrs x a values value wide within al holds = λ r rl same.
     let rule = constant x a values value in
     let there = sides_there rule (row_at rows r) attrs (wide r [] rl) within al in
     let told = holds (record { x = map Is values; a = Is value }) (row_at rows r) (row_at rows r) _ _ (contains-here _ []) (Contains-get_or rows r [] rl) (Contains-get_or rows r [] rl)
-        there there ((pointwise_decides bytes_eq-Decides (texts_at rows r x) (texts_at rows r x)).1 refl)
-        ((is_match values (texts_at rows r x)).1 same) in
+    there there ((pointwise_decides bytes_eq-Decides (texts_at rows r x) (texts_at rows r x)).1 refl)
+    ((is_match values (texts_at rows r x)).1 same) in
     (bytes_eq-Decides value (text_at rows r a)).0 told.1

@@ -1,2 +1,3 @@
 pub mod Deps
 pub mod FoundText
+pub mod Minimal

@@ -1,11 +1,12 @@
 //! What is found, as rules.
-ghost use Rattle.std.specs.Prelude.{◌≡◌, ◌≤◌, ◌<◌, ◌++◌, List, ℕ, Some, length, codes, decimal, All, IfErr, IfOk};
+ghost use Rattle.std.specs.Prelude.{◌≡◌, ◌≤◌, ◌<◌, ◌++◌, List, ℕ, Some, length, map, codes, decimal, All, IfErr, IfOk};
 ghost use Rattle.dep_search.specs.Found.{left_sides, side_at};
 ghost use Rattle.dep_search.specs.Keys.{IsCandidate};
 ghost use Rattle.dep_search.specs.Rows.{Row, row_at};
 ghost use Rattle.dep_search.specs.declared.candidate.Candidate.{Candidate};
 ghost use Rattle.dep_search.specs.declared.finder.FindFault.TheVariants.{TooMany};
 ghost use Rattle.dep_finder.specs.Deps.{AreFound, AreMore, IsOver, cell_of, cells_of, dep_of, deps_from, found_name, rule_of};
+ghost use Rattle.dep_finder.specs.Minimal.{AreLeast};
 
 use cfd_semantics::{Dependency, Pattern, TableauRow};
 use dep_search::{Candidate, FindFault, all_found, left_sides, sorted};
@@ -29,6 +30,7 @@ pub fn find_deps(
     requires narrow { width ≤ 3 }
     requires support { 1 ≤ support }
     ensures found { IfOk result (AreFound table.now number rows.now width support) }
+    ensures least { IfOk result (λ found. AreLeast rows.now (length table.now.attrs) width support (map (λ dep. dep.rule) found)) }
     ensures over { IfOk result (All (IsOver table.now.attrs)) }
     ensures few { IfOk result (λ found. length found ≤ most) }
     ensures many { IfErr result (λ fault. fault ≡ TooMany → AreMore table.now rows.now width support most) }

@@ -5,6 +5,7 @@ use Rattle.dep_search.specs.Keys.{IsCandidate}
 use Rattle.dep_search.specs.declared.candidate.Candidate.{Candidate}
 use Rattle.dep_finder.specs.Deps.{IsOver}
 use Rattle.dep_finder.proofs.Numbered.{deps_long}
+use Rattle.dep_finder.proofs.LeastFound.{named_least, steps_named}
 use Rattle.dep_finder.proofs.Over.{deps_over}
 use Rattle.dep_finder.proofs.deps.find_deps.Goals as goal
 
@@ -44,3 +45,14 @@ returns-clause-few c =
       length_permutation c.in_ok-found.found c.in_ok-found-2.found moved,
       c.in_ok-found.ensures.few,
     )
+
+pub returns-clause-least : goal.returns-clause-least
+returns-clause-least c =
+    let rows = c.args.rows.now in
+    let attrs = length c.args.table.now.attrs in
+    named_least c.args.number rows attrs c.args.width c.args.support c.in_ok-deps_of.field-0 c.requires.rows c.requires.support
+    (steps_named c.args.number rows c.as_slice-rows.result.now attrs (length c.as_slice-attrs.result.now) c.args.width c.args.support
+    c.in_ok-sides.sides c.as_slice.result.now c.as_slice-2.result.now c.as_slice-4.result.now
+    c.in_ok-found.found c.as_slice-3.result.now c.in_ok-found-2.found c.as_slice-5.result.now c.in_ok-deps_of.field-0
+    c.as_slice-rows.ensures (ap length c.as_slice-attrs.ensures) c.in_ok-sides.ensures.all c.as_slice.ensures c.as_slice-2.ensures c.as_slice-4.ensures
+    c.in_ok-found.ensures.ok c.as_slice-3.ensures c.in_ok-found-2.ensures c.as_slice-5.ensures c.in_ok-deps_of.ensures)
