@@ -56,7 +56,7 @@ item-there (x ∷ xs) (suc k) within = item-there xs k (omega arith)
 abbrev pub stored_rows : List Stored → ℕ → List StoredRow
 stored_rows tables n = option_map_or (λ (t : Stored). finmap.entries t.rows) (slice_get tables n) []
 
-renamed-is : (texts : List (List ℕ)) (tables : List Stored) (n : ℕ) → renamed_rows (text_of texts) (stored_rows tables n) ≡ rows_at (state_of texts tables) n
+pub renamed-is : (texts : List (List ℕ)) (tables : List Stored) (n : ℕ) → renamed_rows (text_of texts) (stored_rows tables n) ≡ rows_at (state_of texts tables) n
 renamed-is texts [] n = refl
 renamed-is texts (t ∷ tables) zero = refl
 renamed-is texts (t ∷ tables) (suc n) = renamed-is texts tables n
@@ -70,7 +70,7 @@ no_rows texts = record {
   named = All-nil _;
 }
 
-rows-in-texts : (texts : List (List ℕ)) (tables : List Stored) (n : ℕ) → All (λ (t : Stored). RowsHaveTexts texts t.rows) tables → AreRowsInTexts texts (tuples_of tables n) (stored_rows tables n)
+pub rows-in-texts : (texts : List (List ℕ)) (tables : List Stored) (n : ℕ) → All (λ (t : Stored). RowsHaveTexts texts t.rows) tables → AreRowsInTexts texts (tuples_of tables n) (stored_rows tables n)
 rows-in-texts texts [] n named = no_rows texts
 rows-in-texts texts (t ∷ tables) zero named =
     let rows = rows_of_map t.rows in
@@ -144,7 +144,7 @@ module _ (rules : Book) (texts : List (List ℕ)) (tables : List Stored) (index 
 -- ---- one row of a table
 
 -- what is at one place of two lists
-zip-at : {X Y : Type 0} (R : X → Y → Type 0) (xs : List X) (ys : List Y) (n : ℕ) (x : X) (y : Y) → AllZip R xs ys → slice_get xs n ≡ Some x → slice_get ys n ≡ Some y → R x y
+pub zip-at : {X Y : Type 0} (R : X → Y → Type 0) (xs : List X) (ys : List Y) (n : ℕ) (x : X) (y : Y) → AllZip R xs ys → slice_get xs n ≡ Some x → slice_get ys n ≡ Some y → R x y
 zip-at R [] ys n x y zip at there = absurd (none-some x at)
 zip-at R (a ∷ xs) [] n x y zip at there = absurd zip
 zip-at R (a ∷ xs) (b ∷ ys) zero x y zip at there = let one : a ≡ x = same_Some a x at in let other : b ≡ y = same_Some b y there in subst (λ a. R a y) one (subst (R a) other zip.0)

@@ -25,3 +25,6 @@ pub mod Answering
 pub mod Behind
 pub mod MasterRows
 pub mod ProbesOfChange
+pub mod DirtyByIds
+pub mod DirtyRenamed
+pub mod Walked

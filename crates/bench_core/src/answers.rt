@@ -1,9 +1,10 @@
 //! What the rules find among the rows, as the indexes tell it.
 
-ghost use Rattle.std.specs.Prelude.{◌≡◌, ◌<◌, length, IfOk};
+ghost use Rattle.std.specs.Prelude.{◌≡◌, ◌+◌, ◌<◌, ◌≤◌, length, IfOk};
 ghost use Rattle.rule_model.specs.Books.{book_cinds, book_deps};
 ghost use Rattle.bench_core.specs.Answers.{AreMastersOf, IsRowOfCind, IsRowOfDep, orphans_at, orphans_of_row, violations_at, violations_of_row};
 ghost use Rattle.bench_core.specs.Bench.{IsHeld, present_of};
+ghost use Rattle.bench_core.specs.DirtyCounts.{cind_rows, cind_walk_at, dep_rows, dep_walk_at};
 ghost use Rattle.bench_core.specs.Indexed.{IsInStepWith};
 
 use crate::project::Project;
@@ -27,10 +28,13 @@ impl Project {
         requires held { IsHeld self.now }
         requires in_step { IsInStepWith self.now index.now }
         requires dep { dep < length (book_deps self.now.rules) }
-        ensures { IfOk result (λ found. found ≡ violations_at self.now.rules (present_of self.now) dep) }
+        ensures violations { IfOk result (λ found. found ≡ violations_at self.now.rules (present_of self.now) dep) }
+        ensures probes { steps.new ≤ steps.old + dep_walk_at self.now.rules (present_of self.now) dep }
     {
         // The length is what says that no text has two ids.
         let _len = self.pool.len();
+        // The number of dirty groups is what says that they are those of the rows.
+        let _dirty = index.index.groups[dep].dirty();
         index.index.violations(dep, steps)
     }
 
@@ -44,10 +48,13 @@ impl Project {
         requires held { IsHeld self.now }
         requires in_step { IsInStepWith self.now index.now }
         requires dep { dep < length (book_deps self.now.rules) }
-        ensures { IfOk result (λ count. count ≡ length (violations_at self.now.rules (present_of self.now) dep)) }
+        ensures count { IfOk result (λ count. count ≡ length (violations_at self.now.rules (present_of self.now) dep)) }
+        ensures probes { steps.new ≤ steps.old + dep_walk_at self.now.rules (present_of self.now) dep }
     {
         // The length is what says that no text has two ids.
         let _len = self.pool.len();
+        // The number of dirty groups is what says that they are those of the rows.
+        let _dirty = index.index.groups[dep].dirty();
         index.index.violation_count(dep, steps)
     }
 
@@ -63,7 +70,8 @@ impl Project {
         requires in_step { IsInStepWith self.now index.now }
         requires dep { dep < length (book_deps self.now.rules) }
         requires there { IsRowOfDep self.now.rules (present_of self.now) dep row }
-        ensures { IfOk result (λ found. found ≡ violations_of_row self.now.rules (present_of self.now) dep row) }
+        ensures violations { IfOk result (λ found. found ≡ violations_of_row self.now.rules (present_of self.now) dep row) }
+        ensures probes { steps.new ≤ steps.old + dep_rows self.now.rules dep }
     {
         // The length is what says that no text has two ids.
         let _len = self.pool.len();
@@ -86,10 +94,13 @@ impl Project {
         requires held { IsHeld self.now }
         requires in_step { IsInStepWith self.now index.now }
         requires cind { cind < length (book_cinds self.now.rules) }
-        ensures { IfOk result (λ found. found ≡ orphans_at self.now.rules (present_of self.now) cind) }
+        ensures orphans { IfOk result (λ found. found ≡ orphans_at self.now.rules (present_of self.now) cind) }
+        ensures probes { steps.new ≤ steps.old + cind_walk_at self.now.rules (present_of self.now) cind }
     {
         // The length is what says that no text has two ids.
         let _len = self.pool.len();
+        // The number of dirty keys is what says that they are those of the rows.
+        let _dirty = index.index.cinds[cind].dirty();
         index.index.orphans(cind, steps)
     }
 
@@ -103,10 +114,13 @@ impl Project {
         requires held { IsHeld self.now }
         requires in_step { IsInStepWith self.now index.now }
         requires cind { cind < length (book_cinds self.now.rules) }
-        ensures { IfOk result (λ count. count ≡ length (orphans_at self.now.rules (present_of self.now) cind)) }
+        ensures count { IfOk result (λ count. count ≡ length (orphans_at self.now.rules (present_of self.now) cind)) }
+        ensures probes { steps.new ≤ steps.old + cind_walk_at self.now.rules (present_of self.now) cind }
     {
         // The length is what says that no text has two ids.
         let _len = self.pool.len();
+        // The number of dirty keys is what says that they are those of the rows.
+        let _dirty = index.index.cinds[cind].dirty();
         index.index.orphan_count(cind, steps)
     }
 
@@ -122,7 +136,8 @@ impl Project {
         requires in_step { IsInStepWith self.now index.now }
         requires cind { cind < length (book_cinds self.now.rules) }
         requires there { IsRowOfCind self.now.rules (present_of self.now) cind row }
-        ensures { IfOk result (λ found. found ≡ orphans_of_row self.now.rules (present_of self.now) cind row) }
+        ensures orphans { IfOk result (λ found. found ≡ orphans_of_row self.now.rules (present_of self.now) cind row) }
+        ensures probes { steps.new ≤ steps.old + cind_rows self.now.rules cind }
     {
         // The length is what says that no text has two ids.
         let _len = self.pool.len();

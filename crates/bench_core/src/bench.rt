@@ -11,6 +11,7 @@ ghost use Rattle.bench_core.specs.Stored.{RowsHaveTexts, stored, table_state};
 ghost use Rattle.rule_model.specs.Books.{book_cinds, book_deps};
 ghost use Rattle.bench_core.specs.Answers.{AreMastersOf, IsRowOfCind, IsRowOfDep, orphans_at, orphans_of_row, violations_at, violations_of_row};
 ghost use Rattle.bench_core.specs.Bench.{IsHistory};
+ghost use Rattle.bench_core.specs.DirtyCounts.{cind_rows, cind_walk_at, dep_rows, dep_walk_at};
 ghost use Rattle.bench_core.specs.Indexed.{AreOfTheChange, edit_probes};
 ghost use Rattle.bench_core.specs.declared.edit.RedoFault.TheVariants as redo_fault;
 ghost use Rattle.bench_core.specs.declared.edit.UndoFault.TheVariants as undo_fault;
@@ -144,14 +145,15 @@ impl Bench {
     }
 
     /// The violations of a numbered dependency, each with the number of its tableau row: by tableau row, and for each by
-    /// rising row.
+    /// rising row. For each tableau row the dirty groups are gone over, and no other rows.
     pub fn violations<L: Ledger>(
         &self,
         dep: usize,
         steps: &mut Steps<L>,
     ) -> Result<List<(usize, Violation)>, AllocError>
         requires { dep < length (book_deps self.now.rules) }
-        ensures { IfOk result (λ found. found ≡ violations_at self.now.rules self.now.history.present dep) }
+        ensures violations { IfOk result (λ found. found ≡ violations_at self.now.rules self.now.history.present dep) }
+        ensures probes { steps.new ≤ steps.old + dep_walk_at self.now.rules self.now.history.present dep }
     {
         self.project.violations(&self.index, dep, steps)
     }
@@ -163,12 +165,14 @@ impl Bench {
         steps: &mut Steps<L>,
     ) -> Result<usize, AllocError>
         requires { dep < length (book_deps self.now.rules) }
-        ensures { IfOk result (λ count. count ≡ length (violations_at self.now.rules self.now.history.present dep)) }
+        ensures count { IfOk result (λ count. count ≡ length (violations_at self.now.rules self.now.history.present dep)) }
+        ensures probes { steps.new ≤ steps.old + dep_walk_at self.now.rules self.now.history.present dep }
     {
         self.project.violation_count(&self.index, dep, steps)
     }
 
-    /// The violations of a dependency that a row of its table has, and not those in which it is only the partner.
+    /// The violations of a dependency that a row of its table has, and not those in which it is only the partner: at most one
+    /// probe for each tableau row.
     pub fn violations_of_row<L: Ledger>(
         &self,
         dep: usize,
@@ -177,20 +181,22 @@ impl Bench {
     ) -> Result<List<(usize, Violation)>, AllocError>
         requires dep { dep < length (book_deps self.now.rules) }
         requires there { IsRowOfDep self.now.rules self.now.history.present dep row }
-        ensures { IfOk result (λ found. found ≡ violations_of_row self.now.rules self.now.history.present dep row) }
+        ensures violations { IfOk result (λ found. found ≡ violations_of_row self.now.rules self.now.history.present dep row) }
+        ensures probes { steps.new ≤ steps.old + dep_rows self.now.rules dep }
     {
         self.project.violations_of_row(&self.index, dep, row, steps)
     }
 
     /// The orphans of a numbered inclusion, each with the number of its tableau row: by tableau row, and for each by rising
-    /// row.
+    /// row. For each tableau row the dirty keys are gone over, and no other rows.
     pub fn orphans<L: Ledger>(
         &self,
         cind: usize,
         steps: &mut Steps<L>,
     ) -> Result<List<(usize, RowId)>, AllocError>
         requires { cind < length (book_cinds self.now.rules) }
-        ensures { IfOk result (λ found. found ≡ orphans_at self.now.rules self.now.history.present cind) }
+        ensures orphans { IfOk result (λ found. found ≡ orphans_at self.now.rules self.now.history.present cind) }
+        ensures probes { steps.new ≤ steps.old + cind_walk_at self.now.rules self.now.history.present cind }
     {
         self.project.orphans(&self.index, cind, steps)
     }
@@ -202,12 +208,13 @@ impl Bench {
         steps: &mut Steps<L>,
     ) -> Result<usize, AllocError>
         requires { cind < length (book_cinds self.now.rules) }
-        ensures { IfOk result (λ count. count ≡ length (orphans_at self.now.rules self.now.history.present cind)) }
+        ensures count { IfOk result (λ count. count ≡ length (orphans_at self.now.rules self.now.history.present cind)) }
+        ensures probes { steps.new ≤ steps.old + cind_walk_at self.now.rules self.now.history.present cind }
     {
         self.project.orphan_count(&self.index, cind, steps)
     }
 
-    /// The orphans of an inclusion that a row of its left table is.
+    /// The orphans of an inclusion that a row of its left table is: at most one probe for each tableau row.
     pub fn orphans_of_row<L: Ledger>(
         &self,
         cind: usize,
@@ -216,7 +223,8 @@ impl Bench {
     ) -> Result<List<(usize, RowId)>, AllocError>
         requires cind { cind < length (book_cinds self.now.rules) }
         requires there { IsRowOfCind self.now.rules self.now.history.present cind row }
-        ensures { IfOk result (λ found. found ≡ orphans_of_row self.now.rules self.now.history.present cind row) }
+        ensures orphans { IfOk result (λ found. found ≡ orphans_of_row self.now.rules self.now.history.present cind row) }
+        ensures probes { steps.new ≤ steps.old + cind_rows self.now.rules cind }
     {
         self.project.orphans_of_row(&self.index, cind, row, steps)
     }

@@ -9,6 +9,7 @@ use Rattle.bench_core.specs.Bench.{tables_of}
 use Rattle.bench_core.specs.Stored.{Stored, stored}
 use Rattle.bench_core.specs.Answers.{row_texts}
 use Rattle.bench_core.proofs.Answering.{cind-indexed, cind-valid, cind-wide, ok_weaker, row-absent, row-named, row-there, row-orphans, row-wide, rule-at, store-read, table-within}
+use Rattle.bench_core.proofs.Walked.{cind-rows-probed}
 use Rattle.bench_core.proofs.project.Project.orphans_of_row.Goals as goal
 
 found : (o : Option (Bor Tuple)) (tuple : Bor Tuple) (ids : Option (List ℕ)) → ids_behind o ≡ ids → o ≡ Some tuple → ids ≡ Some (ids_of tuple.now)
@@ -28,15 +29,15 @@ orphans_of_row-requires-clause-wide g c =
     cind-wide project.rules c.cinds.ensures.valid project.pool _ c.args.index.now c.requires.in_step c.args.cind (ids_of c.in-Some.tuple.now) c.index-as_slice-cind.result (rule-at (book_cinds c.args.self.now.rules) c.as_slice.result.now c.args.cind c.index-as_slice-cind.result (c.as_slice.ensures ∙ c.cinds.ensures.cinds) c.requires.cind c.index-as_slice-cind.is)
     (row-wide project.rules project.limits project.pool (tables_of project) c.requires.held.history.present c.index-as_slice-cind.result.left c.args.row (stored c.index.result.now) (store-read c.args.self.now c.requires.held c.index-as_slice-cind.result.left (cind-valid c.args.self.now.rules c.cinds.ensures.valid c.args.cind c.index-as_slice-cind.result (rule-at (book_cinds c.args.self.now.rules) c.as_slice.result.now c.args.cind c.index-as_slice-cind.result (c.as_slice.ensures ∙ c.cinds.ensures.cinds) c.requires.cind c.index-as_slice-cind.is)).left c.index.result.now (c.index.ensures ∙ ap (λ (rule : Cind). get_or c.args.self.now.stores.items rule.left c.index.result.now) (sym c.index-as_slice-cind.is))) (ids_of c.in-Some.tuple.now) is)
 
-pub returns-in-Some : goal.returns-in-Some
-returns-in-Some g c =
+pub returns-in-Some-clause-orphans : goal.returns-in-Some-clause-orphans
+returns-in-Some-clause-orphans g c =
     let project = c.args.self.now in
     let is = found c.get.result c.in-Some.tuple (finmap.get c.index.result.now.rows c.args.row) c.get.ensures c.in-Some.is in
     let there = row-there project.rules project.limits project.pool (tables_of project) c.requires.held.history.present c.index-as_slice-cind.result.left c.args.row (stored c.index.result.now) (store-read c.args.self.now c.requires.held c.index-as_slice-cind.result.left (cind-valid c.args.self.now.rules c.cinds.ensures.valid c.args.cind c.index-as_slice-cind.result (rule-at (book_cinds c.args.self.now.rules) c.as_slice.result.now c.args.cind c.index-as_slice-cind.result (c.as_slice.ensures ∙ c.cinds.ensures.cinds) c.requires.cind c.index-as_slice-cind.is)).left c.index.result.now (c.index.ensures ∙ ap (λ (rule : Cind). get_or c.args.self.now.stores.items rule.left c.index.result.now) (sym c.index-as_slice-cind.is))) (ids_of c.in-Some.tuple.now) is in
     ok_weaker c.orphans_of_row.result (λ lines. row-orphans project.rules project.pool (tables_of project) c.args.index.now c.requires.held.named c.requires.in_step c.len-len.ensures.distinct c.args.cind c.args.row (ids_of c.in-Some.tuple.now) lines c.index-as_slice-cind.result (rule-at (book_cinds c.args.self.now.rules) c.as_slice.result.now c.args.cind c.index-as_slice-cind.result (c.as_slice.ensures ∙ c.cinds.ensures.cinds) c.requires.cind c.index-as_slice-cind.is) there) c.orphans_of_row.ensures.orphans
 
-pub returns-in-None : goal.returns-in-None
-returns-in-None g c =
+pub returns-in-None-clause-orphans : goal.returns-in-None-clause-orphans
+returns-in-None-clause-orphans g c =
     let project = c.args.self.now in
     let none : finmap.get c.index.result.now.rows c.args.row ≡ None = sym c.get.ensures ∙ ap ids_behind c.in-None.is in
     absurd (row-absent project.rules project.limits project.pool (tables_of project) c.requires.held.history.present c.index-as_slice-cind.result.left c.args.row (stored c.index.result.now) (store-read c.args.self.now c.requires.held c.index-as_slice-cind.result.left (cind-valid c.args.self.now.rules c.cinds.ensures.valid c.args.cind c.index-as_slice-cind.result (rule-at (book_cinds c.args.self.now.rules) c.as_slice.result.now c.args.cind c.index-as_slice-cind.result (c.as_slice.ensures ∙ c.cinds.ensures.cinds) c.requires.cind c.index-as_slice-cind.is)).left c.index.result.now (c.index.ensures ∙ ap (λ (rule : Cind). get_or c.args.self.now.stores.items rule.left c.index.result.now) (sym c.index-as_slice-cind.is))) none (c.requires.there c.index-as_slice-cind.result (rule-at (book_cinds c.args.self.now.rules) c.as_slice.result.now c.args.cind c.index-as_slice-cind.result (c.as_slice.ensures ∙ c.cinds.ensures.cinds) c.requires.cind c.index-as_slice-cind.is)))
@@ -45,3 +46,9 @@ pub orphans_of_row-requires-clause-number : goal.orphans_of_row-requires-clause-
 orphans_of_row-requires-clause-number g c =
     let project = c.args.self.now in
     cind-indexed project.rules project.pool (tables_of project) c.args.index.now c.requires.held.named c.requires.in_step c.args.cind c.requires.cind
+
+pub returns-in-Some-clause-probes : goal.returns-in-Some-clause-probes
+returns-in-Some-clause-probes g c =
+    let project = c.args.self.now in
+    let within = cind-indexed project.rules project.pool (tables_of project) c.args.index.now c.requires.held.named c.requires.in_step c.args.cind c.requires.cind in
+    cind-rows-probed project.rules project.pool (tables_of project) c.args.index.now c.requires.held.named c.requires.in_step c.args.cind c.args.steps.now c.orphans_of_row.new.steps c.requires.cind within c.orphans_of_row.ensures.probes

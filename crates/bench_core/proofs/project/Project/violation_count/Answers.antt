@@ -1,6 +1,13 @@
+use Rattle.std.proofs.Common.{refl, arith}
 use Rattle.bench_core.specs.Bench.{tables_of}
-use Rattle.bench_core.proofs.Answering.{dep-indexed, violation-count, ok_weaker, settled}
+use Rattle.bench_core.proofs.Answering.{dep-indexed, violation-count, ok_weaker, rule-at, settled}
+use Rattle.bench_core.proofs.Walked.{groups-walked}
 use Rattle.bench_core.proofs.project.Project.violation_count.Goals as goal
+
+pub index-requires : goal.index-requires
+index-requires g c =
+    let project = c.args.self.now in
+    omega (arith, dep-indexed project.rules project.pool (tables_of project) c.args.index.now c.requires.held.named c.requires.in_step c.args.dep c.requires.dep, c.args.index.now.index.groups.ok.0)
 
 pub violation_count-requires-clause-number : goal.violation_count-requires-clause-number
 violation_count-requires-clause-number g c =
@@ -12,7 +19,16 @@ violation_count-requires-clause-settled g c =
     let project = c.args.self.now in
     settled project.rules project.pool (tables_of project) c.args.index.now c.requires.held.named c.requires.in_step
 
-pub returns : goal.returns
-returns g c =
+pub returns-clause-count : goal.returns-clause-count
+returns-clause-count g c =
     let project = c.args.self.now in
     ok_weaker c.violation_count.result (λ found. violation-count project.rules project.pool (tables_of project) c.args.index.now c.requires.held.named c.requires.in_step c.len-len.ensures.distinct c.args.dep found c.requires.dep) c.violation_count.ensures.count
+
+pub returns-clause-probes : goal.returns-clause-probes
+returns-clause-probes g c =
+    let project = c.args.self.now in
+    let items = c.args.index.now.index.groups.items in
+    let within = dep-indexed project.rules project.pool (tables_of project) c.args.index.now c.requires.held.named c.requires.in_step c.args.dep c.requires.dep in
+    let here = rule-at items items c.args.dep c.index.result.now refl within c.index.ensures in
+    groups-walked project.rules project.pool (tables_of project) c.args.index.now c.requires.held.named c.requires.in_step c.args.dep c.len-len.ensures.distinct
+    c.index.result.now c.dirty-dirty.result c.args.steps.now c.violation_count.new.steps c.requires.dep here c.dirty-dirty.ensures.groups c.dirty-dirty.ensures.count c.violation_count.ensures.probes

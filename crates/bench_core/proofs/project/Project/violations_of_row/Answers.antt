@@ -8,7 +8,8 @@ use Rattle.row_store.specs.Tuple.{Tuple, ids_behind, ids_of}
 use Rattle.bench_core.specs.Bench.{tables_of}
 use Rattle.bench_core.specs.Stored.{Stored, stored}
 use Rattle.bench_core.specs.Answers.{row_texts}
-use Rattle.bench_core.proofs.Answering.{dep-valid, dep-wide, ok_weaker, row-absent, row-named, row-there, row-violations, row-wide, rule-at, store-read, table-within}
+use Rattle.bench_core.proofs.Answering.{dep-indexed, dep-valid, dep-wide, ok_weaker, row-absent, row-named, row-there, row-violations, row-wide, rule-at, store-read, table-within}
+use Rattle.bench_core.proofs.Walked.{dep-rows-probed}
 use Rattle.bench_core.proofs.project.Project.violations_of_row.Goals as goal
 
 found : (o : Option (Bor Tuple)) (tuple : Bor Tuple) (ids : Option (List ℕ)) → ids_behind o ≡ ids → o ≡ Some tuple → ids ≡ Some (ids_of tuple.now)
@@ -34,15 +35,21 @@ violations_of_row-requires-clause-named g c =
     let is = found c.get.result c.in-Some.tuple (finmap.get c.index.result.now.rows c.args.row) c.get.ensures c.in-Some.is in
     row-named project.rules project.limits project.pool (tables_of project) c.requires.held.history.present c.index-as_slice-dep.result.table c.args.row (stored c.index.result.now) (store-read c.args.self.now c.requires.held c.index-as_slice-dep.result.table (dep-valid c.args.self.now.rules c.deps.ensures.valid c.args.dep c.index-as_slice-dep.result (rule-at (book_deps c.args.self.now.rules) c.as_slice.result.now c.args.dep c.index-as_slice-dep.result (c.as_slice.ensures ∙ c.deps.ensures.deps) c.requires.dep c.index-as_slice-dep.is)).table c.index.result.now (c.index.ensures ∙ ap (λ (rule : Dep). get_or c.args.self.now.stores.items rule.table c.index.result.now) (sym c.index-as_slice-dep.is))) (ids_of c.in-Some.tuple.now) is c.requires.held.named
 
-pub returns-in-Some : goal.returns-in-Some
-returns-in-Some g c =
+pub returns-in-Some-clause-violations : goal.returns-in-Some-clause-violations
+returns-in-Some-clause-violations g c =
     let project = c.args.self.now in
     let is = found c.get.result c.in-Some.tuple (finmap.get c.index.result.now.rows c.args.row) c.get.ensures c.in-Some.is in
     let there = row-there project.rules project.limits project.pool (tables_of project) c.requires.held.history.present c.index-as_slice-dep.result.table c.args.row (stored c.index.result.now) (store-read c.args.self.now c.requires.held c.index-as_slice-dep.result.table (dep-valid c.args.self.now.rules c.deps.ensures.valid c.args.dep c.index-as_slice-dep.result (rule-at (book_deps c.args.self.now.rules) c.as_slice.result.now c.args.dep c.index-as_slice-dep.result (c.as_slice.ensures ∙ c.deps.ensures.deps) c.requires.dep c.index-as_slice-dep.is)).table c.index.result.now (c.index.ensures ∙ ap (λ (rule : Dep). get_or c.args.self.now.stores.items rule.table c.index.result.now) (sym c.index-as_slice-dep.is))) (ids_of c.in-Some.tuple.now) is in
     ok_weaker c.violations_of_row.result (λ lines. row-violations project.rules project.pool (tables_of project) c.args.index.now c.requires.held.named c.requires.in_step c.len-len.ensures.distinct c.args.dep c.args.row (ids_of c.in-Some.tuple.now) lines c.index-as_slice-dep.result (rule-at (book_deps c.args.self.now.rules) c.as_slice.result.now c.args.dep c.index-as_slice-dep.result (c.as_slice.ensures ∙ c.deps.ensures.deps) c.requires.dep c.index-as_slice-dep.is) there) c.violations_of_row.ensures.violations
 
-pub returns-in-None : goal.returns-in-None
-returns-in-None g c =
+pub returns-in-None-clause-violations : goal.returns-in-None-clause-violations
+returns-in-None-clause-violations g c =
     let project = c.args.self.now in
     let none : finmap.get c.index.result.now.rows c.args.row ≡ None = sym c.get.ensures ∙ ap ids_behind c.in-None.is in
     absurd (row-absent project.rules project.limits project.pool (tables_of project) c.requires.held.history.present c.index-as_slice-dep.result.table c.args.row (stored c.index.result.now) (store-read c.args.self.now c.requires.held c.index-as_slice-dep.result.table (dep-valid c.args.self.now.rules c.deps.ensures.valid c.args.dep c.index-as_slice-dep.result (rule-at (book_deps c.args.self.now.rules) c.as_slice.result.now c.args.dep c.index-as_slice-dep.result (c.as_slice.ensures ∙ c.deps.ensures.deps) c.requires.dep c.index-as_slice-dep.is)).table c.index.result.now (c.index.ensures ∙ ap (λ (rule : Dep). get_or c.args.self.now.stores.items rule.table c.index.result.now) (sym c.index-as_slice-dep.is))) none (c.requires.there c.index-as_slice-dep.result (rule-at (book_deps c.args.self.now.rules) c.as_slice.result.now c.args.dep c.index-as_slice-dep.result (c.as_slice.ensures ∙ c.deps.ensures.deps) c.requires.dep c.index-as_slice-dep.is)))
+
+pub returns-in-Some-clause-probes : goal.returns-in-Some-clause-probes
+returns-in-Some-clause-probes g c =
+    let project = c.args.self.now in
+    let within = dep-indexed project.rules project.pool (tables_of project) c.args.index.now c.requires.held.named c.requires.in_step c.args.dep c.requires.dep in
+    dep-rows-probed project.rules project.pool (tables_of project) c.args.index.now c.requires.held.named c.requires.in_step c.args.dep c.args.steps.now c.violations_of_row.new.steps c.requires.dep within c.violations_of_row.ensures.probes
