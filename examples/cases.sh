@@ -65,6 +65,8 @@ cases() {
     case_of 'the example first' 1 first/transcript first run shop.schema
     case_of 'the example desk' 0 desk/transcript desk desk shop.schema day.events
     case_of 'the example fixes' 0 fixes/transcript fixes run fixes.schema
+    case_of 'the example find' 0 find/found.rules find find shop.schema customer 1 3
+    case_of 'the example find: next month' 1 find/transcript find run next.schema
     case_of 'the example orders' 1 orders/transcript orders run orders.schema
 
     case_of 'the example questions: consistent' 1 questions/never.cert questions \
@@ -90,6 +92,7 @@ cases() {
         desk shop.schema day.events
     case_of 'the page on formats: fixes' 0 "$made/fixes/transcript" "$made/fixes" run fixes.schema
     case_of 'the page on formats: a generated project' 1 "$made/generated/written" "$made/none" generate 7
+    case_of 'the page on formats: what is found' 0 "$made/find/written" find find shop.schema customer 1 3
     case_of 'the page on formats: never' 1 "$made/questions/never" "$made/asked" \
         consistent prices.schema customer 100
     case_of 'the recipes: the orders as they came' 1 orders/report.json "$made/orders" report asis.schema

@@ -20,49 +20,49 @@ abbrev pub rules_of : List Row → List (List ℕ) → List Candidate → List (
 rules_of rows sides found = map (λ (c : Candidate). rule_of rows (side_at sides c.side) c) found
 
 module _ (rows : List Row) (attrs width support : ℕ) (wide : AreWide attrs rows) (some : 1 ≤ support) (found : List Candidate) (is : IsFound rows attrs width support found) where
-  abbrev sides : List (List ℕ)
-  sides = left_sides attrs width
+  abbrev lefts : List (List ℕ)
+  lefts = left_sides attrs width
 
-  abbrev rule : Candidate → Dependency (List ℕ)
-  rule c = rule_of rows (side_at sides c.side) c
+  abbrev rule_at : Candidate → Dependency (List ℕ)
+  rule_at c = rule_of rows (side_at lefts c.side) c
 
   -- what is so of each that is found is so of the rules
-  each_rule : (P : Dependency (List ℕ) → Type 0) → All (λ (c : Candidate). P (rule c)) (all_found rows support attrs sides) → All P (rules_of rows sides found)
-  each_rule P all = All-map P rule found (All-permutation (λ (c : Candidate). P (rule c)) (all_found rows support attrs sides) found is.all all)
+  each_rule : (P : Dependency (List ℕ) → Type 0) → All (λ (c : Candidate). P (rule_at c)) (all_found rows support attrs lefts) → All P (rules_of rows lefts found)
+  each_rule P all = All-map P rule_at found (All-permutation (λ (c : Candidate). P (rule_at c)) (all_found rows support attrs lefts) found is.all all)
 
-  has_rule : (c : Candidate) → Contains (all_found rows support attrs sides) c → Contains (rules_of rows sides found) (rule c)
-  has_rule c among = contains-map rule found c (Contains-permutation (all_found rows support attrs sides) found c is.all among)
+  has_rule : (c : Candidate) → Contains (all_found rows support attrs lefts) c → Contains (rules_of rows lefts found) (rule_at c)
+  has_rule c among = contains-map rule_at found c (Contains-permutation (all_found rows support attrs lefts) found c is.all among)
 
-  candidates : All (IsCandidate rows attrs width support) (rules_of rows sides found)
-  candidates = each_rule (IsCandidate rows attrs width support) (found_each (λ (c : Candidate). IsCandidate rows attrs width support (rule c)) rows support attrs sides
-      (λ side a sl al outside test. as_plain (side_at sides side) a (sides_of attrs width (side_at sides side) a (sides_are attrs width side [] sl) al outside) refl)
-      (λ side a r sl al outside rl test. as_constant (side_at sides side) a (texts_at rows r (side_at sides side)) (text_at rows r a)
-      (sides_of attrs width (side_at sides side) a (sides_are attrs width side [] sl) al outside)
-      (constants_of rows support (side_at sides side) a r (tests_of rows support (side_at sides side) a r test))
-      (constant_cells (row_at rows r) (side_at sides side) a (text_at rows r a))))
+  candidates : All (IsCandidate rows attrs width support) (rules_of rows lefts found)
+  candidates = each_rule (IsCandidate rows attrs width support) (found_each (λ (c : Candidate). IsCandidate rows attrs width support (rule_at c)) rows support attrs lefts
+      (λ side a sl al outside test. as_plain (side_at lefts side) a (sides_of attrs width (side_at lefts side) a (sides_are attrs width side [] sl) al outside) refl)
+      (λ side a r sl al outside rl test. as_constant (side_at lefts side) a (texts_at rows r (side_at lefts side)) (text_at rows r a)
+      (sides_of attrs width (side_at lefts side) a (sides_are attrs width side [] sl) al outside)
+      (constants_of rows support (side_at lefts side) a r (tests_of rows support (side_at lefts side) a r test))
+      (constant_cells (row_at rows r) (side_at lefts side) a (text_at rows r a))))
 
-  minimal : All (IsMinimal rows) (rules_of rows sides found)
-  minimal = each_rule (IsMinimal rows) (found_each (λ (c : Candidate). IsMinimal rows (rule c)) rows support attrs sides
-      (λ side a sl al outside test. plain_minimal rows attrs (side_at sides side) a wide (sides_are attrs width side [] sl).within al test)
-      (λ side a r sl al outside rl test. subst (IsMinimal rows) (constant_cells (row_at rows r) (side_at sides side) a (text_at rows r a))
-      (constant_minimal rows attrs support (side_at sides side) a r wide (sides_are attrs width side [] sl).within al test)))
+  minimal : All (IsMinimal rows) (rules_of rows lefts found)
+  minimal = each_rule (IsMinimal rows) (found_each (λ (c : Candidate). IsMinimal rows (rule_at c)) rows support attrs lefts
+      (λ side a sl al outside test. plain_minimal rows attrs (side_at lefts side) a wide (sides_are attrs width side [] sl).within al test)
+      (λ side a r sl al outside rl test. subst (IsMinimal rows) (constant_cells (row_at rows r) (side_at lefts side) a (text_at rows r a))
+      (constant_minimal rows attrs support (side_at lefts side) a r wide (sides_are attrs width side [] sl).within al test)))
 
-  enough : (rule : Dependency (List ℕ)) → IsCandidate rows attrs width support rule → Hold rows rule → LeavesOne (rules_of rows sides found) rule
+  enough : (rule : Dependency (List ℕ)) → IsCandidate rows attrs width support rule → Hold rows rule → LeavesOne (rules_of rows lefts found) rule
   enough rule (as_plain x a are same) holds =
       let left = plain_left rows attrs width support x a wide are (subst (Hold rows) (sym same) holds) in
-      subst (LeavesOne (rules_of rows sides found)) same
-      (left.kept, subst (Contains (rules_of rows sides found)) (ap (λ (y : List ℕ). plain y a) left.is ∙ sym (part_plain left.kept x a)) (has_rule (plain_of a left.side) left.found))
+      subst (LeavesOne (rules_of rows lefts found)) same
+      (left.kept, subst (Contains (rules_of rows lefts found)) (ap (λ (y : List ℕ). plain y a) left.is ∙ sym (part_plain left.kept x a)) (has_rule (plain_of a left.side) left.found))
   enough rule (as_constant x a values value are constants same) holds =
       let left = constant_left rows attrs width support x a values value wide some are constants (subst (Hold rows) (sym same) holds) in
-      subst (LeavesOne (rules_of rows sides found)) same (
+      subst (LeavesOne (rules_of rows lefts found)) same (
         left.kept,
-        subst (Contains (rules_of rows sides found))
-            (sym (constant_cells (row_at rows left.r) (side_at sides left.side) a (text_at rows left.r a))
+        subst (Contains (rules_of rows lefts found))
+            (sym (constant_cells (row_at rows left.r) (side_at lefts left.side) a (text_at rows left.r a))
             ∙ ap (λ (y : List ℕ). constant y a (texts_at rows left.r y) (text_at rows left.r a)) left.is ∙ sym left.same)
             (has_rule (constant_of a left.side left.r) left.found),
       )
 
-  pub are_least : AreLeast rows attrs width support (rules_of rows sides found)
+  pub are_least : AreLeast rows attrs width support (rules_of rows lefts found)
   are_least = record { candidates = candidates; minimal = minimal; enough = enough }
 
 -- ---- the rules of dependencies that are named

@@ -67,8 +67,9 @@ fn fetch_asked<S: Shelf>(
     ensures asked { Fetches (fetch_asked limits.now project.now name.now) (λ asked. asked) 2 result (S.told shelf.old) (S.told shelf.new) left.old left.new }
     ensures rows { IfOk result (λ asked. All (λ row. length row ≡ length asked.table.attrs) asked.rows) }
 {
-    let (number, table) = fetch_known(alloc, shelf, project, name, limits, left)?;
-    let rows = fetch_table(alloc, shelf, &table, limits, left)?;
+    let known = fetch_known(alloc, shelf, project, name, limits, left)?;
+    let rows = fetch_table(alloc, shelf, &known.1, limits, left)?;
+    let (number, table) = known;
     Ok(Asked {
         number,
         table,
