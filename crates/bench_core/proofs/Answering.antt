@@ -1,8 +1,8 @@
 -- What the indexes of a bench list is what the rules find among the rows of its state.
-use Rattle.std.proofs.Common.{◌≡◌, ℕ, zero, suc, ◌<◌, true, false, List, [], ◌∷◌, ◌++◌, length, filter, Option, Some, None, All, refl, sym, ap, subst, ◌∙◌, arith}
-use Rattle.std.specs.Prelude.{IfOk, Result, Ok, Err, ◌==◌, map, slice_get, option_and_then, get_or, is_some, IsSome}
+use Rattle.std.proofs.Common.{◌≡◌, ℕ, zero, suc, ◌<◌, true, false, List, [], ◌∷◌, length, filter, Option, Some, None, All, refl, sym, ap, subst, ◌∙◌, arith}
+use Rattle.std.specs.Prelude.{IfOk, Result, Ok, Err, ◌==◌, slice_get, option_and_then, get_or, is_some, IsSome}
 use Rattle.std.specs.List.{AllZip}
-use Rattle.std.specs.Option.{ForSome, option_map_or}
+use Rattle.std.specs.Option.{option_map_or}
 use Rattle.std.specs.Str.{bytes_eq}
 use Rattle.std.specs.FinMap as finmap
 use Rattle.std.proofs.lemmas.List.Elements.{All-append, All-cons, All-head, All-nil, All-tail}
@@ -23,10 +23,7 @@ use Rattle.schema_core.specs.Lookups.{attrs_at}
 use Rattle.text_lists.specs.declared.limits.Limits.{Limits}
 use Rattle.rule_model.specs.Books.{Book, IsBook, book_deps, book_cinds}
 use Rattle.rule_model.specs.Rules.{IsValidCind, IsValidDep}
-use Rattle.row_store.specs.Store.{Rows}
-use Rattle.bench_index.specs.Indexes.{AreOrphansOfCind, AreRowsAt, AreRowsInTexts, AreViolationsOfDep, IsIndexOfCind, IsIndexOfDep}
-use Rattle.group_index.specs.GroupSet.{GroupSet}
-use Rattle.cind_index.specs.declared.index.CindIndex.{CindIndex}
+use Rattle.bench_index.specs.Indexes.{AreOrphansOfCind, AreRowsInTexts, AreViolationsOfDep, IsIndexOfCind, IsIndexOfDep}
 use Rattle.bench_index.specs.Replies.{AreOrphansOfRow, AreSettled, AreViolationsOfRow, IsOrphanCountOfCind, IsViolationCountOfDep, IsWideForCind, IsWideForDep}
 use Rattle.bench_index.specs.declared.all_indexes.AllIndexes.{AllIndexes}
 use Rattle.bench_index.proofs.Settled.{settled_in_step}
@@ -34,7 +31,7 @@ use Rattle.row_store.specs.Store.{Store}
 use Rattle.bench_core.specs.State.{State, TableState, rows_at, texts_of}
 use Rattle.bench_core.specs.Bench.{IsBench, IsHeld, tables_of}
 use Rattle.bench_core.specs.declared.project.Project.{Project}
-use Rattle.bench_core.specs.Stored.{HaveTexts, Stored, StoredRow, RowsHaveTexts, row_of, state_of, stored, table_state, text_of}
+use Rattle.bench_core.specs.Stored.{HaveTexts, Stored, StoredRow, RowsHaveTexts, state_of, stored, table_state, text_of}
 use Rattle.bench_core.specs.Answers.{cind_orphans, dep_violations, orphans_at, orphans_of_row, row_texts, violations_at, violations_of_row}
 use Rattle.bench_core.specs.Indexed.{IsIndexed, tuples_of}
 use Rattle.bench_core.proofs.Holding.{all-there, state-there, stored-at}

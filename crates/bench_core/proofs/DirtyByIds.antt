@@ -1,6 +1,6 @@
 -- So many groups and keys of an index are dirty as the rows say that it holds.
-use Rattle.std.proofs.Common.{◌≡◌, ℕ, ◌↔◌, ◌||◌, ◌⊎◌, Bool, true, false, List, map, filter, length, refl, sym, ap, ◌∙◌, subst, inl, inr}
-use Rattle.std.specs.Prelude.{nat_eq, IsTrue}
+use Rattle.std.proofs.Common.{◌≡◌, ℕ, ◌↔◌, ◌||◌, ◌⊎◌, Bool, true, false, List, map, filter, length, refl, sym, ◌∙◌, subst, inl, inr}
+use Rattle.std.specs.Prelude.{nat_eq}
 use Rattle.std.specs.Bool.{Decides}
 use Rattle.std.specs.Cmp.{nat_eq_equiv}
 use Rattle.std.specs.Cmp.Lexicographic.{pointwise_decides}

@@ -1,8 +1,7 @@
 -- A map that keeps the known values apart changes no number of dirty groups or keys.
-use Rattle.std.proofs.Common.{◌≡◌, ℕ, suc, ◌||◌, Bool, true, false, cond, List, [], ◌∷◌, map, filter, length, refl, sym, ap, ◌∙◌}
+use Rattle.std.proofs.Common.{◌≡◌, ℕ, suc, ◌||◌, Bool, true, false, cond, List, [], ◌∷◌, map, filter, length, refl, ap, ◌∙◌}
 use Rattle.std.specs.List.{All, filter_map, list_any}
 use Rattle.std.specs.Set.{distinct_count, unique_keys}
-use Rattle.std.proofs.lemmas.List.{length-map}
 use Rattle.std.proofs.lemmas.List.Elements.{All-filter, All-head, All-map, All-tail, All-weaker}
 use Rattle.cfd_semantics.specs.declared.dependency.TableauRow.{TableauRow}
 use Rattle.cfd_semantics.specs.declared.dependency.Dependency.{Dependency}

@@ -1,6 +1,6 @@
 -- The master rows that a bench lends are those of its state.
-use Rattle.std.proofs.Common.{◌≡◌, ℕ, zero, suc, Bool, true, false, cond, List, [], ◌∷◌, map, Option, Some, None, All, refl, sym, ap, subst, ◌∙◌}
-use Rattle.std.specs.Prelude.{IfSome, option_and_then, option_map, slice_get}
+use Rattle.std.proofs.Common.{◌≡◌, ℕ, zero, suc, Bool, true, false, cond, List, [], ◌∷◌, map, Option, Some, None, All, refl, sym, ap, ◌∙◌}
+use Rattle.std.specs.Prelude.{IfSome, option_map}
 use Rattle.std.specs.FinMap as finmap
 use Rattle.schema_core.specs.Lookups.{master_at}
 use Rattle.text_lists.specs.declared.limits.Limits.{Limits}

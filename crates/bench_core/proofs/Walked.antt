@@ -1,6 +1,6 @@
 -- What an index goes over is what the rules and the rows of the state say.
-use Rattle.std.proofs.Common.{◌≡◌, ℕ, ◌*◌, ◌<◌, ◌≤◌, ◌+◌, List, [], ◌∷◌, length, Some, All, refl, sym, ap, subst, ◌∙◌, arith}
-use Rattle.std.specs.Prelude.{slice_get, nat_eq}
+use Rattle.std.proofs.Common.{◌≡◌, ℕ, ◌*◌, ◌<◌, ◌≤◌, ◌+◌, List, [], ◌∷◌, length, Some, All, sym, ap, subst, ◌∙◌}
+use Rattle.std.specs.Prelude.{slice_get}
 use Rattle.std.specs.List.{AllZip}
 use Rattle.std.specs.Option.{ForSome, option_map_or}
 use Rattle.std.specs.Str.{bytes_eq}

@@ -1,8 +1,9 @@
 //! The texts of replies, each appended to a buffer.
 
-ghost use Rattle.std.specs.Prelude.{◌≡◌, ◌++◌, codes, decimal, All, OnOk};
+ghost use Rattle.std.specs.Prelude.{◌≡◌, ◌++◌, ◌+◌, ◌≤◌, codes, decimal, All, OnOk};
 ghost use Rattle.std.specs.List.{flat_map};
 ghost use Rattle.bench_core.specs.Edited.{name_of_table};
+ghost use Rattle.violation_report.specs.Probes.{explain_probes, list_probes};
 ghost use Rattle.violation_report.specs.Text.{IsLineOf, line_text};
 ghost use Rattle.session.specs.Replies.{changed_text, count_text, counted_text, done_text, explain_text, fault_text, lines_text, list_text, refused_text};
 
@@ -151,7 +152,8 @@ pub fn push_list<L: Ledger>(
     bench: &Bench,
     steps: &mut Steps<L>,
 ) -> Result<(), AllocError>
-    ensures { OnOk result (out.new.items ≡ out.old.items ++ list_text bench.now.rules bench.now.history.present) }
+    ensures text { OnOk result (out.new.items ≡ out.old.items ++ list_text bench.now.rules bench.now.history.present) }
+    ensures probes { steps.new ≤ steps.old + list_probes bench.now.rules bench.now.history.present }
 {
     let lines = list(alloc, bench, steps)?;
     push_lines(bench.rules(), b"listed", lines.as_slice(), out)
@@ -163,7 +165,8 @@ pub fn push_count<L: Ledger>(
     bench: &Bench,
     steps: &mut Steps<L>,
 ) -> Result<(), AllocError>
-    ensures { OnOk result (out.new.items ≡ out.old.items ++ count_text bench.now.rules bench.now.history.present) }
+    ensures text { OnOk result (out.new.items ≡ out.old.items ++ count_text bench.now.rules bench.now.history.present) }
+    ensures probes { steps.new ≤ steps.old + list_probes bench.now.rules bench.now.history.present }
 {
     push_counted(out, b"count", count(bench, steps)?)
 }
@@ -177,7 +180,8 @@ pub fn push_explained<L: Ledger>(
     row: RowId,
     steps: &mut Steps<L>,
 ) -> Result<(), AllocError>
-    ensures { OnOk result (out.new.items ≡ out.old.items ++ explain_text bench.now.rules bench.now.history.present table.now row) }
+    ensures text { OnOk result (out.new.items ≡ out.old.items ++ explain_text bench.now.rules bench.now.history.present table.now row) }
+    ensures probes { steps.new ≤ steps.old + explain_probes bench.now.rules table.now }
 {
     match explain(alloc, bench, table.as_str(), row, steps) {
         Ok(lines) => push_lines(bench.rules(), b"explained", lines.as_slice(), out),

@@ -2,3 +2,4 @@ pub mod Lists
 pub mod Loops
 pub mod Reports
 pub mod RowLines
+pub mod Probed

@@ -1,7 +1,10 @@
 //! How long the list is.
 
-ghost use Rattle.std.specs.Prelude.{◌≡◌, ◌↔◌, ◌+◌, ◌^◌, ◌<◌, IfOk, length};
+ghost use Rattle.std.specs.Prelude.{◌≡◌, ◌↔◌, ◌+◌, ◌^◌, ◌<◌, ◌≤◌, IfOk, length, sum_by};
+ghost use Rattle.rule_model.specs.Books.{book_cinds, book_deps};
+ghost use Rattle.bench_core.specs.DirtyCounts.{cind_walk, dep_walk};
 ghost use Rattle.violation_report.specs.Listing.{IsSatisfied, cind_lines, dep_lines, listing};
+ghost use Rattle.violation_report.specs.Probes.{list_probes};
 
 use crate::listing::{cind_count, dep_count};
 use bench_core::Bench;
@@ -10,10 +13,11 @@ use std::alloc::AllocError;
 use std::sync::ledger::Ledger;
 
 /// The number of lines of the list, which isn't made: 0 exactly where all rules are satisfied. A number beyond the last of
-/// its type is told as want of memory.
+/// its type is told as want of memory. It takes as many probes as the list.
 pub fn count<L: Ledger>(bench: &Bench, steps: &mut Steps<L>) -> Result<usize, AllocError>
     ensures count { IfOk result (λ lines. lines ≡ length (listing bench.now.rules bench.now.history.present)) }
     ensures law { IfOk result (λ lines. lines ≡ 0 ↔ IsSatisfied bench.now.rules bench.now.history.present) }
+    ensures probes { steps.new ≤ steps.old + list_probes bench.now.rules bench.now.history.present }
 {
     let deps = count_deps(bench, steps)?;
     let cinds = count_cinds(bench, steps)?;
@@ -30,7 +34,8 @@ fn sum_of(one: usize, other: usize) -> Result<usize, AllocError>
 }
 
 fn count_deps<L: Ledger>(bench: &Bench, steps: &mut Steps<L>) -> Result<usize, AllocError>
-    ensures { IfOk result (λ lines. lines ≡ length (dep_lines bench.now.rules bench.now.history.present)) }
+    ensures count { IfOk result (λ lines. lines ≡ length (dep_lines bench.now.rules bench.now.history.present)) }
+    ensures probes { steps.new ≤ steps.old + sum_by (dep_walk bench.now.history.present) (book_deps bench.now.rules) }
 {
     let mut count: usize = 0;
     for number in 0..dep_count(bench) {
@@ -41,7 +46,8 @@ fn count_deps<L: Ledger>(bench: &Bench, steps: &mut Steps<L>) -> Result<usize, A
 }
 
 fn count_cinds<L: Ledger>(bench: &Bench, steps: &mut Steps<L>) -> Result<usize, AllocError>
-    ensures { IfOk result (λ lines. lines ≡ length (cind_lines bench.now.rules bench.now.history.present)) }
+    ensures count { IfOk result (λ lines. lines ≡ length (cind_lines bench.now.rules bench.now.history.present)) }
+    ensures probes { steps.new ≤ steps.old + sum_by (cind_walk bench.now.history.present) (book_cinds bench.now.rules) }
 {
     let mut count: usize = 0;
     for number in 0..cind_count(bench) {

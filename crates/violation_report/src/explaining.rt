@@ -1,11 +1,13 @@
 //! The lines of the list that a row has.
 
-ghost use Rattle.std.specs.Prelude.{◌≡◌, ◌++◌, ◌<◌, [], true, length, filter, All, IfOk, OnOk};
+ghost use Rattle.std.specs.Prelude.{◌≡◌, ◌++◌, ◌+◌, ◌<◌, ◌≤◌, [], true, length, filter, sum_by, slice_get, All, IfOk, OnOk};
+ghost use Rattle.std.specs.Option.{option_map_or};
 ghost use Rattle.line_grammar.specs.Faults.{IsUnlessMemory};
 ghost use Rattle.rule_model.specs.Books.{book_cinds, book_deps};
 ghost use Rattle.bench_core.specs.Answers.{orphans_at, violations_at};
 ghost use Rattle.violation_report.specs.Explained.{cind_is_of, dep_is_of, explain_tells, explained, explanation, has_row, is_about};
 ghost use Rattle.violation_report.specs.Listing.{cind_lines, cind_lines_at, dep_lines, dep_lines_at};
+ghost use Rattle.violation_report.specs.Probes.{cind_rows_of, dep_rows_of, explain_probes, row_probes};
 ghost use Rattle.violation_report.specs.Text.{IsLineOf};
 ghost use Rattle.violation_report.specs.declared.explaining.ExplainFault.TheVariants as explain_fault;
 
@@ -52,6 +54,7 @@ pub fn explain<L: Ledger>(
 ) -> Result<List<Line>, ExplainFault>
     ensures lines { IsUnlessMemory explain_tells (explanation bench.now.rules bench.now.history.present table.now row) result }
     ensures in_range { IfOk result (All (IsLineOf bench.now.rules)) }
+    ensures probes { steps.new ≤ steps.old + explain_probes bench.now.rules table.now }
 {
     let Some(number) = bench.rules().schema().table_named(table) else {
         return Err(ExplainFault::UnknownTable);
@@ -80,6 +83,7 @@ fn lines_of<L: Ledger>(
     requires { has_row bench.now.history.present table row ≡ true }
     ensures lines { IfOk result (λ lines. lines ≡ explained bench.now.rules bench.now.history.present table row) }
     ensures in_range { IfOk result (All (IsLineOf bench.now.rules)) }
+    ensures probes { steps.new ≤ steps.old + row_probes bench.now.rules table }
 {
     let mut lines = List::new(alloc);
     explain_deps(bench, table, row, &mut lines, steps)?;
@@ -96,7 +100,8 @@ fn explain_deps<L: Ledger>(
 ) -> Result<(), AllocError>
     requires start { lines.old ≡ [] }
     requires there { has_row bench.now.history.present table row ≡ true }
-    ensures { OnOk result (lines.new ≡ filter (is_about bench.now.rules table row) (dep_lines bench.now.rules bench.now.history.present)) }
+    ensures lines { OnOk result (lines.new ≡ filter (is_about bench.now.rules table row) (dep_lines bench.now.rules bench.now.history.present)) }
+    ensures probes { steps.new ≤ steps.old + sum_by (dep_rows_of table) (book_deps bench.now.rules) }
 {
     for number in 0..dep_count(bench) {
         explain_dep(bench, table, number, row, lines, steps)?;
@@ -115,7 +120,8 @@ fn explain_dep<L: Ledger>(
 ) -> Result<(), AllocError>
     requires dep { number < length (book_deps bench.now.rules) }
     requires there { has_row bench.now.history.present table row ≡ true }
-    ensures { OnOk result (lines.new ≡ lines.old ++ filter (is_about bench.now.rules table row) (dep_lines_at number (violations_at bench.now.rules bench.now.history.present number))) }
+    ensures lines { OnOk result (lines.new ≡ lines.old ++ filter (is_about bench.now.rules table row) (dep_lines_at number (violations_at bench.now.rules bench.now.history.present number))) }
+    ensures probes { steps.new ≤ steps.old + option_map_or (dep_rows_of table) (slice_get (book_deps bench.now.rules) number) 0 }
 {
     if !dep_is_of(bench, table, number) {
         return Ok(());
@@ -132,7 +138,8 @@ fn explain_cinds<L: Ledger>(
     steps: &mut Steps<L>,
 ) -> Result<(), AllocError>
     requires { has_row bench.now.history.present table row ≡ true }
-    ensures { OnOk result (lines.new ≡ lines.old ++ filter (is_about bench.now.rules table row) (cind_lines bench.now.rules bench.now.history.present)) }
+    ensures lines { OnOk result (lines.new ≡ lines.old ++ filter (is_about bench.now.rules table row) (cind_lines bench.now.rules bench.now.history.present)) }
+    ensures probes { steps.new ≤ steps.old + sum_by (cind_rows_of table) (book_cinds bench.now.rules) }
 {
     for number in 0..cind_count(bench) {
         explain_cind(bench, table, number, row, lines, steps)?;
@@ -151,7 +158,8 @@ fn explain_cind<L: Ledger>(
 ) -> Result<(), AllocError>
     requires cind { number < length (book_cinds bench.now.rules) }
     requires there { has_row bench.now.history.present table row ≡ true }
-    ensures { OnOk result (lines.new ≡ lines.old ++ filter (is_about bench.now.rules table row) (cind_lines_at number (orphans_at bench.now.rules bench.now.history.present number))) }
+    ensures lines { OnOk result (lines.new ≡ lines.old ++ filter (is_about bench.now.rules table row) (cind_lines_at number (orphans_at bench.now.rules bench.now.history.present number))) }
+    ensures probes { steps.new ≤ steps.old + option_map_or (cind_rows_of table) (slice_get (book_cinds bench.now.rules) number) 0 }
 {
     if !cind_is_of(bench, table, number) {
         return Ok(());

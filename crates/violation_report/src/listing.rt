@@ -1,9 +1,11 @@
 //! The list of a bench.
 
-ghost use Rattle.std.specs.Prelude.{◌≡◌, ◌↔◌, ◌++◌, ◌<◌, [], length, All, IfOk, OnOk};
+ghost use Rattle.std.specs.Prelude.{◌≡◌, ◌↔◌, ◌++◌, ◌+◌, ◌<◌, ◌≤◌, [], length, sum_by, All, IfOk, OnOk};
 ghost use Rattle.rule_model.specs.Books.{book_cinds, book_deps};
 ghost use Rattle.bench_core.specs.Answers.{orphans_at, violations_at};
+ghost use Rattle.bench_core.specs.DirtyCounts.{cind_walk, cind_walk_at, dep_walk, dep_walk_at};
 ghost use Rattle.violation_report.specs.Listing.{IsSatisfied, cind_lines, cind_lines_at, dep_line, dep_lines, dep_lines_at, listing};
+ghost use Rattle.violation_report.specs.Probes.{list_probes};
 ghost use Rattle.violation_report.specs.Text.{IsLineOf};
 
 use crate::line::Line;
@@ -16,7 +18,8 @@ use std::alloc::{AllocError, Global};
 use std::sync::ledger::Ledger;
 
 /// The violations of all dependencies in the order of the rules, then the orphans of all inclusion dependencies; of
-/// one rule, by tableau row; of one tableau row, by row. The indexes of the bench are asked, and no table is gone over.
+/// one rule, by tableau row; of one tableau row, by row. The indexes of the bench are asked, and no table is gone over:
+/// for each tableau row of a rule there is a probe for each dirty group or key, and none for rows that violate nothing.
 pub fn list<L: Ledger>(
     alloc: Global,
     bench: &Bench,
@@ -25,6 +28,7 @@ pub fn list<L: Ledger>(
     ensures list { IfOk result (λ lines. lines ≡ listing bench.now.rules bench.now.history.present) }
     ensures law { IfOk result (λ lines. lines ≡ [] ↔ IsSatisfied bench.now.rules bench.now.history.present) }
     ensures in_range { IfOk result (All (IsLineOf bench.now.rules)) }
+    ensures probes { steps.new ≤ steps.old + list_probes bench.now.rules bench.now.history.present }
 {
     let mut lines = List::new(alloc);
     list_deps(bench, &mut lines, steps)?;
@@ -52,7 +56,8 @@ fn list_deps<L: Ledger>(
     steps: &mut Steps<L>,
 ) -> Result<(), AllocError>
     requires { lines.old ≡ [] }
-    ensures { OnOk result (lines.new ≡ dep_lines bench.now.rules bench.now.history.present) }
+    ensures lines { OnOk result (lines.new ≡ dep_lines bench.now.rules bench.now.history.present) }
+    ensures probes { steps.new ≤ steps.old + sum_by (dep_walk bench.now.history.present) (book_deps bench.now.rules) }
 {
     for number in 0..dep_count(bench) {
         list_dep(bench, number, lines, steps)?;
@@ -67,7 +72,8 @@ fn list_dep<L: Ledger>(
     steps: &mut Steps<L>,
 ) -> Result<(), AllocError>
     requires { number < length (book_deps bench.now.rules) }
-    ensures { OnOk result (lines.new ≡ lines.old ++ dep_lines_at number (violations_at bench.now.rules bench.now.history.present number)) }
+    ensures lines { OnOk result (lines.new ≡ lines.old ++ dep_lines_at number (violations_at bench.now.rules bench.now.history.present number)) }
+    ensures probes { steps.new ≤ steps.old + dep_walk_at bench.now.rules bench.now.history.present number }
 {
     let found = bench.violations(number, steps)?;
     push_violations(number, found.as_slice(), lines)
@@ -108,7 +114,8 @@ fn list_cinds<L: Ledger>(
     lines: &mut List<Line>,
     steps: &mut Steps<L>,
 ) -> Result<(), AllocError>
-    ensures { OnOk result (lines.new ≡ lines.old ++ cind_lines bench.now.rules bench.now.history.present) }
+    ensures lines { OnOk result (lines.new ≡ lines.old ++ cind_lines bench.now.rules bench.now.history.present) }
+    ensures probes { steps.new ≤ steps.old + sum_by (cind_walk bench.now.history.present) (book_cinds bench.now.rules) }
 {
     for number in 0..cind_count(bench) {
         list_cind(bench, number, lines, steps)?;
@@ -123,7 +130,8 @@ fn list_cind<L: Ledger>(
     steps: &mut Steps<L>,
 ) -> Result<(), AllocError>
     requires { number < length (book_cinds bench.now.rules) }
-    ensures { OnOk result (lines.new ≡ lines.old ++ cind_lines_at number (orphans_at bench.now.rules bench.now.history.present number)) }
+    ensures lines { OnOk result (lines.new ≡ lines.old ++ cind_lines_at number (orphans_at bench.now.rules bench.now.history.present number)) }
+    ensures probes { steps.new ≤ steps.old + cind_walk_at bench.now.rules bench.now.history.present number }
 {
     let found = bench.orphans(number, steps)?;
     push_orphans(number, found.as_slice(), lines)

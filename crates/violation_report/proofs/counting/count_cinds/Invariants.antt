@@ -1,9 +1,14 @@
-use Rattle.std.proofs.Common.{◌≡◌, length, map, take}
+use Rattle.std.proofs.Common.{◌≡◌, ◌+◌, ◌≤◌, length, map, take}
+use Rattle.std.specs.Prelude.{sum_by}
 use Rattle.cfd_semantics.specs.Numbered.{numbered}
 use Rattle.rule_model.specs.Books.{book_cinds}
 use Rattle.bench_core.specs.Answers.{cind_orphans}
 use Rattle.violation_report.specs.Listing.{cind_line}
+use Rattle.bench_core.specs.DirtyCounts.{cind_walk}
 use Rattle.violation_report.proofs.counting.count_cinds.Given as goal
 
 abbrev pub invariant-loop-number : goal.invariant-loop-number
-invariant-loop-number g l = l.count ≡ length (map cind_line (numbered (cind_orphans l.bench.history.present) (take l.number (book_cinds l.bench.rules))))
+invariant-loop-number g l = record {
+  count : l.count ≡ length (map cind_line (numbered (cind_orphans l.bench.history.present) (take l.number (book_cinds l.bench.rules))));
+  probes : l.steps ≤ l.initial.steps + sum_by (cind_walk l.bench.history.present) (take l.number (book_cinds l.bench.rules));
+}

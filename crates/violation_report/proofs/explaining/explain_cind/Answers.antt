@@ -1,10 +1,12 @@
 use Rattle.std.proofs.Common.{◌≡◌, ◌++◌, ◌∙◌, true, false, sym, ap, subst}
-use Rattle.std.specs.Prelude.{OnOk}
+use Rattle.std.specs.Prelude.{OnOk, slice_get}
 use Rattle.std.proofs.lemmas.List.{append-nil}
 use Rattle.bench_core.specs.Answers.{orphans_at}
 use Rattle.violation_report.specs.Explained.{cind_is_of}
 use Rattle.violation_report.specs.Listing.{cind_lines_at}
 use Rattle.violation_report.proofs.RowLines.{other-cind-lines, own-cind-lines, row-of_cind}
+use Rattle.rule_model.specs.Books.{book_cinds}
+use Rattle.violation_report.proofs.Probed.{cind-rows-own}
 use Rattle.violation_report.proofs.explaining.explain_cind.Goals as goal
 
 pub orphans_of_row-requires-clause-there : goal.orphans_of_row-requires-clause-there
@@ -13,17 +15,29 @@ orphans_of_row-requires-clause-there g c =
     let own : cind_is_of rules c.args.table c.args.number ≡ true = sym c.cind_is_of.ensures ∙ c.if-not-cind_is_of.false in
     row-of_cind rules c.args.bench.now.history.present c.args.table c.args.row c.args.number c.requires.there own
 
-pub returns-then-not-cind_is_of : goal.returns-then-not-cind_is_of
-returns-then-not-cind_is_of g c =
+pub returns-then-not-cind_is_of-clause-lines : goal.returns-then-not-cind_is_of-clause-lines
+returns-then-not-cind_is_of-clause-lines g c =
     let rules = c.args.bench.now.rules in
     let other : cind_is_of rules c.args.table c.args.number ≡ false = sym c.cind_is_of.ensures ∙ c.if-not-cind_is_of.true in
     let none = other-cind-lines rules c.args.table c.args.row c.args.number other (orphans_at rules c.args.bench.now.history.present c.args.number) in
     sym (append-nil c.args.lines.now) ∙ ap (λ more. c.args.lines.now ++ more) (sym none)
 
-pub returns : goal.returns
-returns g c =
+pub returns-clause-lines : goal.returns-clause-lines
+returns-clause-lines g c =
     let rules = c.args.bench.now.rules in
     let own : cind_is_of rules c.args.table c.args.number ≡ true = sym c.cind_is_of.ensures ∙ c.if-not-cind_is_of.false in
     let lines = own-cind-lines rules c.args.table c.args.row c.args.number own (orphans_at rules c.args.bench.now.history.present c.args.number) in
-    let is = ap (cind_lines_at c.args.number) (c.as_slice.ensures ∙ c.in_ok-found.ensures) ∙ sym lines in
+    let is = ap (cind_lines_at c.args.number) (c.as_slice.ensures ∙ c.in_ok-found.ensures.orphans) ∙ sym lines in
     subst (λ more. OnOk c.push_orphans.result (c.push_orphans.new.lines ≡ c.args.lines.now ++ more)) is c.push_orphans.ensures
+
+pub returns-clause-probes : goal.returns-clause-probes
+returns-clause-probes g c =
+    let rules = c.args.bench.now.rules in
+    let own : cind_is_of rules c.args.table c.args.number ≡ true = sym c.cind_is_of.ensures ∙ c.if-not-cind_is_of.false in
+    cind-rows-own c.args.table (slice_get (book_cinds rules) c.args.number) c.orphans_of_row.new.steps c.args.steps.now own c.orphans_of_row.ensures.probes
+
+pub returns-in_err-found-clause-probes : goal.returns-in_err-found-clause-probes
+returns-in_err-found-clause-probes g c =
+    let rules = c.args.bench.now.rules in
+    let own : cind_is_of rules c.args.table c.args.number ≡ true = sym c.cind_is_of.ensures ∙ c.if-not-cind_is_of.false in
+    cind-rows-own c.args.table (slice_get (book_cinds rules) c.args.number) c.orphans_of_row.new.steps c.args.steps.now own c.orphans_of_row.ensures.probes

@@ -1,10 +1,12 @@
 use Rattle.std.proofs.Common.{◌≡◌, ◌++◌, ◌∙◌, true, false, sym, ap, subst}
-use Rattle.std.specs.Prelude.{OnOk}
+use Rattle.std.specs.Prelude.{OnOk, slice_get}
 use Rattle.std.proofs.lemmas.List.{append-nil}
 use Rattle.bench_core.specs.Answers.{violations_at}
 use Rattle.violation_report.specs.Explained.{dep_is_of}
 use Rattle.violation_report.specs.Listing.{dep_lines_at}
 use Rattle.violation_report.proofs.RowLines.{other-dep-lines, own-dep-lines, row-of_dep}
+use Rattle.rule_model.specs.Books.{book_deps}
+use Rattle.violation_report.proofs.Probed.{dep-rows-own}
 use Rattle.violation_report.proofs.explaining.explain_dep.Goals as goal
 
 pub violations_of_row-requires-clause-there : goal.violations_of_row-requires-clause-there
@@ -13,17 +15,29 @@ violations_of_row-requires-clause-there g c =
     let own : dep_is_of rules c.args.table c.args.number ≡ true = sym c.dep_is_of.ensures ∙ c.if-not-dep_is_of.false in
     row-of_dep rules c.args.bench.now.history.present c.args.table c.args.row c.args.number c.requires.there own
 
-pub returns-then-not-dep_is_of : goal.returns-then-not-dep_is_of
-returns-then-not-dep_is_of g c =
+pub returns-then-not-dep_is_of-clause-lines : goal.returns-then-not-dep_is_of-clause-lines
+returns-then-not-dep_is_of-clause-lines g c =
     let rules = c.args.bench.now.rules in
     let other : dep_is_of rules c.args.table c.args.number ≡ false = sym c.dep_is_of.ensures ∙ c.if-not-dep_is_of.true in
     let none = other-dep-lines rules c.args.table c.args.row c.args.number other (violations_at rules c.args.bench.now.history.present c.args.number) in
     sym (append-nil c.args.lines.now) ∙ ap (λ more. c.args.lines.now ++ more) (sym none)
 
-pub returns : goal.returns
-returns g c =
+pub returns-clause-lines : goal.returns-clause-lines
+returns-clause-lines g c =
     let rules = c.args.bench.now.rules in
     let own : dep_is_of rules c.args.table c.args.number ≡ true = sym c.dep_is_of.ensures ∙ c.if-not-dep_is_of.false in
     let lines = own-dep-lines rules c.args.table c.args.row c.args.number own (violations_at rules c.args.bench.now.history.present c.args.number) in
-    let is = ap (dep_lines_at c.args.number) (c.as_slice.ensures ∙ c.in_ok-found.ensures) ∙ sym lines in
+    let is = ap (dep_lines_at c.args.number) (c.as_slice.ensures ∙ c.in_ok-found.ensures.violations) ∙ sym lines in
     subst (λ more. OnOk c.push_violations.result (c.push_violations.new.lines ≡ c.args.lines.now ++ more)) is c.push_violations.ensures
+
+pub returns-clause-probes : goal.returns-clause-probes
+returns-clause-probes g c =
+    let rules = c.args.bench.now.rules in
+    let own : dep_is_of rules c.args.table c.args.number ≡ true = sym c.dep_is_of.ensures ∙ c.if-not-dep_is_of.false in
+    dep-rows-own c.args.table (slice_get (book_deps rules) c.args.number) c.violations_of_row.new.steps c.args.steps.now own c.violations_of_row.ensures.probes
+
+pub returns-in_err-found-clause-probes : goal.returns-in_err-found-clause-probes
+returns-in_err-found-clause-probes g c =
+    let rules = c.args.bench.now.rules in
+    let own : dep_is_of rules c.args.table c.args.number ≡ true = sym c.dep_is_of.ensures ∙ c.if-not-dep_is_of.false in
+    dep-rows-own c.args.table (slice_get (book_deps rules) c.args.number) c.violations_of_row.new.steps c.args.steps.now own c.violations_of_row.ensures.probes

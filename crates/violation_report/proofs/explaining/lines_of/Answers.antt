@@ -9,8 +9,8 @@ whole : (g : given.Over) (c : goal.In_ok-explain_cinds g) → c.explain_cinds.ne
 whole g c =
     let rules = c.args.bench.now.rules in
     let state = c.args.bench.now.history.present in
-    c.in_ok-explain_cinds.ensures
-    ∙ ap (λ lines. lines ++ filter (is_about rules c.args.table c.args.row) (cind_lines rules state)) c.in_ok-explain_deps.ensures
+    c.in_ok-explain_cinds.ensures.lines
+    ∙ ap (λ lines. lines ++ filter (is_about rules c.args.table c.args.row) (cind_lines rules state)) c.in_ok-explain_deps.ensures.lines
     ∙ sym (explained-parts rules state c.args.table c.args.row)
 
 pub returns-clause-lines : goal.returns-clause-lines

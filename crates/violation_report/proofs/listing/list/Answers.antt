@@ -5,7 +5,7 @@ use Rattle.violation_report.proofs.listing.list.Given as given
 use Rattle.violation_report.proofs.listing.list.Goals as goal
 
 whole : (g : given.Over) (c : goal.In_ok-list_cinds g) → c.list_cinds.new.lines ≡ listing c.args.bench.now.rules c.args.bench.now.history.present
-whole g c = c.in_ok-list_cinds.ensures ∙ ap (λ lines. lines ++ cind_lines c.args.bench.now.rules c.args.bench.now.history.present) c.in_ok-list_deps.ensures
+whole g c = c.in_ok-list_cinds.ensures.lines ∙ ap (λ lines. lines ++ cind_lines c.args.bench.now.rules c.args.bench.now.history.present) c.in_ok-list_deps.ensures.lines
 
 pub returns-clause-law : goal.returns-clause-law
 returns-clause-law g c = rw (whole g c) (listing_is_empty c.args.bench.now.rules c.args.bench.now.history.present)

@@ -1,9 +1,14 @@
-use Rattle.std.proofs.Common.{◌≡◌, map, take}
+use Rattle.std.proofs.Common.{◌≡◌, ◌+◌, ◌≤◌, map, take}
+use Rattle.std.specs.Prelude.{sum_by}
 use Rattle.cfd_semantics.specs.Numbered.{numbered}
 use Rattle.rule_model.specs.Books.{book_deps}
 use Rattle.bench_core.specs.Answers.{dep_violations}
 use Rattle.violation_report.specs.Listing.{dep_line}
+use Rattle.bench_core.specs.DirtyCounts.{dep_walk}
 use Rattle.violation_report.proofs.listing.list_deps.Given as goal
 
 abbrev pub invariant-loop-number : goal.invariant-loop-number
-invariant-loop-number g l = l.lines ≡ map dep_line (numbered (dep_violations l.bench.history.present) (take l.number (book_deps l.bench.rules)))
+invariant-loop-number g l = record {
+  lines : l.lines ≡ map dep_line (numbered (dep_violations l.bench.history.present) (take l.number (book_deps l.bench.rules)));
+  probes : l.steps ≤ l.initial.steps + sum_by (dep_walk l.bench.history.present) (take l.number (book_deps l.bench.rules));
+}

@@ -1,14 +1,12 @@
-use Rattle.std.proofs.Common.{◌≡◌, ℕ, ◌<◌, List, Option, Some, None, Bor, length, map, ap, sym, subst, ◌∙◌, refl, arith}
+use Rattle.std.proofs.Common.{◌≡◌, ℕ, List, Option, Some, None, Bor, ap, sym, ◌∙◌, arith}
 use Rattle.std.specs.Prelude.{get_or}
 use Rattle.std.specs.FinMap as finmap
-use Rattle.std.proofs.lemmas.Option.{same_Some}
 use Rattle.rule_model.specs.Books.{book_cinds}
 use Rattle.rule_model.specs.declared.cind.Cind.{Cind}
 use Rattle.row_store.specs.Tuple.{Tuple, ids_behind, ids_of}
 use Rattle.bench_core.specs.Bench.{tables_of}
-use Rattle.bench_core.specs.Stored.{Stored, stored}
-use Rattle.bench_core.specs.Answers.{row_texts}
-use Rattle.bench_core.proofs.Answering.{cind-indexed, cind-valid, cind-wide, ok_weaker, row-absent, row-named, row-there, row-orphans, row-wide, rule-at, store-read, table-within}
+use Rattle.bench_core.specs.Stored.{stored}
+use Rattle.bench_core.proofs.Answering.{cind-indexed, cind-valid, cind-wide, ok_weaker, row-absent, row-there, row-orphans, row-wide, rule-at, store-read, table-within}
 use Rattle.bench_core.proofs.Walked.{cind-rows-probed}
 use Rattle.bench_core.proofs.project.Project.orphans_of_row.Goals as goal
 

@@ -1,13 +1,11 @@
-use Rattle.std.proofs.Common.{◌≡◌, ℕ, ◌<◌, List, Option, Some, None, Bor, length, map, ap, sym, subst, ◌∙◌, refl, arith}
+use Rattle.std.proofs.Common.{◌≡◌, ℕ, List, Option, Some, None, Bor, ap, sym, ◌∙◌, arith}
 use Rattle.std.specs.Prelude.{get_or}
 use Rattle.std.specs.FinMap as finmap
-use Rattle.std.proofs.lemmas.Option.{same_Some}
 use Rattle.rule_model.specs.Books.{book_deps}
 use Rattle.rule_model.specs.declared.dep.Dep.{Dep}
 use Rattle.row_store.specs.Tuple.{Tuple, ids_behind, ids_of}
 use Rattle.bench_core.specs.Bench.{tables_of}
-use Rattle.bench_core.specs.Stored.{Stored, stored}
-use Rattle.bench_core.specs.Answers.{row_texts}
+use Rattle.bench_core.specs.Stored.{stored}
 use Rattle.bench_core.proofs.Answering.{dep-indexed, dep-valid, dep-wide, ok_weaker, row-absent, row-named, row-there, row-violations, row-wide, rule-at, store-read, table-within}
 use Rattle.bench_core.proofs.Walked.{dep-rows-probed}
 use Rattle.bench_core.proofs.project.Project.violations_of_row.Goals as goal
