@@ -63,6 +63,7 @@ case_of() {
 
 cases() {
     case_of 'the example first' 1 first/transcript first run shop.schema
+    case_of 'the example desk' 0 desk/transcript desk desk shop.schema day.events
     case_of 'the example fixes' 0 fixes/transcript fixes run fixes.schema
     case_of 'the example orders' 1 orders/transcript orders run orders.schema
 
@@ -85,6 +86,8 @@ cases() {
     case_of 'the readme: the first page' 1 "$made/top/written" "$made/top" run shop.schema
     case_of 'the readme: the example first' 1 "$made/first/written" first run shop.schema
     case_of 'the page on formats: a session' 0 "$made/session/transcript" "$made/session" run shop.schema
+    case_of 'the page on formats: a day of three editors' 0 "$made/desk/transcript" "$made/desk" \
+        desk shop.schema day.events
     case_of 'the page on formats: fixes' 0 "$made/fixes/transcript" "$made/fixes" run fixes.schema
     case_of 'the page on formats: a generated project' 1 "$made/generated/written" "$made/none" generate 7
     case_of 'the page on formats: never' 1 "$made/questions/never" "$made/asked" \
@@ -108,6 +111,10 @@ cp fixes/fixes.schema "$made/fixes"
 mkdir "$made/asked"
 cp "$made/questions/prices.rules" "$made/asked"
 { cat "$made/questions/prices.schema" && echo "rules 'prices.rules'"; } >"$made/asked/prices.schema"
+
+# The events of a dialogue, over the files of the example.
+mv "$made/desk/day.script" "$made/desk/day.events"
+cp desk/shop.* desk/customers.csv "$made/desk"
 
 # As the recipes make it.
 mkdir "$made/orders"

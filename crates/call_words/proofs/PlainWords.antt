@@ -1,6 +1,6 @@
 -- Plain words are what a command with as many positional arguments takes and reads.
 use Rattle.std.proofs.Common.{◌≡◌, ◌∙◌, ℕ, Bool, true, false, List, [], ◌∷◌, Option, Some, None, refl, sym, ap, codes, arith}
-use Rattle.std.specs.Prelude.{◌==◌, ◌&&◌, not, drop, map, find, option_map, option_and_then, slice_get, IsSome, IsTrue}
+use Rattle.std.specs.Prelude.{◌==◌, ◌&&◌, not, drop, map, find, option_map, option_and_then, slice_get, is_some, IsSome, IsTrue}
 use Rattle.std.specs.List.{list_all}
 use Rattle.std.proofs.lemmas.Option.{none-some}
 use Rattle.std.specs.Borrow.{Bor}
@@ -8,13 +8,13 @@ use Rattle.std.specs.Str.{bytes_eq}
 use Rattle.clap.specs.Lexer.{long_of, short_of}
 use Rattle.clap.specs.Facts.{Entry}
 use Rattle.clap.specs.Matches.{first_value}
-use Rattle.clap.specs.Walk.{Held, Row, Rule, Text, first_of, idle, nothing_held, row_of, rows_of, value, word_met}
-use Rattle.clap.specs.Simple.{Shape, is_simple, matches_of}
-use Rattle.clap.specs.Takes.{takes, word_passes}
+use Rattle.clap.specs.Walk.{Held, Row, Rule, Text, Walk, after_step, finished, first_of, idle, nothing_held, row_of, rows_of, value, walk, walk_from, word_met}
+use Rattle.clap.specs.Simple.{App, Shape, argument_words, built, entered, is_simple, matches_of, names_of}
+use Rattle.clap.specs.Takes.{default_passes, entered_passes, is_valid, settle_passes, step_passes, takes, walk_passes, word_passes}
 use Rattle.clap.specs.declared.parser.matches.Found.{Found}
 use Rattle.clap.proofs.OnLiterals.{clap_on_literals}
 use Rattle.clap.proofs.WalkLemmas.{find_row}
-use Rattle.call_words.specs.ReadWords.{ArePlain, one_word, three_words, two_words}
+use Rattle.call_words.specs.ReadWords.{ArePlain, four_words, one_word, three_words, two_words}
 use Rattle.call_words.specs.Words.{is_plain}
 
 -- ---- one word
@@ -49,6 +49,10 @@ pub three_is_simple : is_simple three_words ≡ true
 unfolding clap_on_literals
 three_is_simple = refl
 
+pub four_is_simple : is_simple four_words ≡ true
+unfolding clap_on_literals
+four_is_simple = refl
+
 -- ---- they take plain words
 
 one_taken : (name : Text) (b : ℕ) (bytes : Text) → (b == 45) ≡ false → takes one_word (name ∷ (b ∷ bytes) ∷ []) ≡ true
@@ -62,6 +66,49 @@ two_taken name b bytes c more plain_b plain_c = rw (plain_met, plain_passes, pla
 three_taken : (name : Text) (b : ℕ) (bytes : Text) (c : ℕ) (more : Text) (d : ℕ) (last : Text) → (b == 45) ≡ false → (c == 45) ≡ false → (d == 45) ≡ false → takes three_words (name ∷ (b ∷ bytes) ∷ (c ∷ more) ∷ (d ∷ last) ∷ []) ≡ true
 unfolding clap_on_literals
 three_taken name b bytes c more d last plain_b plain_c plain_d = rw (plain_met, plain_passes, plain_met, plain_passes, plain_met, plain_passes) refl
+
+-- a walk that waits for no value and met no subcommand
+abbrev standing : Held → ℕ → Walk
+standing h position = record { held = h; waiting = idle; position = position; is_trailing = false; stopped = None }
+
+-- it goes on behind a plain word
+on_word : (s : Shape) (h : Held) (position : ℕ) (b : ℕ) (bytes : Text) (rest : List Text) → (b == 45) ≡ false → step_passes s position h value ≡ true
+    → walk_passes s [] (after_step s.rules (b ∷ bytes) (standing h position) h value) rest ≡ true → walk_passes s [] (standing h position) ((b ∷ bytes) ∷ rest) ≡ true
+unfolding clap_on_literals
+on_word s h position b bytes rest plain step further = rw (plain_met s.rules position b bytes h plain, plain_passes s b bytes h plain, step) further
+
+-- what is asked once the walk has ended
+abbrev ends_well : App → Walk → Bool
+ends_well command walked =
+    let s = command.top in
+    entered_passes command walked.stopped
+    && (settle_passes s.rules s.args_override_self walked.held
+    && (list_all default_passes s.rules && is_valid s (finished s.rules walked.held) (is_some (entered command walked.stopped))))
+
+without_turns : (entered turns rest : Bool) → turns ≡ true → (entered && rest) ≡ true → (entered && (turns && rest)) ≡ true
+without_turns entered turns rest all others = rw all others
+
+-- words are taken where the walk over them passes and ends well
+taken_by : (command : App) (words : List Text) → is_simple command ≡ true
+    → walk_passes (built command).top (names_of (built command)) (walk_from nothing_held) (argument_words command words) ≡ true
+    → ends_well (built command) (walk (built command).top.rules (names_of (built command)) nothing_held (argument_words command words)) ≡ true
+    → takes command words ≡ true
+taken_by command words simple turns well =
+    let c = built command in
+    let s = c.top in
+    let w = walk s.rules (names_of c) nothing_held (argument_words command words) in
+    rw simple
+    (without_turns (entered_passes c w.stopped) (walk_passes s (names_of c) (walk_from nothing_held) (argument_words command words))
+    (settle_passes s.rules s.args_override_self w.held && (list_all default_passes s.rules && is_valid s (finished s.rules w.held) (is_some (entered c w.stopped)))) turns well)
+
+four_taken : (name : Text) (b : ℕ) (bytes : Text) (c : ℕ) (more : Text) (d : ℕ) (width : Text) (e : ℕ) (support : Text) → (b == 45) ≡ false → (c == 45) ≡ false → (d == 45) ≡ false → (e == 45) ≡ false → takes four_words (name ∷ (b ∷ bytes) ∷ (c ∷ more) ∷ (d ∷ width) ∷ (e ∷ support) ∷ []) ≡ true
+unfolding clap_on_literals
+four_taken name b bytes c more d width e support plain_b plain_c plain_d plain_e =
+    let top = (built four_words).top in
+    taken_by four_words (name ∷ (b ∷ bytes) ∷ (c ∷ more) ∷ (d ∷ width) ∷ (e ∷ support) ∷ []) refl
+    (on_word top nothing_held 1 b bytes ((c ∷ more) ∷ (d ∷ width) ∷ (e ∷ support) ∷ []) plain_b refl
+    (on_word top _ 2 c more ((d ∷ width) ∷ (e ∷ support) ∷ []) plain_c refl (on_word top _ 3 d width ((e ∷ support) ∷ []) plain_d refl (on_word top _ 4 e support [] plain_e refl refl))))
+    (rw (plain_met, plain_met, plain_met, plain_met) refl)
 
 -- ---- and read them
 
@@ -84,6 +131,14 @@ three_read_first name b bytes c more d last plain_b plain_c plain_d = rw (plain_
 three_read_second : (name : Text) (b : ℕ) (bytes : Text) (c : ℕ) (more : Text) (d : ℕ) (last : Text) → (b == 45) ≡ false → (c == 45) ≡ false → (d == 45) ≡ false → first_of (codes "ASKED") (matches_of three_words (name ∷ (b ∷ bytes) ∷ (c ∷ more) ∷ (d ∷ last) ∷ [])) ≡ Some (c ∷ more)
 unfolding clap_on_literals
 three_read_second name b bytes c more d last plain_b plain_c plain_d = rw (plain_met, plain_met, plain_met) refl
+
+four_read_first : (name : Text) (b : ℕ) (bytes : Text) (c : ℕ) (more : Text) (d : ℕ) (width : Text) (e : ℕ) (support : Text) → (b == 45) ≡ false → (c == 45) ≡ false → (d == 45) ≡ false → (e == 45) ≡ false → first_of (codes "PROJECT") (matches_of four_words (name ∷ (b ∷ bytes) ∷ (c ∷ more) ∷ (d ∷ width) ∷ (e ∷ support) ∷ [])) ≡ Some (b ∷ bytes)
+unfolding clap_on_literals
+four_read_first name b bytes c more d width e support plain_b plain_c plain_d plain_e = rw (plain_met, plain_met, plain_met, plain_met) refl
+
+four_read_second : (name : Text) (b : ℕ) (bytes : Text) (c : ℕ) (more : Text) (d : ℕ) (width : Text) (e : ℕ) (support : Text) → (b == 45) ≡ false → (c == 45) ≡ false → (d == 45) ≡ false → (e == 45) ≡ false → first_of (codes "TABLE") (matches_of four_words (name ∷ (b ∷ bytes) ∷ (c ∷ more) ∷ (d ∷ width) ∷ (e ∷ support) ∷ [])) ≡ Some (c ∷ more)
+unfolding clap_on_literals
+four_read_second name b bytes c more d width e support plain_b plain_c plain_d plain_e = rw (plain_met, plain_met, plain_met, plain_met) refl
 
 -- ---- what a call reads
 
@@ -128,6 +183,17 @@ pub record ThreeRead (words : List Text) : Type 0 where
   pub taken : takes three_words words ≡ true
   pub read_first : first_of (codes "PROJECT") (matches_of three_words words) ≡ Some project
   pub read_second : first_of (codes "ASKED") (matches_of three_words words) ≡ Some asked
+
+-- and four
+pub record FourRead (words : List Text) : Type 0 where
+  pub project : Text
+  pub table : Text
+  pub width : Text
+  pub support : Text
+  pub are : drop 1 words ≡ project ∷ table ∷ width ∷ support ∷ []
+  pub taken : takes four_words words ≡ true
+  pub read_first : first_of (codes "PROJECT") (matches_of four_words words) ≡ Some project
+  pub read_second : first_of (codes "TABLE") (matches_of four_words words) ≡ Some table
 
 pub read_two : (words : List Text) → ArePlain 2 words → TwoRead words
 read_two [] plain = absurd (omega (arith, plain.all))
@@ -177,6 +243,42 @@ read_three (name ∷ (b ∷ bytes) ∷ (c ∷ more) ∷ (d ∷ last) ∷ []) pla
       read_second = three_read_second name b bytes c more d last p.0 q.0 r.0;
     }
 read_three (name ∷ (b ∷ bytes) ∷ (c ∷ more) ∷ (d ∷ last) ∷ word ∷ words) plain = absurd (omega (arith, plain.all))
+
+pub read_four : (words : List Text) → ArePlain 4 words → FourRead words
+read_four [] plain = absurd (omega (arith, plain.all))
+read_four (name ∷ []) plain = absurd (omega (arith, plain.all))
+read_four (name ∷ word ∷ []) plain = absurd (omega (arith, plain.all))
+read_four (name ∷ word ∷ other ∷ []) plain = absurd (omega (arith, plain.all))
+read_four (name ∷ word ∷ other ∷ third ∷ []) plain = absurd (omega (arith, plain.all))
+read_four (name ∷ [] ∷ word ∷ other ∷ third ∷ words) plain = absurd (cc (plain.plain))
+read_four (name ∷ (b ∷ bytes) ∷ [] ∷ other ∷ third ∷ words) plain =
+    let p = plain_byte b (is_plain [] && list_all is_plain (other ∷ third ∷ words)) plain.plain in
+    absurd (cc (p.1))
+read_four (name ∷ (b ∷ bytes) ∷ (c ∷ more) ∷ [] ∷ third ∷ words) plain =
+    let p = plain_byte b (list_all is_plain ((c ∷ more) ∷ [] ∷ third ∷ words)) plain.plain in
+    let q = plain_byte c (is_plain [] && list_all is_plain (third ∷ words)) p.1 in
+    absurd (cc (q.1))
+read_four (name ∷ (b ∷ bytes) ∷ (c ∷ more) ∷ (d ∷ width) ∷ [] ∷ words) plain =
+    let p = plain_byte b (list_all is_plain ((c ∷ more) ∷ (d ∷ width) ∷ [] ∷ words)) plain.plain in
+    let q = plain_byte c (list_all is_plain ((d ∷ width) ∷ [] ∷ words)) p.1 in
+    let r = plain_byte d (is_plain [] && list_all is_plain words) q.1 in
+    absurd (cc (r.1))
+read_four (name ∷ (b ∷ bytes) ∷ (c ∷ more) ∷ (d ∷ width) ∷ (e ∷ support) ∷ []) plain =
+    let p = plain_byte b (list_all is_plain ((c ∷ more) ∷ (d ∷ width) ∷ (e ∷ support) ∷ [])) plain.plain in
+    let q = plain_byte c (list_all is_plain ((d ∷ width) ∷ (e ∷ support) ∷ [])) p.1 in
+    let r = plain_byte d (list_all is_plain ((e ∷ support) ∷ [])) q.1 in
+    let s = plain_byte e true r.1 in
+    record {
+      project = b ∷ bytes;
+      table = c ∷ more;
+      width = d ∷ width;
+      support = e ∷ support;
+      are = refl;
+      taken = four_taken name b bytes c more d width e support p.0 q.0 r.0 s.0;
+      read_first = four_read_first name b bytes c more d width e support p.0 q.0 r.0 s.0;
+      read_second = four_read_second name b bytes c more d width e support p.0 q.0 r.0 s.0;
+    }
+read_four (name ∷ (b ∷ bytes) ∷ (c ∷ more) ∷ (d ∷ width) ∷ (e ∷ support) ∷ word ∷ words) plain = absurd (omega (arith, plain.all))
 
 -- what `get_str` gives, from the rows of a parse
 first_text : (f : Found) (id : Text) → first_value f id ≡ first_of id (rows_of f)

@@ -23,3 +23,7 @@ two_words = with_rule (with_rule (new_app (codes "check")) (wanted (codes "PROJE
 abbrev pub three_words : App
 three_words =
     with_rule (with_rule (with_rule (new_app (codes "consistent")) (wanted (codes "PROJECT"))) (wanted (codes "ASKED"))) (wanted (codes "BUDGET"))
+
+abbrev pub four_words : App
+four_words =
+    with_rule (with_rule (with_rule (with_rule (new_app (codes "find")) (wanted (codes "PROJECT"))) (wanted (codes "TABLE"))) (wanted (codes "WIDTH"))) (wanted (codes "SUPPORT"))

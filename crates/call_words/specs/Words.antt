@@ -5,7 +5,7 @@ use Rattle.std.specs.List.{list_all}
 use Rattle.std.specs.Str.{bytes_eq}
 use Rattle.std.specs.Str.Parse.{digits_value}
 use Rattle.call_words.specs.declared.form.Form.{Form}
-use Rattle.call_words.specs.declared.form.Form.TheVariants.{Check, Consistent, Cover, Generate, Implies, Report, Run}
+use Rattle.call_words.specs.declared.form.Form.TheVariants.{Check, Consistent, Cover, Desk, Find, Generate, Implies, Report, Run}
 
 -- a word that isn't empty and doesn't begin with `-`
 abbrev pub is_plain : List ℕ → Bool
@@ -34,6 +34,14 @@ budget_in word = number_within 1 1000000 word
 abbrev pub seed_in : List ℕ → Option ℕ
 seed_in word = number_within 0 999999999 word
 
+-- how many attributes may stand on the left of what is found
+abbrev pub width_in : List ℕ → Option ℕ
+width_in word = number_within 1 3 word
+
+-- how many rows must match a constant dependency that is found
+abbrev pub support_in : List ℕ → Option ℕ
+support_in word = number_within 1 500000 word
+
 -- ---- forms
 
 -- a question about the rules of a project, by its name
@@ -48,6 +56,17 @@ question_form name project asked budget =
 abbrev pub generate_form : List ℕ → Option Form
 generate_form word = option_map Generate (seed_in word)
 
+-- a project with one more file of it
+abbrev pub file_form : List ℕ → List ℕ → List ℕ → Option Form
+file_form name project file =
+    if bytes_eq name (codes "check") then Some (Check project file)
+    else if bytes_eq name (codes "desk") then Some (Desk project file)
+    else None
+
+-- what holds in a table of a project, by its name
+abbrev pub find_form : List ℕ → List ℕ → List ℕ → ℕ → ℕ → Option Form
+find_form name project table width support = if bytes_eq name (codes "find") then Some (Find project table width support) else None
+
 -- the form of that name with these words behind it
 abbrev pub named_form : List ℕ → List (List ℕ) → Option Form
 named_form name (word ∷ []) =
@@ -55,8 +74,10 @@ named_form name (word ∷ []) =
     else if bytes_eq name (codes "report") then Some (Report word)
     else if bytes_eq name (codes "generate") then generate_form word
     else None
-named_form name (project ∷ cert ∷ []) = if bytes_eq name (codes "check") then Some (Check project cert) else None
+named_form name (project ∷ file ∷ []) = file_form name project file
 named_form name (project ∷ asked ∷ budget ∷ []) = option_and_then (question_form name project asked) (budget_in budget)
+named_form name (project ∷ table ∷ width ∷ support ∷ []) =
+    option_and_then (λ attrs. option_and_then (find_form name project table attrs) (support_in support)) (width_in width)
 named_form name words = None
 
 -- the form of the words, where they have one
@@ -72,7 +93,14 @@ pub record IsBudget (leaves : ℕ) : Type 0 where
   pub some : 1 ≤ leaves
   pub within : leaves ≤ 1000000
 
--- the budget of a form that has one is such a number
+-- a width and a support that what is found may have
+pub record IsReach (width support : ℕ) : Type 0 where
+  pub some : 1 ≤ width
+  pub narrow : width ≤ 3
+  pub matched : 1 ≤ support
+  pub within : support ≤ 500000
+
+-- the numbers of a form that has some are such numbers
 abbrev pub IsFit : Form → Type 0
 IsFit (Run project) = Unit {0}
 IsFit (Report project) = Unit {0}
@@ -80,4 +108,6 @@ IsFit (Consistent project table budget) = IsBudget budget
 IsFit (Implies project dep budget) = IsBudget budget
 IsFit (Cover project table budget) = IsBudget budget
 IsFit (Check project cert) = Unit {0}
+IsFit (Find project table width support) = IsReach width support
+IsFit (Desk project events) = Unit {0}
 IsFit (Generate seed) = Unit {0}

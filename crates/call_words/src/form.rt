@@ -1,9 +1,9 @@
 //! What the words of a call ask for.
 ghost use Rattle.std.specs.Prelude.{◌≡◌, ◌∷◌, [], None, IfOk, IfSome, IsOk, IsTrue};
-ghost use Rattle.call_words.specs.Words.{HasForm, IsFit, form_of, generate_form, is_plain, named_form};
+ghost use Rattle.call_words.specs.Words.{HasForm, IsFit, file_form, form_of, generate_form, is_plain, named_form};
 
 use crate::numbers::number_within;
-use crate::words::{read_one, read_three, read_two};
+use crate::words::{read_four, read_one, read_three, read_two};
 use std::alloc::{AllocError, Global};
 use text_lists::Text;
 
@@ -41,6 +41,18 @@ pub enum Form {
         project: Text,
         cert: Text,
     },
+    /// `find PROJECT TABLE WIDTH SUPPORT`
+    Find {
+        project: Text,
+        table: Text,
+        width: u64,
+        support: u64,
+    },
+    /// `desk PROJECT EVENTS`
+    Desk {
+        project: Text,
+        events: Text,
+    },
     /// `generate N`, the number being that off which a project is drawn
     Generate {
         seed: u64,
@@ -49,6 +61,12 @@ pub enum Form {
 
 /// The most leaves that a search may be given.
 const MOST_LEAVES: u64 = 1_000_000;
+
+/// The most attributes on the left of what is found.
+const WIDEST: u64 = 3;
+
+/// The most rows that a constant dependency may be asked to match.
+const MOST_SUPPORT: u64 = 500_000;
 
 /// The last number off which a project is drawn.
 const LAST_SEED: u64 = 999_999_999;
@@ -61,12 +79,16 @@ pub fn form_of(alloc: Global, words: &[Text]) -> Result<Option<Form>, AllocError
 {
     match words {
         [name, word] if is_plain(word) => one_word_form(alloc, name, word),
-        [name, project, cert] if is_plain(project) && is_plain(cert) => {
-            check_form(alloc, name, project, cert)
+        [name, project, file] if is_plain(project) && is_plain(file) => {
+            file_form(alloc, name, project, file)
         }
         [name, project, asked, budget]
             if is_plain(project) && is_plain(asked) && is_plain(budget) => {
             question_form(alloc, name, project, asked, budget)
+        }
+        [name, project, table, width, support]
+            if is_plain(project) && is_plain(table) && is_plain(width) && is_plain(support) => {
+            find_form(alloc, name, project, table, width, support)
         }
         _ => Ok(None),
     }
@@ -106,21 +128,24 @@ fn generate_form(alloc: Global, name: &Text, word: &Text) -> Result<Option<Form>
     Ok(Some(Form::Generate { seed }))
 }
 
-fn check_form(
+fn file_form(
     alloc: Global,
     name: &Text,
     project: &Text,
-    cert: &Text,
+    file: &Text,
 ) -> Result<Option<Form>, AllocError>
     requires project { IsTrue (is_plain project.now) }
-    requires cert { IsTrue (is_plain cert.now) }
-    ensures form { IfOk result (λ form. form ≡ named_form name.now (project.now ∷ cert.now ∷ [])) }
-    ensures formless { named_form name.now (project.now ∷ cert.now ∷ []) ≡ None → IsOk result }
+    requires file { IsTrue (is_plain file.now) }
+    ensures form { IfOk result (λ form. form ≡ file_form name.now project.now file.now) }
+    ensures formless { file_form name.now project.now file.now ≡ None → IsOk result }
     ensures fit { IfOk result (λ form. IfSome form IsFit) }
 {
     if name.is("check") {
-        let (project, cert) = read_two(alloc, name, project, cert)?;
+        let (project, cert) = read_two(alloc, name, project, file)?;
         Ok(Some(Form::Check { project, cert }))
+    } else if name.is("desk") {
+        let (project, events) = read_two(alloc, name, project, file)?;
+        Ok(Some(Form::Desk { project, events }))
     } else {
         Ok(None)
     }
@@ -163,6 +188,41 @@ fn question_form(
             project,
             table,
             budget: leaves,
+        }))
+    } else {
+        Ok(None)
+    }
+}
+
+fn find_form(
+    alloc: Global,
+    name: &Text,
+    project: &Text,
+    table: &Text,
+    width: &Text,
+    support: &Text,
+) -> Result<Option<Form>, AllocError>
+    requires project { IsTrue (is_plain project.now) }
+    requires table { IsTrue (is_plain table.now) }
+    requires width { IsTrue (is_plain width.now) }
+    requires support { IsTrue (is_plain support.now) }
+    ensures form { IfOk result (λ form. form ≡ named_form name.now (project.now ∷ table.now ∷ width.now ∷ support.now ∷ [])) }
+    ensures formless { named_form name.now (project.now ∷ table.now ∷ width.now ∷ support.now ∷ []) ≡ None → IsOk result }
+    ensures fit { IfOk result (λ form. IfSome form IsFit) }
+{
+    let Some(attrs) = number_within(1, WIDEST, width) else {
+        return Ok(None);
+    };
+    let Some(rows) = number_within(1, MOST_SUPPORT, support) else {
+        return Ok(None);
+    };
+    if name.is("find") {
+        let (project, table) = read_four(alloc, name, project, table, width, support)?;
+        Ok(Some(Form::Find {
+            project,
+            table,
+            width: attrs,
+            support: rows,
         }))
     } else {
         Ok(None)

@@ -1,6 +1,6 @@
 //! The words of a call, as `clap` reads them: by a command that wants each word after the first, and nothing else.
 ghost use Rattle.std.specs.Prelude.{◌≡◌, ◌∷◌, [], false, IfErr, IfOk, IsTrue, drop, map, take};
-ghost use Rattle.call_words.specs.ReadWords.{ArePlain, one_word, three_words, two_words, wanted};
+ghost use Rattle.call_words.specs.ReadWords.{ArePlain, four_words, one_word, three_words, two_words, wanted};
 ghost use Rattle.call_words.specs.Words.{is_plain};
 ghost use Rattle.clap.specs.Words.{app_of, kind_of, rule_of};
 
@@ -64,6 +64,34 @@ pub fn read_three(
     }
 }
 
+/// The first two of the four words after the first; the others are numbers.
+pub fn read_four(
+    alloc: Global,
+    name: &Text,
+    project: &Text,
+    table: &Text,
+    width: &Text,
+    support: &Text,
+) -> Result<(Text, Text), AllocError>
+    requires project { IsTrue (is_plain project.now) }
+    requires table { IsTrue (is_plain table.now) }
+    requires width { IsTrue (is_plain width.now) }
+    requires support { IsTrue (is_plain support.now) }
+    ensures { IfOk result (λ read. (read.0 ≡ project.now) × (read.1 ≡ table.now)) }
+{
+    let words = [
+        name.as_str(),
+        project.as_str(),
+        table.as_str(),
+        width.as_str(),
+        support.as_str(),
+    ];
+    match parse_four(alloc, words.as_slice()) {
+        Ok((project, table)) => Ok((Text::new(alloc, project)?, Text::new(alloc, table)?)),
+        Err(_) => Err(AllocError),
+    }
+}
+
 // ---- commands
 
 /// An argument without which a command refuses its words.
@@ -95,6 +123,16 @@ fn three_words<'a>(alloc: Global) -> Result<Command<'a>, AllocError>
         .arg(wanted(alloc, "PROJECT"))?
         .arg(wanted(alloc, "ASKED"))?
         .arg(wanted(alloc, "BUDGET"))
+}
+
+fn four_words<'a>(alloc: Global) -> Result<Command<'a>, AllocError>
+    ensures { IfOk result (λ command. app_of command ≡ four_words) }
+{
+    Command::new(alloc, "find")
+        .arg(wanted(alloc, "PROJECT"))?
+        .arg(wanted(alloc, "TABLE"))?
+        .arg(wanted(alloc, "WIDTH"))?
+        .arg(wanted(alloc, "SUPPORT"))
 }
 
 // ---- words by a command; plain words are refused for want of memory alone
@@ -131,4 +169,16 @@ fn parse_three<'a>(alloc: Global, words: &'a [&'a str]) -> Result<(&'a str, &'a 
     let project = matches.get_str("PROJECT").unwrap();
     let asked = matches.get_str("ASKED").unwrap();
     Ok((project, asked))
+}
+
+fn parse_four<'a>(alloc: Global, words: &'a [&'a str]) -> Result<(&'a str, &'a str), Error>
+    requires { ArePlain 4 (map (λ word. word.now) words.now) }
+    ensures read { IfOk result (λ read. take 2 (drop 1 (map (λ word. word.now) words.entry.now)) ≡ read.0.now ∷ read.1.now ∷ []) }
+    ensures memory { IfErr result (λ error. kind_of error ≡ ErrorKind.OutOfMemory) }
+{
+    let command = four_words(alloc)?;
+    let matches = command.try_get_matches_from(words)?;
+    let project = matches.get_str("PROJECT").unwrap();
+    let table = matches.get_str("TABLE").unwrap();
+    Ok((project, table))
 }

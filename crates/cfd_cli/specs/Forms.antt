@@ -2,10 +2,11 @@
 use Rattle.std.specs.Prelude.{ℕ, List, Option, None, Some, Ok, codes}
 use Rattle.text_lists.specs.declared.limits.Limits.{Limits}
 use Rattle.call_words.specs.declared.form.Form.{Form}
-use Rattle.call_words.specs.declared.form.Form.TheVariants.{Check, Consistent, Cover, Generate, Implies, Report, Run}
+use Rattle.call_words.specs.declared.form.Form.TheVariants.{Check, Consistent, Cover, Desk, Generate, Implies, Report, Run}
 use Rattle.cli_output.specs.declared.status.Status.TheVariants.{Usage}
 use Rattle.cli_output.specs.Fetching.{given}
 use Rattle.cli_output.specs.Output.{Only, Task}
+use Rattle.cfd_cli.specs.DeskForm.{desk_task}
 use Rattle.cfd_cli.specs.GenerateForm.{generate_task}
 use Rattle.cfd_cli.specs.ReportForm.{report_task}
 use Rattle.cfd_cli.specs.RunForm.{run_task}
@@ -36,6 +37,7 @@ form_task limits (Some (Consistent project table budget)) = consistent_task limi
 form_task limits (Some (Implies project dep budget)) = implies_task limits project dep budget
 form_task limits (Some (Cover project table budget)) = cover_task limits project table budget
 form_task limits (Some (Check project cert)) = check_task limits project cert
+form_task limits (Some (Desk project events)) = desk_task limits project events
 form_task limits (Some (Generate seed)) = generate_task seed
 
 -- what the words ask for

@@ -1,3 +1,4 @@
+pub mod DeskForm
 pub mod Forms
 pub mod GenerateForm
 pub mod Project

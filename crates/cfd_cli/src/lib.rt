@@ -2,6 +2,7 @@
 //! What it writes is one of the outputs that are allowed for what the words ask (`specs/Forms.antt`).
 #![tactic(auto)]
 
+mod desk_form;
 mod generate_form;
 mod program;
 mod project;

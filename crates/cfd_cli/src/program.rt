@@ -5,6 +5,7 @@ ghost use Rattle.cfd_cli.specs.Forms.{form_task, task_of, usage_line};
 ghost use Rattle.cli_output.specs.Output.{Output, UsesDevices, Writes};
 ghost use Rattle.call_words.specs.Words.{HasForm, IsFit};
 
+use crate::desk_form::desk_project;
 use crate::generate_form::generate_project;
 use crate::report_form::report_project;
 use crate::run_form::run_project;
@@ -110,6 +111,9 @@ fn answer<S: Shelf, O: Sink, L: Ledger>(
             budget,
         } => cover_project(alloc, project, table, *budget, shelf, out, limits),
         Form::Check { project, cert } => check_project(alloc, project, cert, shelf, out, limits),
+        Form::Desk { project, events } => {
+            desk_project(alloc, project, events, shelf, out, limits, steps)
+        }
         Form::Generate { seed } => generate_project(alloc, *seed, out, steps),
     }
 }

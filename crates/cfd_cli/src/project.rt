@@ -46,7 +46,7 @@ pub fn fetch_project<S: Shelf, L: Ledger>(
 }
 
 #[tactic(auto, unfolding(crate::specs::Project::fetch_bench))]
-fn fetch_bench<S: Shelf, L: Ledger>(
+pub fn fetch_bench<S: Shelf, L: Ledger>(
     alloc: Global,
     shelf: &mut S,
     rules: RuleBook,

@@ -59,7 +59,7 @@ fn answer<O: Sink, L: Ledger>(
 
 // The lines are counted, and not listed.
 #[tactic(auto, using(crate::proofs::Reports::none_counted, crate::proofs::Reports::some_counted))]
-fn status_of<L: Ledger>(bench: &Bench, steps: &mut Steps<L>) -> Status
+pub fn status_of<L: Ledger>(bench: &Bench, steps: &mut Steps<L>) -> Status
     ensures { HasStatus (listing bench.now.rules bench.now.history.present) result }
 {
     match count(bench, steps) {

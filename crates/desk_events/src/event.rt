@@ -1,15 +1,17 @@
-//! An event: an editor, and what they do.
-use text_lists::text::{Text, Texts};
+//! Events, and why a file of them is refused.
 
-/// What an editor asks for. A row that is changed or deleted is named with the version that was seen of it.
+use line_grammar::LineFault;
+use text_lists::{Limit, Text, Texts};
+
+/// What an editor does. A row's version, as its editor saw it, is `seen`.
 #[derive(Debug, Drop)]
 pub enum Act {
-    /// A new row, at the table's next id.
+    /// Adds a row.
     Insert {
         table: Text,
         values: Texts,
     },
-    /// Another value of one attribute.
+    /// Gives a row another text.
     Set {
         table: Text,
         row: u64,
@@ -17,14 +19,15 @@ pub enum Act {
         attr: Text,
         value: Text,
     },
+    /// Removes a row.
     Delete {
         table: Text,
         row: u64,
         seen: u64,
     },
-    /// Takes back the editor's last change that still stands.
+    /// Takes back the last change of the editor's own that still stands.
     TakeBack,
-    /// A row with its version.
+    /// Asks for the version and the texts of a row.
     Look {
         table: Text,
         row: u64,
@@ -33,8 +36,20 @@ pub enum Act {
     List,
 }
 
+/// One line of a file of events: what the named editor does.
 #[derive(Debug, Drop)]
 pub struct Event {
     pub editor: Text,
     pub act: Act,
 }
+
+/// What is wrong with a line of a file of events.
+#[derive(Clone, Copy, Debug, PartialEq, Eq)]
+pub enum EventCause {
+    NotUtf8,
+    BadLine,
+    TooMany(Limit),
+}
+
+/// Why a file of events is refused.
+pub type EventFault = LineFault<EventCause>;

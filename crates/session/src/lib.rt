@@ -6,7 +6,7 @@ pub mod command;
 mod export;
 mod fix_text;
 mod fixing;
-mod reply;
+pub mod reply;
 pub mod script;
 pub mod serving;
 

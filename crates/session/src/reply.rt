@@ -131,7 +131,7 @@ fn push_each(rules: &RuleBook, lines: &[Line], out: &mut Vec<u8>) -> Result<(), 
 }
 
 /// The lines, then how many they are.
-fn push_lines(
+pub fn push_lines(
     rules: &RuleBook,
     word: &[u8],
     lines: &[Line],

@@ -1,0 +1,3 @@
+pub mod EachHasReply
+pub mod CountedReplies
+pub mod OneHistory

@@ -1,0 +1,2 @@
+pub mod DeskReplies
+pub mod OneHistory
