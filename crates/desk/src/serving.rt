@@ -4,6 +4,7 @@ ghost use Rattle.std.specs.Prelude.{◌≡◌, ◌≤◌, ℕ, List, [], ◌∷�
 ghost use Rattle.shelf_io.specs.Rising.{Rose};
 ghost use Rattle.shelf_io.specs.Transcript.{Answers, AnswersFront};
 ghost use Rattle.desk.specs.DeskReplies.{IsCountedReply, IsReply};
+ghost use Rattle.desk.specs.OneHistory.{AreOneHistory};
 ghost use Rattle.desk.specs.declared.serving.DeskFault.TheVariants as desk_fault;
 ghost use Rattle.desk_state.specs.Probes.{IsWithin};
 
@@ -49,6 +50,9 @@ pub fn serve_desk<O: Sink, L: Ledger>(
 
     // After a fault some of the events were answered, the last reply perhaps not to its end.
     ensures fault { OnErr result (AnswersFront IsReply desk.old events.now desk.new (O.told out.old).written (O.told out.new).written) }
+
+    // Whoever made them and wherever the answers end: the accepted edits are those of one history.
+    ensures one_history { AreOneHistory desk.old desk.new }
     ensures made_with { (desk.new.rules ≡ desk.old.rules) × (desk.new.limits ≡ desk.old.limits) × (desk.new.last ≡ desk.old.last) }
     ensures write_fault { result ≡ Err DeskFault.WriteFault → Rose (O.told out.old).faults (O.told out.new).faults }
     ensures faults { (O.told out.old).faults ≤ (O.told out.new).faults }
@@ -70,6 +74,7 @@ fn answer_one<O: Sink, L: Ledger>(
 ) -> Result<(), DeskFault>
     ensures ok { OnOk result (Answers IsReply desk.old (event.now ∷ []) desk.new (O.told out.old).written (O.told out.new).written) }
     ensures fault { OnErr result (AnswersFront IsReply desk.old (event.now ∷ []) desk.new (O.told out.old).written (O.told out.new).written) }
+    ensures one_history { AreOneHistory desk.old desk.new }
     ensures made_with { (desk.new.rules ≡ desk.old.rules) × (desk.new.limits ≡ desk.old.limits) × (desk.new.last ≡ desk.old.last) }
     ensures probes { IsWithin desk.old event.now.editor event.now.act steps.old steps.new }
     ensures write_fault { result ≡ Err DeskFault.WriteFault → Rose (O.told out.old).faults (O.told out.new).faults }
@@ -95,6 +100,7 @@ fn answer<L: Ledger>(
 
     // The desk is as before the event or as after it, and the sink wasn't touched.
     ensures memory { OnErr result ((written : Option (List ℕ)) → AnswersFront IsReply desk.old (event.now ∷ []) desk.new written written) }
+    ensures one_history { AreOneHistory desk.old desk.new }
     ensures made_with { (desk.new.rules ≡ desk.old.rules) × (desk.new.limits ≡ desk.old.limits) × (desk.new.last ≡ desk.old.last) }
     ensures probes { IsWithin desk.old event.now.editor event.now.act steps.old steps.new }
 {

@@ -29,7 +29,7 @@ impl Model for Desk {
 
     ghost Value = { DeskModel };
 
-    ghost view = { λ d. record { rules = d.bench.rules; limits = d.bench.limits; last = d.last; history = d.bench.history; entries = d.entries } };
+    ghost view = { λ d. record { rules = d.bench.rules; limits = d.bench.limits; last = d.last; history = d.bench.history; entries = d.entries.entries } };
 }
 
 impl Desk {

@@ -3,12 +3,14 @@ use Rattle.shelf_io.specs.Transcript.{AnswersFront}
 use Rattle.shelf_io.proofs.Transcripts.{answers-cut, answers-more, answers-none}
 use Rattle.desk.specs.DeskReplies.{IsCountedReply, IsReply}
 use Rattle.desk.proofs.CountedReplies.{counted-one}
+use Rattle.desk.proofs.OneHistory.{made_on, none_made}
 use Rattle.desk.proofs.serving.serve_desk.Goals as goal
 
 pub loop-event-init : goal.loop-event-init
 loop-event-init g c = record {
   answered = answers-none IsReply c.args.desk.now c.args.events.now (g.O.Sink.told c.args.out.now).written;
   counted = answers-none IsCountedReply (c.args.desk.now, c.args.steps.now) c.args.events.now (g.O.Sink.told c.args.out.now).written;
+  history = none_made c.args.desk.now;
   rules = refl;
   limits = refl;
   last = refl;
@@ -28,6 +30,7 @@ loop-event-preserved g c =
     record {
       answered = answers-more IsReply start c.loop-event.desk c.answer_one.new.desk c.args.events.now c.loop-event.event-index c.event-item.result _ between now here item so_far.answered next;
       counted = answers-more IsCountedReply (start, c.args.steps.now) (c.loop-event.desk, c.loop-event.steps) (c.answer_one.new.desk, c.answer_one.new.steps) c.args.events.now c.loop-event.event-index c.event-item.result _ between now here item so_far.counted counted;
+      history = made_on start c.loop-event.desk c.answer_one.new.desk so_far.rules so_far.limits so_far.history c.answer_one.ensures.one_history;
       rules = c.answer_one.ensures.made_with.0 ∙ so_far.rules;
       limits = c.answer_one.ensures.made_with.1 ∙ so_far.limits;
       last = c.answer_one.ensures.made_with.2 ∙ so_far.last;
@@ -44,3 +47,8 @@ returns-in_err-answer_one-clause-fault g c =
     let front = answers-cut IsReply start c.loop-event.desk c.answer_one.new.desk c.args.events.now c.loop-event.event-index c.event-item.result was between now
     (rw c.as_slice-event-items.ensures at c.loop-event-test.true) (rw c.as_slice-event-items.ensures at c.event-item.is) so_far.answered c.in_err-answer_one.ensures.fault in
     elim c.from_residual.result as (λ r. OnErr r (AnswersFront IsReply start c.args.events.now c.answer_one.new.desk was now)) [ Ok done ↦ tt | Err fault ↦ front ]
+
+pub returns-in_err-answer_one-clause-one_history : goal.returns-in_err-answer_one-clause-one_history
+returns-in_err-answer_one-clause-one_history g c =
+    let so_far = c.loop-event.invariant in
+    made_on c.args.desk.now c.loop-event.desk c.answer_one.new.desk so_far.rules so_far.limits so_far.history c.answer_one.ensures.one_history
