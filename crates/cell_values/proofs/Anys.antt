@@ -1,5 +1,5 @@
 -- An element of a list that has something, part by part.
-use Rattle.std.proofs.Common.{inl, inr, ◌⊎◌, zero, suc, ◌+◌, List, [], ◌∷◌, ◌++◌, refl, sym, subst, arith}
+use Rattle.std.proofs.Common.{inl, inr, ◌⊎◌, zero, suc, List, [], ◌∷◌, ◌++◌, refl, sym, subst, arith}
 use Rattle.std.specs.List.{Any}
 
 pub Any-nil : {X : Type 0} (P : X → Type 0) → Any P [] → ⊥

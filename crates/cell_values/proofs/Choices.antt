@@ -1,16 +1,15 @@
--- Truth values of which at most one is true say which value a text counts as.
-use Rattle.std.proofs.Common.{inl, inr, ◌⊎◌, ⊎_elim, ◌≡◌, ◌≢◌, ℕ, zero, suc, ◌+◌, ◌-◌, ◌<◌, ◌≤◌, Bool, true, false, not, List, [], length, get_or, Option, Contains, refl, sym, ap, ◌∙◌, subst, arith}
+-- Fresh texts, and the value that a text counts as.
+use Rattle.std.proofs.Common.{inl, inr, ◌⊎◌, ⊎_elim, ◌≡◌, ℕ, zero, suc, ◌+◌, ◌-◌, ◌<◌, Bool, true, false, not, List, [], length, get_or, Contains, refl, sym, ap, ◌∙◌, subst, arith}
 use Rattle.std.specs.Str.{bytes_eq}
-use Rattle.std.proofs.lemmas.Bool.{cases_Bool, cases_lt, cases_eq, cases_order, false≢true}
-use Rattle.std.proofs.lemmas.List.{length-take, get_or-take, get_or_default, length-replicate, take_all}
+use Rattle.std.proofs.lemmas.Bool.{cases_Bool, cases_lt, cases_order, false≢true}
+use Rattle.std.proofs.lemmas.List.{length-take, get_or-take, get_or_default, length-replicate}
 use Rattle.text_lists.specs.Repeats.{is_among}
 use Rattle.cell_values.specs.declared.values.CellValues.{CellValues}
 use Rattle.cell_values.specs.Fresh.{tildes, longest, fresh_past, IsFreshPast}
-use Rattle.cell_values.specs.Standing.{counts_as, Agrees, chosen, chosen_text}
-use Rattle.cell_values.proofs.Among.{among_if_Contains, Contains_if_among, bytes_same}
-use Rattle.cell_values.proofs.Lists.{find_first, find_none}
+use Rattle.cell_values.specs.Standing.{counts_as}
+use Rattle.cell_values.proofs.Among.{among_if_Contains, Contains_if_among}
 use Rattle.cell_values.proofs.FreshTexts.{longest_bounds, fresh_is}
-use Rattle.cell_values.proofs.Meaning.{constants, AreValues, counts_constant, is_constant, is_other, counted_other}
+use Rattle.cell_values.proofs.Meaning.{constants, AreValues, is_constant, is_other}
 
 -- ---- the first number that passes
 
@@ -73,7 +72,7 @@ module _ (v : CellValues) (good : AreValues v) where
     | inr differ ↦ absurd (⊎_elim (λ less. good.distinct p q [] less q_in same) (λ more. good.distinct q p [] more p_in (sym same)) differ)
   ]
 
-  constant_there : (p : ℕ) → p < v.constants → Contains (constants v) (get_or v.values p [])
+  pub constant_there : (p : ℕ) → p < v.constants → Contains (constants v) (get_or v.values p [])
   constant_there p low =
       let size = length-take v.constants v.values in
       let bound = good.bound in
@@ -92,51 +91,3 @@ module _ (v : CellValues) (good : AreValues v) where
       | inr q_high ↦ (let few = good.few in omega arith)
     ]
   ]
-
-  -- each value counts as itself
-  pub counts_itself : (p : ℕ) → p < length v.values → counts_as v (get_or v.values p []) p ≡ true
-  counts_itself p within = elim (cases_lt p v.constants) [
-    | inl low ↦ counts_constant v (get_or v.values p []) p low ∙ bytes_same (get_or v.values p [])
-    | inr high ↦ counted_other v (get_or v.values p []) (good.other p high within) p high
-  ]
-
-  module _ (truth : ℕ → Bool) (first : ℕ) where
-    -- the variable of the value that the text counts as is the only true one
-    pub agrees_one : (text : List ℕ) (p : ℕ) → p < length v.values → counts_as v text p ≡ true → truth (first + p) ≡ true → ((q : ℕ) → q < length v.values → truth (first + q) ≡ true → q ≡ p) → Agrees truth first v text
-    agrees_one text p p_in counts is_true only q q_in = elim (cases_eq q p) [
-      | inl same ↦ rw same (is_true ∙ sym counts)
-      | inr differ ↦ (
-          let quiet : truth (first + q) ≡ false = elim (cases_Bool (truth (first + q))) [ inl on ↦ absurd (differ (only q q_in on)) | inr off ↦ off ] in
-          let uncounted : counts_as v text q ≡ false = elim (cases_Bool (counts_as v text q)) [ inl on ↦ absurd (differ (counts_once text q p q_in p_in on counts)) | inr off ↦ off ] in
-          quiet ∙ sym uncounted)
-    ]
-
-    -- the text is no value, and no variable is true
-    pub agrees_none : (text : List ℕ) → length v.values ≤ v.constants → ¬ Contains (constants v) text → ((q : ℕ) → q < length v.values → truth (first + q) ≡ false) → Agrees truth first v text
-    agrees_none text all_low absent quiet q q_in =
-        let low : q < v.constants = omega arith in
-        let uncounted : counts_as v text q ≡ false = elim (cases_Bool (counts_as v text q)) [
-          | inl on ↦ absurd (absent (subst (Contains (constants v)) (is_constant v text q low on) (constant_there q low)))
-          | inr off ↦ off
-        ] in
-        quiet q q_in ∙ sym uncounted
-
-    -- so the chosen text is such a one, where at most one variable is true, and one where that is demanded
-    pub agrees_chosen : ((p q : ℕ) → p < length v.values → q < length v.values → truth (first + p) ≡ true → truth (first + q) ≡ true → p ≡ q) → (v.demanded ≡ true → (p : ℕ) × (p < length v.values) × (truth (first + p) ≡ true))
-        → Agrees truth first v (chosen_text v.values (chosen truth first (length v.values)))
-    agrees_chosen at_most demanded = elim (search_first (λ place. truth (first + place)) (length v.values)) [
-      | inl found ↦ (
-          let is = find_first (λ place. truth (first + place)) (length v.values) found.at found.within found.passes found.before in
-          subst (λ (o : Option ℕ). Agrees truth first v (chosen_text v.values o)) (sym is)
-          (agrees_one (get_or v.values found.at []) found.at found.within (counts_itself found.at found.within) found.passes (λ q q_in on. at_most q found.at q_in found.within on found.passes)))
-      | inr none ↦ (
-          let is = find_none (λ place. truth (first + place)) (length v.values) none in
-          let free : v.demanded ≡ false = elim (cases_Bool v.demanded) [
-            | inl wanted ↦ (let (p, p_in, on) = demanded wanted in absurd (false≢true (sym (none p p_in) ∙ on)))
-            | inr off ↦ off
-          ] in
-          let all_low = good.all_constants free in
-          let whole : constants v ≡ v.values = take_all v.constants v.values all_low in
-          subst (λ (o : Option ℕ). Agrees truth first v (chosen_text v.values o)) (sym is)
-          (agrees_none (fresh_past 0 v.values) all_low (subst (λ (known : List (List ℕ)). ¬ Contains known (fresh_past 0 v.values)) (sym whole) (fresh_there 0 v.values).new) none))
-    ]

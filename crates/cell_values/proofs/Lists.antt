@@ -1,8 +1,10 @@
 -- Facts about lists that any crate could use.
 use Rattle.std.proofs.Common.{◌≡◌, ℕ, zero, suc, ◌+◌, ◌<◌, Bool, true, false, cond, ◌||◌, List, [], ◌∷◌, length, Some, None, refl, ap, ◌∙◌, arith}
-use Rattle.std.specs.Prelude.{map, find}
-use Rattle.std.specs.List.{list_any, range_with_len, zip}
+use Rattle.std.specs.Prelude.{Contains, map, find}
+use Rattle.std.specs.List.{All, AllZip, flat_map, list_any, range_with_len, zip}
+use Rattle.cfd_semantics.proofs.Members.{contains-here, contains-there}
 use Rattle.std.specs.Option.{option_map}
+use Rattle.std.proofs.lemmas.List.Elements.{All-nil, All-cons, All-append}
 
 -- a test of what a list is mapped to
 pub list_any-map : {X Y : Type 0} (p : Y → Bool) (f : X → Y) (xs : List X) → list_any p (map f xs) ≡ list_any (λ x. p (f x)) xs
@@ -56,3 +58,22 @@ pub zip_right_ended : {X Y : Type 0} (xs : List X) (ys : List Y) → length ys �
 zip_right_ended [] ys none = refl
 zip_right_ended (x ∷ xs) [] none = refl
 zip_right_ended (x ∷ xs) (y ∷ ys) none = absurd (omega arith)
+
+-- lists of two types that are related place by place
+pub AllZip-long : {X Y : Type 0} (R : X → Y → Type 0) (xs : List X) (ys : List Y) → AllZip R xs ys → length xs ≡ length ys
+AllZip-long R [] [] all = refl
+AllZip-long R [] (y ∷ ys) all = absurd all
+AllZip-long R (x ∷ xs) [] all = absurd all
+AllZip-long R (x ∷ xs) (y ∷ ys) all = ap suc (AllZip-long R xs ys all.1)
+
+-- what holds of each part, or of each image, holds of all
+pub all_flat_map : {X Y : Type 0} (P : Y → Type 0) (f : X → List Y) (xs : List X) → ((x : X) → Contains xs x → All P (f x)) → All P (flat_map f xs)
+all_flat_map P f [] each = All-nil P
+all_flat_map P f (x ∷ xs) each = All-append P (f x) (flat_map f xs) (each x (contains-here x xs)) (all_flat_map P f xs (λ y there. each y (contains-there y x xs there)))
+
+pub all_map : {X Y : Type 0} (P : Y → Type 0) (f : X → Y) (xs : List X) → ((x : X) → Contains xs x → P (f x)) → All P (map f xs)
+all_map P f [] each = All-nil P
+all_map P f (x ∷ xs) each = All-cons P (f x) (map f xs) (each x (contains-here x xs)) (all_map P f xs (λ y there. each y (contains-there y x xs there)))
+
+pub one_item : {X : Type 0} (P : X → Type 0) (x : X) → P x → All P (x ∷ [])
+one_item P x fact = All-cons P x [] fact (All-nil P)

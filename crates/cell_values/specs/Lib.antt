@@ -4,4 +4,6 @@ pub mod Fresh
 pub mod Values
 pub mod Literals
 pub mod Standing
-pub mod Assigned
+pub mod Layout
+pub mod RowClauses
+pub mod Readings

@@ -1,10 +1,9 @@
 -- Which value of an attribute a text counts as, and what truth values say of a text.
-use Rattle.std.specs.Prelude.{◌≡◌, ℕ, ◌+◌, ◌<◌, Bool, not, nat_lt, if◌then◌else◌, List, [], length, take, find, Option, Some, None, slice_index_or}
+use Rattle.std.specs.Prelude.{◌≡◌, ℕ, ◌+◌, ◌<◌, Bool, not, nat_lt, if◌then◌else◌, List, [], length, take, find, Option, slice_index_or}
 use Rattle.std.specs.List.{range_with_len}
 use Rattle.std.specs.Str.{bytes_eq}
 use Rattle.text_lists.specs.Repeats.{is_among}
 use Rattle.cell_values.specs.declared.values.CellValues.{CellValues}
-use Rattle.cell_values.specs.Fresh.{fresh_past}
 
 -- A text counts as the constant that it is. Every text that is no constant counts as the other-value, where there is one.
 abbrev pub counts_as : CellValues → List ℕ → ℕ → Bool
@@ -19,8 +18,3 @@ Agrees truth first cell text = (place : ℕ) → place < length cell.values → 
 -- the first of so many values whose variable is true
 abbrev pub chosen : (ℕ → Bool) → ℕ → ℕ → Option ℕ
 chosen truth first count = find (λ place. truth (first + place)) (range_with_len 0 count)
-
--- the text of that value, and a fresh one where there is none
-abbrev pub chosen_text : List (List ℕ) → Option ℕ → List ℕ
-chosen_text values (Some place) = slice_index_or values place []
-chosen_text values None = fresh_past 0 values

@@ -1,16 +1,23 @@
-//! What a question about the dependencies of a table is made of: the attributes that occur in them, the values of each
-//! that they tell apart, and what a clause says of a cell of a tableau. Both deciders, and the texts of their
-//! certificates, share it.
+//! What a question about the dependencies of a table is made of, whether it is about one tuple or about two: the attributes
+//! that occur in them, the values of each that they tell apart, its variables, what clauses say of a tuple, and the tuples
+//! that truth values stand for. Both deciders, and the texts of their certificates, share it.
 #![tactic(auto)]
 
+mod clause_list;
 mod fresh;
+mod layout;
 mod literals;
+mod readings;
+mod row_clauses;
+pub mod side;
 mod standing;
 mod table_rules;
 mod values;
 
-pub use fresh::fresh_past;
-pub use literals::{push_meets, push_misses};
-pub use standing::{chosen, chosen_text};
-pub use table_rules::{Rule, TableRules};
-pub use values::{CellValues, attrs_before, cell_of, occurring, values_before};
+pub use clause_list::ClauseList;
+pub use layout::{equal_var, value_var, var_cells};
+pub use readings::tuple_of;
+pub use row_clauses::{alone, no, push_meets_at, push_misses_at, push_misses_left, yes};
+pub use side::{Side, TupleCount};
+pub use table_rules::{Rule, TableRules, attrs_at};
+pub use values::{CellValues, occurring};

@@ -1,14 +1,23 @@
-//! The dependencies of one table.
+//! The attributes and the dependencies of one table.
 
 ghost use Rattle.std.specs.Prelude.{◌≡◌, ◌<◌, Some, length, slice_get, IfOk};
 ghost use Rattle.std.specs.List.{list_any};
+ghost use Rattle.schema_core.specs.Lookups.{attrs_at};
 ghost use Rattle.cell_values.specs.TableRules.{rules_with, occurs, stands_in};
 
 use cfd_semantics::Dependency;
 use rule_model::Dep;
-use schema_core::Text;
+use schema_core::{Attr, Schema, Text};
 use std::alloc::{AllocError, Global};
 use std::marker::Model;
+
+/// The attributes of a table.
+pub fn attrs_at(schema: &Schema, table: usize) -> &[Attr]
+    requires { table < length schema.now.tables }
+    ensures { result.now ≡ attrs_at schema.now table }
+{
+    schema.tables.as_slice()[table].attrs.as_slice()
+}
 
 pub type Rule = Dependency<Text>;
 

@@ -2,15 +2,16 @@
 use Rattle.std.proofs.Common.{◌≡◌, ℕ, ◌+◌, ◌*◌, Bool, true, false, cond, List, [], ◌∷◌, ◌++◌, length, Option, Some, refl, arith, length-append}
 use Rattle.std.specs.Prelude.{◌==◌}
 use Rattle.std.specs.List.{AllZip}
-use Rattle.std.proofs.lemmas.List.Sums.{sum_by-cons}
 use Rattle.schema_core.specs.declared.schema.Attr.{Attr}
 use Rattle.rule_parser.specs.RuleText.{attr_name}
 use Rattle.case_tree.specs.declared.clauses.VarCell.{VarCell}
 use Rattle.cell_values.specs.declared.values.CellValues.{CellValues}
-use Rattle.cell_values.proofs.Counting.{size}
-use Rattle.cell_values.proofs.ValueOrder.{total}
-use Rattle.cfd_consistency.specs.Question.{cell_of_values, cells_from}
-use Rattle.cfd_implication.specs.Question as implication
+use Rattle.cell_values.specs.declared.side.TupleCount.{TupleCount}
+use Rattle.cell_values.specs.declared.side.TupleCount.TheVariants.{One, Two}
+use Rattle.cell_values.specs.Layout as layout
+use Rattle.cell_values.specs.Layout.{var_total, var_width}
+use Rattle.cell_values.proofs.Bounds.{total_cons}
+use Rattle.cert_text.specs.declared.answers.Kind.{Kind}
 use Rattle.cert_text.specs.declared.answers.Kind.TheVariants.{Consistency, Implication}
 use Rattle.cert_text.specs.declared.names.Which.{Which}
 use Rattle.cert_text.specs.declared.names.Which.TheVariants.{Only, First, Second}
@@ -18,19 +19,22 @@ use Rattle.cert_text.specs.declared.names.CellName.{CellName}
 use Rattle.cert_check.specs.Names.{names_of, cell_name, attr_vars, value_cells, attr_cells}
 use Rattle.cert_check.proofs.NamePlaces.{value_vars_count, pair_count}
 
+-- how many tuples a question of the kind is about
+abbrev pub tuples_in : Kind → TupleCount
+tuples_in Consistency = One
+tuples_in Implication = Two
+
 -- ---- variables
 
-pub count_one : (attrs : List Attr) (cells : List CellValues) → length (names_of Consistency attrs cells).vars ≡ total cells
-count_one attrs [] = refl
-count_one attrs (cell ∷ cells) =
-    let its = attr_vars Consistency (attr_name attrs cell.attr) cell.values in
-    omega (arith, length-append its (names_of Consistency attrs cells).vars, value_vars_count Only (attr_name attrs cell.attr) cell.values, count_one attrs cells, sum_by-cons size cell cells)
+count_attr : (kind : Kind) (attr : List ℕ) (cell : CellValues) → length (attr_vars kind attr cell.values) ≡ var_width (tuples_in kind) cell
+count_attr Consistency attr cell = value_vars_count Only attr cell.values
+count_attr Implication attr cell = pair_count attr cell.values
 
-pub count_two : (attrs : List Attr) (cells : List CellValues) → length (names_of Implication attrs cells).vars ≡ implication.var_total cells
-count_two attrs [] = refl
-count_two attrs (cell ∷ cells) =
-    let its = attr_vars Implication (attr_name attrs cell.attr) cell.values in
-    omega (arith, length-append its (names_of Implication attrs cells).vars, pair_count (attr_name attrs cell.attr) cell.values, count_two attrs cells, sum_by-cons (λ (c : CellValues). 1 + 2 * length c.values) cell cells)
+pub count_vars : (kind : Kind) (attrs : List Attr) (cells : List CellValues) → length (names_of kind attrs cells).vars ≡ var_total (tuples_in kind) cells
+count_vars kind attrs [] = refl
+count_vars kind attrs (cell ∷ cells) =
+    let its = attr_vars kind (attr_name attrs cell.attr) cell.values in
+    omega (arith, length-append its (names_of kind attrs cells).vars, count_attr kind (attr_name attrs cell.attr) cell, count_vars kind attrs cells, total_cons (tuples_in kind) cell cells)
 
 -- ---- cells
 
@@ -51,24 +55,20 @@ value_cell_named tuple attr values cell = by_test (length values == 0) where
   by_test true = tt
   by_test false = (λ demanded. (cell_name tuple attr, refl), tt)
 
-pub cells_named_one : (attrs : List Attr) (first : ℕ) (cells : List CellValues) → AllZip HasName (cells_from first cells) (names_of Consistency attrs cells).cells
-cells_named_one attrs first [] = tt
-cells_named_one attrs first (cell ∷ cells) =
-    zip-append HasName (cell_of_values first cell) (cells_from (first + length cell.values) cells) (attr_cells Consistency (attr_name attrs cell.attr) cell.values) (names_of Consistency attrs cells).cells
-    (value_cell_named Only (attr_name attrs cell.attr) cell.values (record { first = first; count = length cell.values; demanded = cell.demanded }))
-    (cells_named_one attrs (first + length cell.values) cells)
-
-pub cells_named_two : (attrs : List Attr) (first : ℕ) (cells : List CellValues) → AllZip HasName (implication.var_cells first cells) (names_of Implication attrs cells).cells
-cells_named_two attrs first [] = tt
-cells_named_two attrs first (cell ∷ cells) =
-    let attr = attr_name attrs cell.attr in
+attr_named : (kind : Kind) (attr : List ℕ) (first : ℕ) (cell : CellValues) → AllZip HasName (layout.attr_cells (tuples_in kind) first cell) (attr_cells kind attr cell.values)
+attr_named Consistency attr first cell = value_cell_named Only attr cell.values (record { first = first; count = length cell.values; demanded = cell.demanded })
+attr_named Implication attr first cell =
     let one = first + 1 in
-    let two = first + 1 + length cell.values in
-    let behind = first + 1 + 2 * length cell.values in (
+    let two = first + 1 + length cell.values in (
       λ demanded. absurd cc,
-      zip-append HasName (implication.value_cell one cell ++ implication.value_cell two cell) (implication.var_cells behind cells) (value_cells First attr cell.values ++ value_cells Second attr cell.values) (names_of Implication attrs cells).cells
-          (zip-append HasName (implication.value_cell one cell) (implication.value_cell two cell) (value_cells First attr cell.values) (value_cells Second attr cell.values)
+      zip-append HasName (layout.value_cell one cell) (layout.value_cell two cell) (value_cells First attr cell.values) (value_cells Second attr cell.values)
           (value_cell_named First attr cell.values (record { first = one; count = length cell.values; demanded = cell.demanded }))
-          (value_cell_named Second attr cell.values (record { first = two; count = length cell.values; demanded = cell.demanded })))
-          (cells_named_two attrs behind cells),
+          (value_cell_named Second attr cell.values (record { first = two; count = length cell.values; demanded = cell.demanded })),
     )
+
+pub cells_named : (kind : Kind) (attrs : List Attr) (first : ℕ) (cells : List CellValues) → AllZip HasName (layout.var_cells (tuples_in kind) first cells) (names_of kind attrs cells).cells
+cells_named kind attrs first [] = tt
+cells_named kind attrs first (cell ∷ cells) =
+    let behind = first + var_width (tuples_in kind) cell in
+    zip-append HasName (layout.attr_cells (tuples_in kind) first cell) (layout.var_cells (tuples_in kind) behind cells) (attr_cells kind (attr_name attrs cell.attr) cell.values) (names_of kind attrs cells).cells
+    (attr_named kind (attr_name attrs cell.attr) first cell) (cells_named kind attrs behind cells)

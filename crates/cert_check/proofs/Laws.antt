@@ -30,7 +30,7 @@ use Rattle.cfd_consistency.specs.Consistent.{IsConsistent}
 use Rattle.cfd_consistency.proofs.Questions.{none_if_refuted}
 use Rattle.cfd_implication.specs.Implied.{IsImplied}
 use Rattle.cfd_implication.specs.Question as implication
-use Rattle.cfd_implication.proofs.Questions.{attrs_each}
+use Rattle.cell_values.proofs.Tables.{attrs_each}
 use Rattle.cfd_implication.proofs.Theorems.{implied_if_none}
 use Rattle.rule_parser.specs.ReadRules.{IsDepDecl}
 use Rattle.cert_text.specs.Written.{IsWrittenCert}
@@ -85,7 +85,7 @@ consistent_tree : (rules : Book) → IsBook rules → (table : ℕ) → table < 
     → TreeSays budget (¬ IsConsistent rules table)
 consistent_tree rules good table within line None lines passes =
     let refutes = refutes_of (asks_consistency rules table) line lines passes in
-    none_if_refuted rules good table within refutes.0 refutes.1
+    none_if_refuted rules good table refutes.0 refutes.1
 consistent_tree rules good table within line (Some budget) lines passes = tt
 
 consistent_answer : (rules : Book) → IsBook rules → (table : ℕ) → table < length rules.schema.tables → (answer : Answer) → ConsistencyLines rules answer table Holds → SaysConsistent answer (IsConsistent rules table)

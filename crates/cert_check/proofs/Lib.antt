@@ -11,7 +11,6 @@ pub mod NamesApart
 pub mod Fitting
 pub mod NodesBack
 pub mod NumberedNames
-pub mod NamesOfOne
-pub mod NamesOfTwo
+pub mod QuestionNames
 pub mod MadeHolds
 pub mod Found

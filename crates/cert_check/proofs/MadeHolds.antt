@@ -5,7 +5,7 @@ use Rattle.std.specs.List.{AllByRecursion, AllZip}
 use Rattle.std.specs.Option.{option_map_or}
 use Rattle.std.proofs.lemmas.Option.{slice_get-get_or}
 use Rattle.schema_core.specs.declared.schema.Table.{Table}
-use Rattle.cfd_consistency.proofs.Lists.{AllZip-long}
+use Rattle.cell_values.proofs.Lists.{AllZip-long}
 use Rattle.rule_parser.specs.ReadRules.{IsDepDecl}
 use Rattle.cert_text.specs.Written.{IsBudget}
 use Rattle.std.proofs.lemmas.List.{length-map}
@@ -19,7 +19,7 @@ use Rattle.rule_model.specs.Declarations.{IsWrittenCell, IsWrittenRow}
 use Rattle.rule_model.specs.declared.decl.CfdRow.{CfdRow}
 use Rattle.rule_parser.specs.RuleText.{attr_name}
 use Rattle.rule_parser.proofs.Numbered.{attr_name-IsName, table_name-IsName}
-use Rattle.cfd_implication.proofs.Questions.{attrs_valid}
+use Rattle.cell_values.proofs.Tables.{attrs_valid}
 use Rattle.schema_core.specs.Schemas.{Admits, IsValidSchema, table_place}
 use Rattle.schema_core.specs.declared.schema.Attr.{Attr}
 use Rattle.schema_core.specs.declared.schema.Schema.{Schema}
@@ -44,8 +44,7 @@ use Rattle.cert_check.specs.Made.{IsCertOf, IsCertOfDep, IsFound, IsFoundOfDep, 
 use Rattle.cfd_implication.specs.Question.{question}
 use Rattle.cert_check.specs.Verdict.{Asks, ConsistencyLines, ImplicationLines, IsShortTuple, IsVerdict, LineOf, TreePasses, accepted, asks_consistency, asks_implication}
 use Rattle.cert_check.specs.declared.verdict.CertVerdict.TheVariants.{Holds}
-use Rattle.cert_check.proofs.NamesOfOne.{names_of_one}
-use Rattle.cert_check.proofs.NamesOfTwo.{names_of_two}
+use Rattle.cert_check.proofs.QuestionNames.{names_of_one, names_of_two}
 use Rattle.cert_check.proofs.NodesBack.{closed_tree, spent_tree, tree_named}
 
 short_by : (attrs : List Attr) (tuple : List (List ℕ)) → IsTupleOf attrs tuple → AllByRecursion (λ (text : List ℕ). length text ≤ answer_bytes) tuple → IsShortTuple attrs tuple

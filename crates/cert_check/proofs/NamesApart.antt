@@ -13,7 +13,7 @@ use Rattle.schema_core.specs.declared.schema.Attr.{Attr}
 use Rattle.rule_parser.specs.RuleText.{attr_name}
 use Rattle.rule_parser.proofs.Numbered.{attr_number-name}
 use Rattle.cell_values.specs.declared.values.CellValues.{CellValues}
-use Rattle.cell_values.proofs.ValueOrder.{Rising}
+use Rattle.cell_values.proofs.Order.{Rising}
 use Rattle.cert_text.specs.declared.answers.Kind.{Kind}
 use Rattle.cert_text.specs.declared.answers.Kind.TheVariants.{Consistency, Implication}
 use Rattle.cert_text.specs.declared.names.Which.{Which}

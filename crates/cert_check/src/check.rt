@@ -20,23 +20,15 @@ use crate::names::Naming;
 use crate::trees::check_tree;
 use crate::tuples::{is_short_tuple, one_row, satisfy, satisfy_table, two_rows};
 use crate::verdict::CertVerdict;
-use cell_values::TableRules;
+use cell_values::{TableRules, attrs_at};
 use cert_text::answers::Kind;
 use cert_text::{Answer, Cert, CertParts, Question, TreeLines, TupleLine};
 use cfd_consistency::consistency_clauses;
 use cfd_implication::implication_clauses;
 use rule_model::{AddFault, CfdDecl, Dep, RuleBook, judge_dep};
-use schema_core::{Attr, Schema, Texts};
+use schema_core::{Schema, Texts};
 use std::alloc::{AllocError, Global};
 use std::slice;
-
-/// The attributes of a table.
-pub fn attrs_at(schema: &Schema, table: usize) -> &[Attr]
-    requires { table < length schema.now.tables }
-    ensures { result.now ≡ attrs_at schema.now table }
-{
-    schema.tables.as_slice()[table].attrs.as_slice()
-}
 
 /// Whether the texts are a tuple of a table, none too long.
 fn is_tuple_of(rules: &RuleBook, table: usize, tuple: &Texts) -> bool

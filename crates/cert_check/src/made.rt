@@ -16,11 +16,12 @@ ghost use Rattle.cert_text.specs.Written.{IsBudget, IsNodeOf, IsQuestion, IsReas
 ghost use Rattle.cert_check.specs.Made.{AreNamed, HaveNames, IsCertOf, IsCertOfDep, IsFound, IsFoundOfDep, IsTreeCert, IsWrittenAnswer, IsWrittenDepAnswer, decl_of, decl_row, named_node, named_reason};
 ghost use Rattle.cert_check.specs.Verdict.{IsVerdict, asks_consistency, asks_implication};
 
-use crate::check::{attrs_at, naming_of_dep, naming_of_table};
+use crate::check::{naming_of_dep, naming_of_table};
 use crate::copies::{copy_cell, copy_cells};
 use crate::names::{Naming, attr_name};
 use crate::verdict::CertVerdict;
 use case_tree::{Node, Reason, Tree};
+use cell_values::attrs_at;
 use cert_text::{Cert, NodeName, Question, ReasonName};
 use cfd_consistency::Consistency;
 use cfd_implication::Implication;

@@ -1,9 +1,2 @@
-pub mod Bounds
-pub mod Lists
-pub mod CellLists
-pub mod Asked
-pub mod Rows
-pub mod WellFormed
 pub mod Law
-pub mod ShortTexts
 pub mod Questions

@@ -4,11 +4,10 @@ use Rattle.case_tree.specs.CaseTree.{IsAllowed, IsPartial, Refutes, leaf_count}
 use Rattle.case_search.specs.Enough.{enough_of}
 use Rattle.rule_model.specs.Books.{Book}
 use Rattle.schema_core.specs.Schemas.{table_place}
-use Rattle.cell_values.specs.Assigned.{HasAllowed}
+use Rattle.cell_values.specs.Readings.{HasAllowed}
 use Rattle.cell_values.specs.Tuples.{answer_bytes}
 use Rattle.cfd_consistency.specs.Consistent.{IsWitness, IsConsistent}
-use Rattle.cfd_consistency.specs.Question.{question}
-use Rattle.cfd_consistency.specs.Witness.{stands_for}
+use Rattle.cfd_consistency.specs.Question.{question, stands_for}
 use Rattle.cfd_consistency.specs.declared.decider.Consistency.{Consistency}
 use Rattle.cfd_consistency.specs.declared.decider.Consistency.TheVariants.{Witness, Never, Spent}
 

@@ -1,4 +1,3 @@
 pub mod Consistent
 pub mod Question
-pub mod Witness
 pub mod Answer

@@ -4,10 +4,10 @@ ghost use Rattle.std.specs.Prelude.{◌≡◌, ◌≤◌, ◌↔◌, ◌<◌, No
 ghost use Rattle.schema_core.specs.Schemas.{table_place};
 ghost use Rattle.cfd_consistency.specs.Answer.{HasLaw, IsAnswer, IsAnswerFor};
 
-use crate::question::{Question, attrs_at};
-use crate::witness::tuple_of;
+use crate::question::Question;
 use case_search::{Found, decide};
 use case_tree::Tree;
+use cell_values::{Side, attrs_at, tuple_of};
 use rule_model::RuleBook;
 use schema_core::Texts;
 use std::alloc::{AllocError, Global};
@@ -75,7 +75,8 @@ fn decide_table(
     match decide(alloc, &question.clauses, budget)? {
         Found::Model(truth) => {
             let attrs = attrs_at(rules.schema(), table);
-            let tuple = tuple_of(alloc, attrs, question.values.as_slice(), &truth)?;
+            let values = question.values.as_slice();
+            let tuple = tuple_of(alloc, Side::Only, attrs, values, &truth)?;
             Ok(Consistency::Witness(tuple))
         }
         Found::Refuted(tree) => Ok(Consistency::Never(tree)),

@@ -6,7 +6,6 @@
 mod clauses;
 mod decider;
 mod question;
-mod witness;
 
 pub use decider::{Consistency, DecideFault, consistent};
 pub use question::consistency_clauses;

@@ -11,10 +11,13 @@ use Rattle.cfd_semantics.specs.Pattern.{matches, all_match}
 use Rattle.cfd_semantics.specs.Tuple.{same_values}
 use Rattle.cell_values.specs.declared.values.CellValues.{CellValues}
 use Rattle.cell_values.specs.TableRules.{Rule}
-use Rattle.cfd_implication.specs.declared.side.Side.TheVariants.{First}
-use Rattle.cfd_implication.specs.Question.{equal_var, meets_at, misses_at, agree_on, asked_cell, breaks, asked_clauses}
-use Rattle.cfd_implication.proofs.Truths.{or_false, clause_true, all_true, text_of, left_of, Misses, Equates}
-use Rattle.cfd_implication.proofs.TwoTuples.{MeetsCell, Hears}
+use Rattle.cell_values.specs.declared.side.Side.TheVariants.{First}
+use Rattle.cell_values.specs.Layout.{equal_var}
+use Rattle.cell_values.specs.RowClauses.{meets_at, misses_at}
+use Rattle.cell_values.proofs.OneTuple.{MeetsCell}
+use Rattle.cell_values.proofs.Truths.{or_false, clause_true, all_true, text_of, left_of, Misses}
+use Rattle.cfd_implication.specs.Question.{agree_on, asked_cell, breaks, asked_clauses}
+use Rattle.cfd_implication.proofs.TwoTuples.{Equates, Hears}
 
 -- the tuples don't agree on the right, or the first doesn't match the cell there; of a constant the latter alone
 abbrev pub Breaks : List (List ℕ) → List (List ℕ) → ℕ → Pattern (List ℕ) → Bool
@@ -38,13 +41,13 @@ module _ (truth : ℕ → Bool) (cells : List CellValues) (one other : List (Lis
       ap (λ b. b && all_true truth (map (agree_on cells) xs)) (or_false (truth (equal_var cells x)) ∙ says.0)
       ∙ ap (λ b. bytes_eq (text_of one x) (text_of other x) && b) (agree_is xs says.1)
 
-  cell_is : (attr : ℕ) (p : Pattern (List ℕ)) → MeetsCell truth cells one other First one attr p → all_true truth (asked_cell cells (attr, p)) ≡ matches bytes_eq p (text_of one attr)
+  cell_is : (attr : ℕ) (p : Pattern (List ℕ)) → MeetsCell truth cells First one attr p → all_true truth (asked_cell cells (attr, p)) ≡ matches bytes_eq p (text_of one attr)
   cell_is attr Any says = refl
   cell_is attr (Is constant) says = and_true (clause_true truth (meets_at cells First (attr, Is constant))) ∙ says
   cell_is attr (In members) says = and_true (clause_true truth (meets_at cells First (attr, In members))) ∙ says
   cell_is attr (NotIn members) says = and_true (clause_true truth (meets_at cells First (attr, NotIn members))) ∙ says
 
-  cells_are : (xs : List ℕ) (ps : List (Pattern (List ℕ))) → length xs ≡ length ps → AllByRecursion (λ at. MeetsCell truth cells one other First one at.0 at.1) (zip xs ps)
+  cells_are : (xs : List ℕ) (ps : List (Pattern (List ℕ))) → length xs ≡ length ps → AllByRecursion (λ at. MeetsCell truth cells First one at.0 at.1) (zip xs ps)
       → all_true truth (flat_map (asked_cell cells) (zip xs ps)) ≡ all_match bytes_eq ps (left_of one xs)
   cells_are [] [] same says = refl
   cells_are [] (p ∷ ps) same says = absurd (omega arith)
@@ -67,7 +70,7 @@ module _ (truth : ℕ → Bool) (cells : List CellValues) (one other : List (Lis
   -- what is heard of the asked row beside what is heard of every row
   pub record HearsAsked (rule : Rule) (row : TableauRow (List ℕ)) : Type 0 where
     pub row_hears : Hears truth cells one other rule row
-    pub meets : AllByRecursion (λ at. MeetsCell truth cells one other First one at.0 at.1) (zip rule.x row.x)
+    pub meets : AllByRecursion (λ at. MeetsCell truth cells First one at.0 at.1) (zip rule.x row.x)
     pub misses_right : Misses truth cells First one (rule.a, row.a)
 
   pub asked_is : (rule : Rule) (row : TableauRow (List ℕ)) → HearsAsked rule row

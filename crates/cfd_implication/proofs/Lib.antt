@@ -1,17 +1,7 @@
-pub mod Truths
 pub mod TwoTuples
-pub mod Order
-pub mod Told
-pub mod Allowed
-pub mod Chosen
 pub mod Asked
-pub mod Occurs
 pub mod Heard
 pub mod Main
-pub mod Room
 pub mod Theorems
-pub mod Loops
-pub mod Bounds
 pub mod WellFormed
-pub mod PairFacts
 pub mod Questions

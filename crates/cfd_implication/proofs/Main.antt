@@ -1,61 +1,40 @@
 -- The question has an allowed assignment exactly where two tuples satisfy the rules and not the asked dependency.
-use Rattle.std.proofs.Common.{◌≡◌, ◌≢◌, ℕ, zero, suc, ◌+◌, ◌<◌, Bool, true, false, not, ◌&&◌, ◌||◌, List, [], ◌∷◌, ◌++◌, length, refl, sym, ap, ◌∙◌, subst, inl, inr, arith}
+use Rattle.std.proofs.Common.{◌≡◌, ℕ, ◌+◌, ◌<◌, Bool, true, false, not, ◌&&◌, ◌||◌, List, [], ◌∷◌, ◌++◌, length, refl, sym, ap, ◌∙◌, subst, arith}
 use Rattle.std.specs.Prelude.{Contains}
-use Rattle.std.specs.List.{flat_map, list_all, range_with_len, All, Any, AllByRecursion}
+use Rattle.std.specs.List.{flat_map, list_all, range_with_len, AllByRecursion}
 use Rattle.std.specs.Str.{bytes_eq}
-use Rattle.std.proofs.lemmas.Bool.{cases_Bool, false≢true, and_parts, and_from, or_left, or_right}
-use Rattle.std.proofs.lemmas.List.{length-take-le, get_or-take}
-use Rattle.std.proofs.lemmas.List.Elements.{All-from_recursion, All-contains, Contains-append_left, Contains-append_right}
+use Rattle.std.proofs.lemmas.Bool.{false≢true, or_left, or_right}
+use Rattle.std.proofs.lemmas.List.Elements.{Contains-append_left, Contains-append_right}
 use Rattle.std.proofs.lemmas.List.FromFn.{length-range_with_len, get_or-range_with_len}
-use Rattle.cfd_semantics.proofs.Members.{contains-here, contains-there}
+use Rattle.cfd_semantics.proofs.Members.{contains-here}
 use Rattle.cfd_semantics.specs.declared.pattern.Pattern.{Pattern}
 use Rattle.cfd_semantics.specs.declared.pattern.Pattern.TheVariants as patterns
 use Rattle.cfd_semantics.specs.declared.dependency.TableauRow.{TableauRow}
 use Rattle.cfd_semantics.specs.Pattern.{matches, all_match}
 use Rattle.cfd_semantics.specs.Tuple.{same_values}
 use Rattle.cfd_semantics.specs.Satisfaction.{Satisfies}
-use Rattle.case_tree.specs.declared.clauses.Literal.{Literal}
-use Rattle.case_tree.specs.CaseTree.{ClauseSet, IsTrueUnder}
-use Rattle.schema_core.specs.Lookups.{domain_at}
+use Rattle.case_tree.specs.CaseTree.{ClauseSet}
 use Rattle.schema_core.specs.Schemas.{IsValidAttr}
 use Rattle.schema_core.specs.declared.schema.Attr.{Attr}
+use Rattle.cell_values.specs.declared.side.Side.TheVariants.{First, Second}
+use Rattle.cell_values.specs.declared.side.TupleCount.TheVariants.{Two}
 use Rattle.cell_values.specs.declared.values.CellValues.{CellValues}
+use Rattle.cell_values.specs.Layout.{equal_var, value_var, var_cells}
 use Rattle.cell_values.specs.Standing.{counts_as}
 use Rattle.cell_values.specs.TableRules.{Rule}
 use Rattle.cell_values.specs.Tuples.{IsTupleOf}
-use Rattle.cell_values.specs.Values.{occurring, cell_values}
-use Rattle.cell_values.proofs.Meaning.{AreValues, IsCovered}
-use Rattle.cell_values.proofs.ValueFacts.{values_good, covered_if_admitted}
-use Rattle.cfd_implication.specs.declared.side.Side.TheVariants.{First, Second}
-use Rattle.cfd_implication.specs.Question.{equal_var, value_var, var_cells, constant_clauses, agreeing_at, rule_clauses, row_clauses, asked_clauses, clauses_of}
-use Rattle.cfd_implication.proofs.Truths.{clause_true, all_true, all_flat, text_of, left_of}
-use Rattle.cfd_implication.proofs.TwoTuples.{RowHolds, row_from_clauses, clauses_from_row, satisfies_from, same_text, text_same}
+use Rattle.cell_values.specs.Values.{occurring}
+use Rattle.cell_values.proofs.Occurs.{rises}
+use Rattle.cell_values.proofs.OneTuple.{IsRuleOf}
+use Rattle.cell_values.proofs.Order.{Placed}
+use Rattle.cell_values.proofs.Satisfied.{same_text, text_same}
+use Rattle.cell_values.proofs.Texts.{good_at}
+use Rattle.cell_values.proofs.Told.{agrees_told, equal_told, Tells}
+use Rattle.cell_values.proofs.Truths.{all_by, all_contained, all_flat, all_true, clause_true, left_of, text_of}
+use Rattle.cfd_implication.specs.Question.{constant_clauses, agreeing_at, rule_clauses, row_clauses, asked_clauses, clauses_of}
 use Rattle.cfd_implication.proofs.Asked.{Breaks, asked_is}
-use Rattle.cfd_implication.proofs.Order.{Placed, placed_at, second_at}
-use Rattle.cfd_implication.proofs.Told.{Tells}
-use Rattle.cfd_implication.proofs.Allowed.{IsOfValues}
-use Rattle.cfd_implication.proofs.Occurs.{rises, occurring_from}
-use Rattle.cfd_implication.proofs.Heard.{any_of_clause, clause_of_any, admitted_at, valid_domain_at, IsRuleOf, hears, hears_asked}
-
--- ---- lists of tests
-
-pub all_contained : {X : Type 0} (p : X → Bool) (xs : List X) → list_all p xs ≡ true → (x : X) → Contains xs x → p x ≡ true
-all_contained p [] all x (k, within, is) = absurd (omega arith)
-all_contained p (y ∷ ys) all x (zero, within, is) = subst (λ z. p z ≡ true) is (and_parts (p y) (list_all p ys) all).0
-all_contained p (y ∷ ys) all x (suc k, within, is) = all_contained p ys (and_parts (p y) (list_all p ys) all).1 x (k, omega arith, is)
-
-pub all_by : {X : Type 0} (p : X → Bool) (xs : List X) → ((x : X) → Contains xs x → p x ≡ true) → list_all p xs ≡ true
-all_by p [] each = refl
-all_by p (y ∷ ys) each = and_from (p y) (list_all p ys) (each y (contains-here y ys)) (all_by p ys (λ x there. each x (contains-there x y ys there)))
-
-pub true_of_all : (truth : ℕ → Bool) (clauses : List (List Literal)) → All (Any (IsTrueUnder truth)) clauses → all_true truth clauses ≡ true
-true_of_all truth clauses all = all_by (clause_true truth) clauses (λ clause there. clause_of_any truth clause (All-contains (Any (IsTrueUnder truth)) clauses clause all there))
-
-pub all_of_true : (truth : ℕ → Bool) (clauses : List (List Literal)) → all_true truth clauses ≡ true → All (Any (IsTrueUnder truth)) clauses
-all_of_true truth clauses holds = All-from_recursion (Any (IsTrueUnder truth)) clauses (each clauses holds) where
-  each : (cs : List (List Literal)) → all_true truth cs ≡ true → AllByRecursion (Any (IsTrueUnder truth)) cs
-  each [] e = tt
-  each (c ∷ cs) e = let both = and_parts (clause_true truth c) (all_true truth cs) e in (any_of_clause truth c both.0, each cs both.1)
+use Rattle.cfd_implication.proofs.Heard.{hears, hears_asked}
+use Rattle.cfd_implication.proofs.TwoTuples.{RowHolds, row_from_clauses, clauses_from_row, satisfies_from}
 
 -- ---- the three clauses of a constant
 
@@ -90,22 +69,7 @@ three_agree false true true holds a b = holds
 three_agree false false q holds a b = absurd cc
 three_agree false true false holds a b = absurd cc
 
--- ---- values
-
-pub of_values : (c : CellValues) → AreValues c → IsOfValues c
-of_values c good = record {
-  values = good;
-  distinct = λ i j d less within same.
-      let bound = length-take-le c.constants c.values good.bound in
-      let most = good.bound in
-      good.distinct i j d less (omega arith) (sym (get_or-take c.constants c.values i d (omega arith)) ∙ same ∙ get_or-take c.constants c.values j d (omega arith));
-  single = good.few;
-  other_demanded = λ more. elim (cases_Bool c.demanded) [
-    | inl wanted ↦ wanted
-    | inr free ↦ (let low = good.all_constants free in absurd (omega arith))
-  ];
-  some_demanded = good.some;
-}
+-- ---- over the attributes of a table
 
 module _ (attrs : List Attr) (valid : AllByRecursion IsValidAttr attrs) (rules : List Rule) (asked : Rule) where
   abbrev pub every : List Rule
@@ -115,20 +79,9 @@ module _ (attrs : List Attr) (valid : AllByRecursion IsValidAttr attrs) (rules :
   cells = occurring attrs (rules ++ asked ∷ [])
 
   abbrev pub question_of : ClauseSet
-  question_of = record { cells = var_cells 0 cells; clauses = clauses_of cells rules asked }
+  question_of = record { cells = var_cells Two 0 cells; clauses = clauses_of cells rules asked }
 
-  pub good_at : (c : CellValues) → Contains cells c → IsOfValues c
-  good_at c there =
-      let from = occurring_from attrs every c there in
-      subst IsOfValues from.is (of_values (cell_values every from.attr (domain_at attrs from.attr)) (values_good every from.attr (domain_at attrs from.attr) (valid_domain_at attrs from.attr valid)))
-
-  pub covered_at : (tuple : List (List ℕ)) → IsTupleOf attrs tuple → (c : CellValues) → Contains cells c → IsCovered c (text_of tuple c.attr)
-  covered_at tuple is c there =
-      let from = occurring_from attrs every c there in
-      subst (λ (x : CellValues). IsCovered x (text_of tuple x.attr)) from.is
-      (covered_if_admitted every from.attr (domain_at attrs from.attr) (text_of tuple from.attr) (valid_domain_at attrs from.attr valid) (admitted_at attrs tuple from.attr is from.within))
-
-  module _ (truth : ℕ → Bool) (one other : List (List ℕ)) (one_tuple : IsTupleOf attrs one) (other_tuple : IsTupleOf attrs other) (tells : Placed (Tells one other truth) 0 cells)
+  module _ (truth : ℕ → Bool) (one other : List (List ℕ)) (one_tuple : IsTupleOf attrs one) (other_tuple : IsTupleOf attrs other) (tells : Placed Two (Tells one other Two truth) 0 cells)
       (each_rule : (rule : Rule) → Contains every rule → IsRuleOf attrs rule) where
     in_every : (rule : Rule) → Contains rules rule → Contains every rule
     in_every rule there = Contains-append_left rules (asked ∷ []) rule there
@@ -173,19 +126,15 @@ module _ (attrs : List Attr) (valid : AllByRecursion IsValidAttr attrs) (rules :
         let size = length-range_with_len 0 c.constants in
         let (k, k_in, k_is) = ranged in
         let at : 0 + k ≡ place = sym (get_or-range_with_len 0 c.constants k place (omega arith)) ∙ k_is in
-        let good = good_at c there in
-        let bound = good.values.bound in
+        let good = good_at attrs valid every c there in
+        let bound = good.bound in
         let low : place < c.constants = omega arith in
         let within : place < length c.values = omega arith in
-        let told_here = placed_at (Tells one other truth) 0 0 cells c (rises attrs every) tells there in
         let t = text_of one c.attr in
         let u = text_of other c.attr in
-        let e_at : 0 + equal_var cells c.attr ≡ equal_var cells c.attr = omega arith in
-        let p_at : 0 + equal_var cells c.attr + 1 + place ≡ value_var First cells c.attr + place = omega arith in
-        let q_at : 0 + equal_var cells c.attr + 1 + length c.values + place ≡ value_var Second cells c.attr + place = omega (arith, second_at 0 cells c (rises attrs every) there) in
-        let e_is : truth (equal_var cells c.attr) ≡ bytes_eq t u = ap truth (sym e_at) ∙ told_here.0 in
-        let p_is : truth (value_var First cells c.attr + place) ≡ counts_as c t place = ap truth (sym p_at) ∙ told_here.1 place within in
-        let q_is : truth (value_var Second cells c.attr + place) ≡ counts_as c u place = ap truth (sym q_at) ∙ told_here.2 place within in
+        let e_is = equal_told one other Two truth 0 cells (rises attrs every) tells c there tt in
+        let p_is = agrees_told one other Two truth 0 cells (rises attrs every) tells c there First tt place within in
+        let q_is = agrees_told one other Two truth 0 cells (rises attrs every) tells c there Second tt place within in
         three_true (truth (equal_var cells c.attr)) (truth (value_var First cells c.attr + place)) (truth (value_var Second cells c.attr + place))
         (λ e p. q_is ∙ same_counts c t u place (sym e_is ∙ e) (sym p_is ∙ p))
         (λ e q. p_is ∙ same_counts c u t place (text_same u t (sym (same_text t u (sym e_is ∙ e)))) (sym q_is ∙ q))

@@ -1,18 +1,19 @@
 -- Two tuples from an allowed assignment, and no counterexample where there is none.
-use Rattle.std.proofs.Common.{◌≡◌, ◌≢◌, ◌⊎◌, ℕ, suc, ◌+◌, ◌<◌, Bool, true, false, ◌&&◌, List, [], ◌∷◌, ◌++◌, length, Option, Some, refl, sym, ap, ◌∙◌, subst, inl, inr, arith}
-use Rattle.std.specs.Prelude.{Contains, filter, nat_eq}
-use Rattle.std.specs.List.{flat_map, All, AllByRecursion}
+use Rattle.std.proofs.Common.{◌≡◌, ◌⊎◌, ℕ, ◌+◌, ◌<◌, Bool, true, ◌&&◌, List, [], ◌∷◌, ◌++◌, length, refl, sym, ap, ◌∙◌, subst, inl, inr, arith}
+use Rattle.std.specs.Prelude.{Contains}
+use Rattle.std.specs.List.{flat_map, All, AllByRecursion, range_with_len}
 use Rattle.std.specs.Str.{bytes_eq}
-use Rattle.std.proofs.lemmas.Bool.{cases_Bool, false≢true, and_parts, and_from, eq-eqb, eqb-true}
-use Rattle.std.proofs.lemmas.List.Elements.{All-contains, recursion_from_All, Contains-append_left, Contains-append_right, Contains-append_cases}
+use Rattle.std.proofs.lemmas.Bool.{cases_Bool, false≢true, and_parts, and_from}
+use Rattle.std.proofs.lemmas.List.Elements.{All-contains, Contains-append_left, Contains-append_right, Contains-append_cases}
 use Rattle.std.proofs.lemmas.List.Folds.{list_all-append}
-use Rattle.cfd_semantics.proofs.Members.{contains-here, contains-there, contains_cases, contains_nothing, contains-map, contains_from_map}
-use Rattle.cfd_semantics.proofs.SetFacts.{contains-filter, contains_from_filter}
+use Rattle.std.proofs.lemmas.List.FromFn.{length-range_with_len, get_or-range_with_len}
+use Rattle.cfd_semantics.proofs.Members.{contains-here, contains-there, contains_cases, contains_nothing}
 use Rattle.cfd_semantics.specs.declared.dependency.TableauRow.{TableauRow}
 use Rattle.cfd_semantics.specs.Pattern.{matches, all_match}
 use Rattle.cfd_semantics.specs.Tuple.{same_values}
-use Rattle.cfd_semantics.specs.Violation.{Sides, sides_of}
+use Rattle.cfd_semantics.specs.Violation.{Sides}
 use Rattle.cfd_semantics.specs.Satisfaction.{Satisfies}
+use Rattle.case_tree.specs.declared.clauses.Literal.{Literal}
 use Rattle.case_tree.specs.CaseTree.{IsAllowed, HasNoneAllowed}
 use Rattle.schema_core.specs.Lookups.{attrs_at}
 use Rattle.schema_core.specs.Schemas.{IsValidAttr}
@@ -21,38 +22,32 @@ use Rattle.schema_core.specs.declared.schema.Schema.{Schema}
 use Rattle.rule_model.specs.declared.dep.Dep.{Dep}
 use Rattle.rule_model.specs.Rules.{IsValidDep}
 use Rattle.rule_model.specs.Satisfied.{SatisfyDep}
-use Rattle.cell_values.specs.Assigned.{HasAllowed}
+use Rattle.cell_values.specs.declared.side.Side.{Side}
+use Rattle.cell_values.specs.declared.side.Side.TheVariants.{Only, First, Second}
+use Rattle.cell_values.specs.declared.side.TupleCount.TheVariants.{Two}
 use Rattle.cell_values.specs.declared.values.CellValues.{CellValues}
-use Rattle.cell_values.specs.TableRules.{Rule, rule_of, table_rules}
+use Rattle.cell_values.specs.Layout.{equal_var, value_var}
+use Rattle.cell_values.specs.Readings.{constant_of, HasAllowed, tuple_of}
+use Rattle.cell_values.specs.Standing.{Agrees}
+use Rattle.cell_values.specs.TableRules.{Rule, table_rules}
 use Rattle.cell_values.specs.Tuples.{IsTupleOf}
 use Rattle.cell_values.specs.Values.{occurring}
-use Rattle.cell_values.proofs.Meaning.{is_constant}
-use Rattle.cfd_implication.specs.declared.side.Side.TheVariants.{First, Second}
+use Rattle.cell_values.proofs.Allowed.{has_one, has_some, Stands}
+use Rattle.cell_values.proofs.Chosen.{Matched, equal_texts}
+use Rattle.cell_values.proofs.Meaning.{is_constant, IsCovered}
+use Rattle.cell_values.proofs.Occurs.{rises}
+use Rattle.cell_values.proofs.OneTuple.{IsRuleOf}
+use Rattle.cell_values.proofs.Order.{ArePair, IsSideOf, Placed}
+use Rattle.cell_values.proofs.Satisfied.{has_sides, list_same, same_list, same_text, sides_are, sides_in, text_same}
+use Rattle.cell_values.proofs.Tables.{from_table, rule_of_dep}
+use Rattle.cell_values.proofs.Texts.{agrees_read, chosen_is, covered_at, good_at, is_tuple, one_at, texts_fit}
+use Rattle.cell_values.proofs.Told.{Tells, tells_by, told, truth_of, tuple_at}
+use Rattle.cell_values.proofs.Truths.{all_by, all_contained, all_flat, all_of_true, all_true, clause_true, left_of, text_of, true_of_all}
 use Rattle.cfd_implication.specs.Implied.{IsImplied, SatisfyTable}
-use Rattle.cfd_implication.specs.Question.{equal_var, value_var, agreeing_at, constant_clauses, rule_clauses, asked_clauses, question}
-use Rattle.cfd_implication.proofs.Truths.{clause_true, all_true, all_flat, text_of, left_of}
-use Rattle.cfd_implication.proofs.TwoTuples.{sides_in, sides_there, sides_are, satisfies_to, same_list, list_same, same_text, text_same}
+use Rattle.cfd_implication.specs.Question.{agreeing_at, constant_clauses, rule_clauses, asked_clauses, clauses_of, question}
 use Rattle.cfd_implication.proofs.Asked.{Breaks}
-use Rattle.cfd_implication.proofs.Order.{Placed, placed_at, placed_by, second_at}
-use Rattle.cfd_implication.proofs.Told.{Tells, truth_of, told}
-use Rattle.cfd_implication.proofs.Allowed.{HasOne, HasSome, equal_cell, whole_cell, Stands, has_one, has_some, var_cells_at}
-use Rattle.cfd_implication.proofs.Chosen.{IsChosen, Matched, AreTexts, text_agrees, equal_texts}
-use Rattle.cfd_implication.proofs.Occurs.{rises}
-use Rattle.cfd_implication.proofs.Heard.{IsRuleOf}
-use Rattle.cfd_implication.proofs.Main.{all_contained, all_by, true_of_all, all_of_true, three_there, three_back, three_agree, question_of, good_at, covered_at, satisfied, clauses_hold, asked_holds, agreeing_hold, breaks_if_no_match, breaks_if_differ, keeps_if_both}
-use Rattle.std.specs.List.{range_with_len}
-use Rattle.std.proofs.lemmas.List.FromFn.{length-range_with_len, get_or-range_with_len}
-
--- a tuple has a text for each attribute
-pub length_of : (attrs : List Attr) (tuple : List (List ℕ)) → IsTupleOf attrs tuple → length tuple ≡ length attrs
-length_of [] [] is = refl
-length_of [] (t ∷ ts) is = absurd is
-length_of (a ∷ attrs) [] is = absurd is
-length_of (a ∷ attrs) (t ∷ ts) is = ap suc (length_of attrs ts is.1)
-
-within_all : (n m : ℕ) (xs : List ℕ) → n ≡ m → AllByRecursion (λ x. x < n) xs → AllByRecursion (λ x. x < m) xs
-within_all n m [] same all = tt
-within_all n m (x ∷ xs) same all = (let low = all.0 in omega arith, within_all n m xs same all.1)
+use Rattle.cfd_implication.proofs.Main.{three_there, three_back, three_agree, question_of, satisfied, clauses_hold, asked_holds, agreeing_hold, breaks_if_no_match, breaks_if_differ, keeps_if_both}
+use Rattle.cfd_implication.proofs.TwoTuples.{satisfies_to}
 
 ranged : (n place : ℕ) → place < n → Contains (range_with_len 0 n) place
 ranged n place low = let size = length-range_with_len 0 n in (place, omega arith, get_or-range_with_len 0 n place place low ∙ omega arith)
@@ -75,13 +70,6 @@ module _ (attrs : List Attr) (valid : AllByRecursion IsValidAttr attrs) (rules :
   abbrev cells : List CellValues
   cells = occurring attrs (rules ++ asked ∷ [])
 
-  has_sides : (rule : Rule) (tuple : List (List ℕ)) → Contains (rules ++ asked ∷ []) rule → IsTupleOf attrs tuple → sides_of rule tuple ≡ Some (sides_in rule tuple)
-  has_sides rule tuple there is =
-      let valid_rule = each_rule rule there in
-      let size = length_of attrs tuple is in
-      let right = valid_rule.a in
-      sides_there rule tuple (within_all (length attrs) (length tuple) rule.x (sym size) (recursion_from_All (λ (a : ℕ). a < length attrs) rule.x valid_rule.x)) (omega arith)
-
   asked_in : Contains (rules ++ asked ∷ []) asked
   asked_in = Contains-append_right rules (asked ∷ []) asked (contains-here asked [])
 
@@ -96,6 +84,11 @@ module _ (attrs : List Attr) (valid : AllByRecursion IsValidAttr attrs) (rules :
   ]
   only_row (r ∷ s ∷ rows) row other one there other_there = absurd (omega arith)
 
+  covered_side : (one other : List (List ℕ)) → IsTupleOf attrs one → IsTupleOf attrs other → (c : CellValues) → Contains cells c → (side : Side) → IsSideOf Two side → IsCovered c (text_of (tuple_at one other side) c.attr)
+  covered_side one other one_tuple other_tuple c there Only is = absurd is
+  covered_side one other one_tuple other_tuple c there First is = covered_at attrs valid (rules ++ asked ∷ []) one one_tuple c there
+  covered_side one other one_tuple other_tuple c there Second is = covered_at attrs valid (rules ++ asked ∷ []) other other_tuple c there
+
   -- ---- from tuples
 
   module _ (tuples : List (List (List ℕ))) (are : All (IsTupleOf attrs) tuples) (satisfy : (rule : Rule) → Contains rules rule → Satisfies bytes_eq rule tuples) where
@@ -105,15 +98,15 @@ module _ (attrs : List Attr) (valid : AllByRecursion IsValidAttr attrs) (rules :
     allowed one other row one_there other_there row_there same match broken =
         let one_tuple = All-contains (IsTupleOf attrs) tuples one are one_there in
         let other_tuple = All-contains (IsTupleOf attrs) tuples other are other_there in
-        let truth = truth_of one other cells in
-        let tells = told one other cells in
-        let stands = placed_by (Stands one other) 0 0 cells (rises attrs (rules ++ asked ∷ [])) (λ c there. (good_at attrs valid rules asked c there, covered_at attrs valid rules asked one one_tuple c there, covered_at attrs valid rules asked other other_tuple c there)) in
+        let truth = truth_of one other Two cells in
+        let tells = told one other Two cells in
+        let stands : (c : CellValues) → Contains cells c → Stands Two one other c = λ c there. (good_at attrs valid (rules ++ asked ∷ []) c there, covered_side one other one_tuple other_tuple c there) in
         let a = flat_map (agreeing_at cells) cells in
         let b = flat_map (rule_clauses cells) rules in
         let c = flat_map (asked_clauses cells asked) asked.rows in
         let a_holds : all_true truth a ≡ true = agreeing_hold attrs valid rules asked truth one other one_tuple other_tuple tells each_rule (λ d t u place there low t_counts u_counts. sym (is_constant d t place low t_counts) ∙ is_constant d u place low u_counts) in
         let b_holds : all_true truth b ≡ true = clauses_hold attrs valid rules asked truth one other one_tuple other_tuple tells each_rule (λ rule there r r_there.
-        satisfies_to rule tuples one other r (satisfy rule there) one_there other_there (has_sides rule one (Contains-append_left rules (asked ∷ []) rule there) one_tuple) (has_sides rule other (Contains-append_left rules (asked ∷ []) rule there) other_tuple) r_there) in
+        satisfies_to rule tuples one other r (satisfy rule there) one_there other_there (has_sides attrs rule one (each_rule rule (Contains-append_left rules (asked ∷ []) rule there)) one_tuple) (has_sides attrs rule other (each_rule rule (Contains-append_left rules (asked ∷ []) rule there)) other_tuple) r_there) in
         let c_holds : all_true truth c ≡ true =
         all_flat (clause_true truth) (asked_clauses cells asked) asked.rows
         ∙ all_by (λ r. all_true truth (asked_clauses cells asked r)) asked.rows (λ r r_there.
@@ -123,8 +116,8 @@ module _ (attrs : List Attr) (valid : AllByRecursion IsValidAttr attrs) (rules :
         (and_from (same_values bytes_eq (left_of one asked.x) (left_of other asked.x)) (all_match bytes_eq row.x (left_of one asked.x)) (list_same (left_of one asked.x) (left_of other asked.x) same) match) broken)) in (
           truth,
           record {
-            at_most_one = has_one truth one other 0 cells stands tells;
-            one_demanded = has_some truth one other 0 cells stands tells;
+            at_most_one = has_one Two truth one other 0 cells (rises attrs (rules ++ asked ∷ [])) stands tells;
+            one_demanded = has_some Two truth one other 0 cells (rises attrs (rules ++ asked ∷ [])) stands tells;
             clauses_true = all_of_true truth ((a ++ b) ++ c) (list_all-append (clause_true truth) (a ++ b) c ∙ and_from (all_true truth (a ++ b)) (all_true truth c) (list_all-append (clause_true truth) a b ∙ and_from (all_true truth a) (all_true truth b) a_holds b_holds) c_holds);
           },
         )
@@ -190,16 +183,22 @@ module _ (attrs : List Attr) (valid : AllByRecursion IsValidAttr attrs) (rules :
 
   -- ---- to tuples
 
-  -- the texts of both tuples at an attribute are those for the true variables
-  pub record Fits (truth : ℕ → Bool) (one other : List (List ℕ)) (c : CellValues) : Type 0 where
-    pub first : Option ℕ
-    pub second : Option ℕ
-    pub first_chosen : IsChosen truth (value_var First cells c.attr) c first
-    pub second_chosen : IsChosen truth (value_var Second cells c.attr) c second
-    pub texts : AreTexts truth (equal_var cells c.attr) c first second (text_of one c.attr) (text_of other c.attr)
+  module _ (truth : ℕ → Bool) (allowed : IsAllowed (question_of attrs valid rules asked) truth) where
+    abbrev one : List (List ℕ)
+    one = tuple_of First attrs (occurring attrs (rules ++ asked ∷ [])) truth
 
-  module _ (truth : ℕ → Bool) (allowed : IsAllowed (question_of attrs valid rules asked) truth) (one other : List (List ℕ)) (one_tuple : IsTupleOf attrs one) (other_tuple : IsTupleOf attrs other)
-      (fits : (c : CellValues) → Contains cells c → Fits truth one other c) where
+    abbrev other : List (List ℕ)
+    other = tuple_of Second attrs (occurring attrs (rules ++ asked ∷ [])) truth
+
+    abbrev all_clauses : List (List Literal)
+    all_clauses = clauses_of (occurring attrs (rules ++ asked ∷ [])) rules asked
+
+    pub one_tuple : IsTupleOf attrs one
+    one_tuple = is_tuple attrs valid (rules ++ asked ∷ []) truth Two all_clauses allowed First tt
+
+    pub other_tuple : IsTupleOf attrs other
+    other_tuple = is_tuple attrs valid (rules ++ asked ∷ []) truth Two all_clauses allowed Second tt
+
     parts : (all_true truth (flat_map (agreeing_at cells) cells) ≡ true) × (all_true truth (flat_map (rule_clauses cells) rules) ≡ true) × (all_true truth (flat_map (asked_clauses cells asked) asked.rows) ≡ true)
     parts =
         let a = flat_map (agreeing_at cells) cells in
@@ -221,36 +220,20 @@ module _ (attrs : List Attr) (valid : AllByRecursion IsValidAttr attrs) (rules :
           agree = λ place low. three_agree (truth (equal_var cells c.attr)) (truth (value_var First cells c.attr + place)) (truth (value_var Second cells c.attr + place)) (at_place place low);
         }
 
-    one_where_some : (first : ℕ) (c : CellValues) → (0 < length c.values → HasOne truth (whole_cell first c)) → HasOne truth (whole_cell first c)
-    one_where_some first c if_some v w v_in w_in v_true w_true =
-        let from = v_in.0 in
-        let to = v_in.1 in
-        if_some (omega arith) v w v_in w_in v_true w_true
+    equal_said : (c : CellValues) → Contains cells c → ArePair Two → truth (equal_var cells c.attr) ≡ bytes_eq (text_of one c.attr) (text_of other c.attr)
+    equal_said c there pair =
+        let first = value_var First cells c.attr in
+        let second = value_var Second cells c.attr in
+        equal_texts truth c (good_at attrs valid (rules ++ asked ∷ []) c there) (equal_var cells c.attr) first second (constant_of truth first c) (constant_of truth second c) (text_of one c.attr) (text_of other c.attr) (matched c there)
+        (one_at attrs valid (rules ++ asked ∷ []) truth Two all_clauses allowed Second tt c there) (chosen_is truth first c) (chosen_is truth second c) (texts_fit attrs valid (rules ++ asked ∷ []) truth c there)
 
-    tells_at : (c : CellValues) → Contains cells c → Tells one other truth (0 + equal_var cells c.attr) c
-    tells_at c there =
-        let good = good_at attrs valid rules asked c there in
-        let fit = fits c there in
-        let ones = placed_at (λ e d. HasOne truth (equal_cell e) × (0 < length d.values → HasOne truth (whole_cell (e + 1) d)) × (0 < length d.values → HasOne truth (whole_cell (e + 1 + length d.values) d))) 0 0 cells c (rises attrs (rules ++ asked ∷ [])) (var_cells_at (HasOne truth) 0 cells allowed.at_most_one) there in
-        let somes = placed_at (λ e d. HasSome truth (equal_cell e) × (0 < length d.values → HasSome truth (whole_cell (e + 1) d)) × (0 < length d.values → HasSome truth (whole_cell (e + 1 + length d.values) d))) 0 0 cells c (rises attrs (rules ++ asked ∷ [])) (var_cells_at (HasSome truth) 0 cells allowed.one_demanded) there in
-        let e_is : equal_var cells c.attr ≡ 0 + equal_var cells c.attr = omega arith in
-        let p_is : value_var First cells c.attr ≡ 0 + equal_var cells c.attr + 1 = omega arith in
-        let q_is : value_var Second cells c.attr ≡ 0 + equal_var cells c.attr + 1 + length c.values = omega (arith, second_at 0 cells c (rises attrs (rules ++ asked ∷ [])) there) in
-        let one_first = one_where_some (0 + equal_var cells c.attr + 1) c ones.1 in
-        let one_second = one_where_some (0 + equal_var cells c.attr + 1 + length c.values) c ones.2 in
-        let some_first : HasSome truth (whole_cell (0 + equal_var cells c.attr + 1) c) = λ demanded. somes.1 (good.some_demanded demanded) demanded in
-        let some_second : HasSome truth (whole_cell (0 + equal_var cells c.attr + 1 + length c.values) c) = λ demanded. somes.2 (good.some_demanded demanded) demanded in
-        let first_chosen = subst (λ n. IsChosen truth n c fit.first) p_is fit.first_chosen in
-        let second_chosen = subst (λ n. IsChosen truth n c fit.second) q_is fit.second_chosen in (
-          ap truth (sym e_is)
-              ∙ equal_texts truth c good (equal_var cells c.attr) (value_var First cells c.attr) (value_var Second cells c.attr) fit.first fit.second (text_of one c.attr) (text_of other c.attr) (matched c there)
-              (subst (λ n. HasOne truth (whole_cell n c)) (sym q_is) one_second) fit.first_chosen fit.second_chosen fit.texts,
-          text_agrees truth c good (0 + equal_var cells c.attr + 1) fit.first (text_of one c.attr) one_first some_first first_chosen fit.texts.one_is,
-          text_agrees truth c good (0 + equal_var cells c.attr + 1 + length c.values) fit.second (text_of other c.attr) one_second some_second second_chosen fit.texts.other_is,
-        )
+    agrees_side : (c : CellValues) → Contains cells c → (side : Side) → IsSideOf Two side → Agrees truth (value_var side cells c.attr) c (text_of (tuple_at one other side) c.attr)
+    agrees_side c there Only is = absurd is
+    agrees_side c there First is = agrees_read attrs valid (rules ++ asked ∷ []) truth Two all_clauses allowed First tt c there
+    agrees_side c there Second is = agrees_read attrs valid (rules ++ asked ∷ []) truth Two all_clauses allowed Second tt c there
 
-    tells : Placed (Tells one other truth) 0 cells
-    tells = placed_by (Tells one other truth) 0 0 cells (rises attrs (rules ++ asked ∷ [])) tells_at
+    tells : Placed Two (Tells one other Two truth) 0 cells
+    tells = tells_by one other Two truth 0 cells (rises attrs (rules ++ asked ∷ [])) equal_said agrees_side
 
     pub both_satisfy : (rule : Rule) → Contains rules rule → Satisfies bytes_eq rule (one ∷ other ∷ [])
     both_satisfy = satisfied attrs valid rules asked truth one other one_tuple other_tuple tells each_rule parts.1
@@ -261,7 +244,7 @@ module _ (attrs : List Attr) (valid : AllByRecursion IsValidAttr attrs) (rules :
         let said = sym (asked_holds attrs valid rules asked truth one other one_tuple other_tuple tells each_rule row row_there) ∙ holds in
         let outer = and_parts (same_values bytes_eq (left_of one asked.x) (left_of other asked.x) && all_match bytes_eq row.x (left_of one asked.x)) (Breaks one other asked.a row.a) said in
         let inner = and_parts (same_values bytes_eq (left_of one asked.x) (left_of other asked.x)) (all_match bytes_eq row.x (left_of one asked.x)) outer.0 in
-        let given = satisfies row one other (sides_in asked one) (sides_in asked other) row_there (contains-here one (other ∷ [])) (contains-there other one (other ∷ []) (contains-here other [])) (has_sides asked one asked_in one_tuple) (has_sides asked other asked_in other_tuple) inner.0 inner.1 in
+        let given = satisfies row one other (sides_in asked one) (sides_in asked other) row_there (contains-here one (other ∷ [])) (contains-there other one (other ∷ []) (contains-here other [])) (has_sides attrs asked one (each_rule asked asked_in) one_tuple) (has_sides attrs asked other (each_rule asked asked_in) other_tuple) inner.0 inner.1 in
         false≢true (sym (keeps_if_both one other asked.a row.a given.0 given.1) ∙ outer.1)
 
     some_row : (rows : List (TableauRow (List ℕ))) → length rows ≡ 1 → (row : TableauRow (List ℕ)) × Contains rows row
@@ -272,26 +255,6 @@ module _ (attrs : List Attr) (valid : AllByRecursion IsValidAttr attrs) (rules :
     both_break = breaks_row (some_row asked.rows one_row).0 (some_row asked.rows one_row).1
 
 -- ---- over a schema
-
-rule_of_dep : (schema : Schema) (table : ℕ) (dep : Dep) → dep.table ≡ table → IsValidDep schema dep → IsRuleOf (attrs_at schema table) dep.rule
-rule_of_dep schema table dep same valid =
-    subst (λ n. IsRuleOf (attrs_at schema n) dep.rule) same (record { x = valid.x; a = valid.a; rows = valid.rows })
-
-pub record FromTable (table : ℕ) (deps : List Dep) (rule : Rule) : Type 0 where
-  pub dep : Dep
-  pub there : Contains deps dep
-  pub of_table : dep.table ≡ table
-  pub is : rule_of dep ≡ rule
-
-pub from_table : (table : ℕ) (deps : List Dep) (rule : Rule) → Contains (table_rules table deps) rule → FromTable table deps rule
-from_table table deps rule there =
-    let (dep, found, is) = contains_from_map rule_of (filter (λ (d : Dep). nat_eq d.table table) deps) rule there in
-    let (listed, passes) = contains_from_filter (λ (d : Dep). nat_eq d.table table) deps dep found in
-    record { dep = dep; there = listed; of_table = eqb-true dep.table table passes; is = is }
-
-pub in_table : (table : ℕ) (deps : List Dep) (dep : Dep) → Contains deps dep → dep.table ≡ table → Contains (table_rules table deps) dep.rule
-in_table table deps dep there same =
-    contains-map rule_of (filter (λ (d : Dep). nat_eq d.table table) deps) dep (contains-filter (λ (d : Dep). nat_eq d.table table) deps dep there (eq-eqb dep.table table same))
 
 pub each_valid : (schema : Schema) (deps : List Dep) (dep : Dep) → All (IsValidDep schema) deps → IsValidDep schema dep → (rule : Rule) → Contains (table_rules dep.table deps ++ dep.rule ∷ []) rule → IsRuleOf (attrs_at schema dep.table) rule
 each_valid schema deps dep valid dep_valid rule there = elim (Contains-append_cases (table_rules dep.table deps) (dep.rule ∷ []) rule there) [

@@ -1,35 +1,29 @@
 -- What the clauses of the rows of a dependency say of two tuples, and when two tuples satisfy it.
-use Rattle.std.proofs.Common.{◌≡◌, ◌⊎◌, ℕ, ◌<◌, Bool, true, false, List, [], ◌∷◌, length, Option, Some, None, refl, sym, ap, ◌∙◌, subst, inl, inr}
-use Rattle.std.specs.Prelude.{not, ◌&&◌, ◌||◌, zip, Contains, slice_get}
+use Rattle.std.proofs.Common.{◌≡◌, ◌⊎◌, ℕ, Bool, true, false, List, [], ◌∷◌, ◌++◌, length, Some, refl, sym, ap, ◌∙◌, subst, inl, inr}
+use Rattle.std.specs.Prelude.{not, ◌&&◌, ◌||◌, zip, Contains}
 use Rattle.std.specs.List.{AllByRecursion}
 use Rattle.std.specs.Str.{bytes_eq}
 use Rattle.std.proofs.lemmas.Bool.{and_parts}
-use Rattle.std.proofs.lemmas.Option.{none-some, get_or_from_slice_get, slice_get-get_or}
-use Rattle.std.proofs.lemmas.Slice.Eq.{bytes_eq-Decides}
+use Rattle.std.proofs.lemmas.List.Folds.{list_any-append}
 use Rattle.cfd_semantics.specs.declared.pattern.Pattern.{Pattern}
 use Rattle.cfd_semantics.specs.declared.pattern.Pattern.TheVariants.{Any, Is, In, NotIn}
 use Rattle.cfd_semantics.specs.declared.dependency.TableauRow.{TableauRow}
 use Rattle.cfd_semantics.specs.Pattern.{matches, all_match}
-use Rattle.cfd_semantics.specs.Tuple.{same_values, values_at, with_both}
+use Rattle.cfd_semantics.specs.Tuple.{same_values}
 use Rattle.cfd_semantics.specs.Violation.{Sides, sides_of}
 use Rattle.cfd_semantics.specs.Satisfaction.{Satisfies}
 use Rattle.cfd_semantics.proofs.Members.{contains_cases, contains_nothing}
+use Rattle.cell_values.specs.declared.side.Side.TheVariants.{First, Second}
 use Rattle.cell_values.specs.declared.values.CellValues.{CellValues}
+use Rattle.cell_values.specs.Layout.{equal_var}
+use Rattle.cell_values.specs.RowClauses.{alone, misses_left, yes}
 use Rattle.cell_values.specs.TableRules.{Rule}
-use Rattle.cfd_implication.specs.declared.side.Side.{Side}
-use Rattle.cfd_implication.specs.declared.side.Side.TheVariants.{First, Second}
-use Rattle.cfd_implication.specs.Question.{alone, together, clauses_for}
-use Rattle.cfd_implication.proofs.Truths.{clause_true, all_true, text_of, left_of, Misses, Meets, Equates, alone_is, together_is}
+use Rattle.cell_values.proofs.OneTuple.{MeetsCell}
+use Rattle.cell_values.proofs.Satisfied.{Holds, holds_if_satisfied, implied, implies, list_same, same_list, same_text, sides_are, sides_in, text_same}
+use Rattle.cell_values.proofs.Truths.{alone_is, all_true, clause_true, left_of, lit_true, Meets, Misses, misses_left_is, not_and, or_false, text_of}
+use Rattle.cfd_implication.specs.Question.{clauses_for, differ_on, together}
 
 -- ---- tests
-
-pub implied : (a b : Bool) → (not a || b) ≡ true → a ≡ true → b ≡ true
-implied true b e holds = e
-implied false b e holds = absurd cc
-
-pub implies : (a b : Bool) → (a ≡ true → b ≡ true) → (not a || b) ≡ true
-implies true b f = f refl
-implies false b f = refl
 
 pub implied_twice : (a b c : Bool) → ((not a || not b) || c) ≡ true → a ≡ true → b ≡ true → c ≡ true
 implied_twice true true c e first second = e
@@ -41,41 +35,40 @@ implies_twice true true c f = f refl refl
 implies_twice true false c f = refl
 implies_twice false b c f = refl
 
-pub same_text : (v w : List ℕ) → bytes_eq v w ≡ true → v ≡ w
-same_text v w e = (bytes_eq-Decides v w).0 e
+-- ---- clauses that speak of both
 
-pub text_same : (v w : List ℕ) → v ≡ w → bytes_eq v w ≡ true
-text_same v w e = (bytes_eq-Decides v w).1 e
+module _ (truth : ℕ → Bool) (cells : List CellValues) where
+  -- the variable of an attribute says whether the tuples agree on it
+  abbrev pub Equates : List (List ℕ) → List (List ℕ) → ℕ → Type 0
+  Equates one other attr = truth (equal_var cells attr) ≡ bytes_eq (text_of one attr) (text_of other attr)
 
-pub same_list : (xs ys : List (List ℕ)) → same_values bytes_eq xs ys ≡ true → xs ≡ ys
-same_list [] [] e = refl
-same_list [] (y ∷ ys) e = absurd cc
-same_list (x ∷ xs) [] e = absurd cc
-same_list (x ∷ xs) (y ∷ ys) e =
-    let both = and_parts (bytes_eq x y) (same_values bytes_eq xs ys) e in
-    ap (λ z. z ∷ xs) (same_text x y both.0) ∙ ap (λ zs. y ∷ zs) (same_list xs ys both.1)
+  pub differ_is : (one other : List (List ℕ)) (xs : List ℕ) → AllByRecursion (Equates one other) xs → clause_true truth (differ_on cells xs) ≡ not (same_values bytes_eq (left_of one xs) (left_of other xs))
+  differ_is one other [] says = refl
+  differ_is one other (x ∷ xs) says =
+      ap (λ b. not b || clause_true truth (differ_on cells xs)) says.0
+      ∙ ap (λ b. not (bytes_eq (text_of one x) (text_of other x)) || b) (differ_is one other xs says.1)
+      ∙ sym (not_and (bytes_eq (text_of one x) (text_of other x)) (same_values bytes_eq (left_of one xs) (left_of other xs)))
 
-pub list_same : (xs ys : List (List ℕ)) → xs ≡ ys → same_values bytes_eq xs ys ≡ true
-list_same xs ys e = subst (λ zs. same_values bytes_eq xs zs ≡ true) e (itself xs) where
-  itself : (zs : List (List ℕ)) → same_values bytes_eq zs zs ≡ true
-  itself [] = refl
-  itself (z ∷ zs) = ap (λ b. b && same_values bytes_eq zs zs) (text_same z z refl) ∙ itself zs
+  pub together_is : (one other : List (List ℕ)) (rule : Rule) (row : TableauRow (List ℕ)) → length rule.x ≡ length row.x → AllByRecursion (Equates one other) rule.x → AllByRecursion (Misses truth cells First one) (zip rule.x row.x) → Equates one other rule.a
+      → clause_true truth (together cells rule row)
+      ≡ ((not (same_values bytes_eq (left_of one rule.x) (left_of other rule.x)) || not (all_match bytes_eq row.x (left_of one rule.x))) || bytes_eq (text_of one rule.a) (text_of other rule.a))
+  together_is one other rule row same equal left right =
+      let last = yes (equal_var cells rule.a) ∷ [] in
+      list_any-append (lit_true truth) (differ_on cells rule.x ++ misses_left cells First rule row) last
+      ∙ ap (λ b. b || (truth (equal_var cells rule.a) || false)) (list_any-append (lit_true truth) (differ_on cells rule.x) (misses_left cells First rule row)
+      ∙ ap (λ b. b || clause_true truth (misses_left cells First rule row)) (differ_is one other rule.x equal)
+      ∙ ap (λ b. not (same_values bytes_eq (left_of one rule.x) (left_of other rule.x)) || b) (misses_left_is truth cells First one rule.x row.x same left))
+      ∙ ap (λ b. (not (same_values bytes_eq (left_of one rule.x) (left_of other rule.x)) || not (all_match bytes_eq row.x (left_of one rule.x))) || b) (or_false (truth (equal_var cells rule.a)) ∙ right)
 
 -- ---- a row
 
 -- what a tableau row asks of two tuples
 pub record RowHolds (one other : List (List ℕ)) (rule : Rule) (row : TableauRow (List ℕ)) : Type 0 where
-  pub first : all_match bytes_eq row.x (left_of one rule.x) ≡ true → matches bytes_eq row.a (text_of one rule.a) ≡ true
-  pub second : all_match bytes_eq row.x (left_of other rule.x) ≡ true → matches bytes_eq row.a (text_of other rule.a) ≡ true
+  pub first : Holds one rule row
+  pub second : Holds other rule row
   pub both : left_of one rule.x ≡ left_of other rule.x → all_match bytes_eq row.x (left_of one rule.x) ≡ true → text_of one rule.a ≡ text_of other rule.a
 
 module _ (truth : ℕ → Bool) (cells : List CellValues) (one other : List (List ℕ)) where
-  abbrev pub MeetsCell : Side → List (List ℕ) → ℕ → Pattern (List ℕ) → Type 0
-  MeetsCell side tuple attr Any = Unit {0}
-  MeetsCell side tuple attr (Is constant) = Meets truth cells side tuple (attr, Is constant)
-  MeetsCell side tuple attr (In members) = Meets truth cells side tuple (attr, In members)
-  MeetsCell side tuple attr (NotIn members) = Meets truth cells side tuple (attr, NotIn members)
-
   -- the variables of the row's attributes say what the tuples are there
   pub record Hears (rule : Rule) (row : TableauRow (List ℕ)) : Type 0 where
     pub wide : length rule.x ≡ length row.x
@@ -83,8 +76,8 @@ module _ (truth : ℕ → Bool) (cells : List CellValues) (one other : List (Lis
     pub equal_right : Equates truth cells one other rule.a
     pub first : AllByRecursion (Misses truth cells First one) (zip rule.x row.x)
     pub second : AllByRecursion (Misses truth cells Second other) (zip rule.x row.x)
-    pub first_right : MeetsCell First one rule.a row.a
-    pub second_right : MeetsCell Second other rule.a row.a
+    pub first_right : MeetsCell truth cells First one rule.a row.a
+    pub second_right : MeetsCell truth cells Second other rule.a row.a
 
   first_is : (rule : Rule) (row : TableauRow (List ℕ)) → Hears rule row → Meets truth cells First one (rule.a, row.a)
       → clause_true truth (alone cells First rule row) ≡ (not (all_match bytes_eq row.x (left_of one rule.x)) || matches bytes_eq row.a (text_of one rule.a))
@@ -146,8 +139,8 @@ module _ (truth : ℕ → Bool) (cells : List CellValues) (one other : List (Lis
       let b = clause_true truth (alone cells Second rule row) in
       let parts = and_parts a (b && true) holds in
       let more = and_parts b true parts.1 in
-      let meets_first : Meets truth cells First one (rule.a, row.a) = subst (λ p. Meets truth cells First one (rule.a, p)) (sym is) (subst (MeetsCell First one rule.a) is hears.first_right) in
-      let meets_second : Meets truth cells Second other (rule.a, row.a) = subst (λ p. Meets truth cells Second other (rule.a, p)) (sym is) (subst (MeetsCell Second other rule.a) is hears.second_right) in
+      let meets_first : Meets truth cells First one (rule.a, row.a) = subst (λ p. Meets truth cells First one (rule.a, p)) (sym is) (subst (MeetsCell truth cells First one rule.a) is hears.first_right) in
+      let meets_second : Meets truth cells Second other (rule.a, row.a) = subst (λ p. Meets truth cells Second other (rule.a, p)) (sym is) (subst (MeetsCell truth cells Second other rule.a) is hears.second_right) in
       let first = implied (all_match bytes_eq row.x (left_of one rule.x)) (matches bytes_eq row.a (text_of one rule.a)) (sym (first_is rule row hears meets_first) ∙ parts.0) in
       let second = implied (all_match bytes_eq row.x (left_of other rule.x)) (matches bytes_eq row.a (text_of other rule.a)) (sym (second_is rule row hears meets_second) ∙ more.0) in
       record {
@@ -158,63 +151,28 @@ module _ (truth : ℕ → Bool) (cells : List CellValues) (one other : List (Lis
             ∙ same_text constant (text_of other rule.a) (sym (ap (λ p. matches bytes_eq p (text_of other rule.a)) is) ∙ second (sym (ap (all_match bytes_eq row.x) same) ∙ match));
       }
   row_from_clauses rule row (In members) is hears holds =
-      three_from rule row hears (subst (λ p. Meets truth cells First one (rule.a, p)) (sym is) (subst (MeetsCell First one rule.a) is hears.first_right))
-      (subst (λ p. Meets truth cells Second other (rule.a, p)) (sym is) (subst (MeetsCell Second other rule.a) is hears.second_right)) holds
+      three_from rule row hears (subst (λ p. Meets truth cells First one (rule.a, p)) (sym is) (subst (MeetsCell truth cells First one rule.a) is hears.first_right))
+      (subst (λ p. Meets truth cells Second other (rule.a, p)) (sym is) (subst (MeetsCell truth cells Second other rule.a) is hears.second_right)) holds
   row_from_clauses rule row (NotIn members) is hears holds =
-      three_from rule row hears (subst (λ p. Meets truth cells First one (rule.a, p)) (sym is) (subst (MeetsCell First one rule.a) is hears.first_right))
-      (subst (λ p. Meets truth cells Second other (rule.a, p)) (sym is) (subst (MeetsCell Second other rule.a) is hears.second_right)) holds
+      three_from rule row hears (subst (λ p. Meets truth cells First one (rule.a, p)) (sym is) (subst (MeetsCell truth cells First one rule.a) is hears.first_right))
+      (subst (λ p. Meets truth cells Second other (rule.a, p)) (sym is) (subst (MeetsCell truth cells Second other rule.a) is hears.second_right)) holds
 
   pub clauses_from_row : (rule : Rule) (row : TableauRow (List ℕ)) (p : Pattern (List ℕ)) → row.a ≡ p → Hears rule row → RowHolds one other rule row → all_true truth (clauses_for cells rule row p) ≡ true
   clauses_from_row rule row Any is hears holds = ap (λ b. b && true) (together_to rule row hears holds)
   clauses_from_row rule row (Is constant) is hears holds =
-      let meets_first : Meets truth cells First one (rule.a, row.a) = subst (λ p. Meets truth cells First one (rule.a, p)) (sym is) (subst (MeetsCell First one rule.a) is hears.first_right) in
-      let meets_second : Meets truth cells Second other (rule.a, row.a) = subst (λ p. Meets truth cells Second other (rule.a, p)) (sym is) (subst (MeetsCell Second other rule.a) is hears.second_right) in
+      let meets_first : Meets truth cells First one (rule.a, row.a) = subst (λ p. Meets truth cells First one (rule.a, p)) (sym is) (subst (MeetsCell truth cells First one rule.a) is hears.first_right) in
+      let meets_second : Meets truth cells Second other (rule.a, row.a) = subst (λ p. Meets truth cells Second other (rule.a, p)) (sym is) (subst (MeetsCell truth cells Second other rule.a) is hears.second_right) in
       let left : clause_true truth (alone cells First rule row) ≡ true = first_is rule row hears meets_first ∙ implies (all_match bytes_eq row.x (left_of one rule.x)) (matches bytes_eq row.a (text_of one rule.a)) holds.first in
       let right : clause_true truth (alone cells Second rule row) ≡ true = second_is rule row hears meets_second ∙ implies (all_match bytes_eq row.x (left_of other rule.x)) (matches bytes_eq row.a (text_of other rule.a)) holds.second in
       rw (left, right) refl
   clauses_from_row rule row (In members) is hears holds =
-      three_to rule row hears (subst (λ p. Meets truth cells First one (rule.a, p)) (sym is) (subst (MeetsCell First one rule.a) is hears.first_right))
-      (subst (λ p. Meets truth cells Second other (rule.a, p)) (sym is) (subst (MeetsCell Second other rule.a) is hears.second_right)) holds
+      three_to rule row hears (subst (λ p. Meets truth cells First one (rule.a, p)) (sym is) (subst (MeetsCell truth cells First one rule.a) is hears.first_right))
+      (subst (λ p. Meets truth cells Second other (rule.a, p)) (sym is) (subst (MeetsCell truth cells Second other rule.a) is hears.second_right)) holds
   clauses_from_row rule row (NotIn members) is hears holds =
-      three_to rule row hears (subst (λ p. Meets truth cells First one (rule.a, p)) (sym is) (subst (MeetsCell First one rule.a) is hears.first_right))
-      (subst (λ p. Meets truth cells Second other (rule.a, p)) (sym is) (subst (MeetsCell Second other rule.a) is hears.second_right)) holds
+      three_to rule row hears (subst (λ p. Meets truth cells First one (rule.a, p)) (sym is) (subst (MeetsCell truth cells First one rule.a) is hears.first_right))
+      (subst (λ p. Meets truth cells Second other (rule.a, p)) (sym is) (subst (MeetsCell truth cells Second other rule.a) is hears.second_right)) holds
 
 -- ---- satisfaction
-
-some_same : {A : Type 0} (x y : A) → ◌≡◌ {A = Option A} (Some x) (Some y) → x ≡ y
-some_same x y e = cc
-
-joined : (tuple : List (List ℕ)) (attr : ℕ) (xs : List ℕ) (vs : List (List ℕ)) (found : Option (List ℕ)) (more : Option (List (List ℕ))) → slice_get tuple attr ≡ found → ((ws : List (List ℕ)) → more ≡ Some ws → ws ≡ left_of tuple xs)
-    → with_both (λ value values. value ∷ values) found more ≡ Some vs → vs ≡ text_of tuple attr ∷ left_of tuple xs
-joined tuple attr xs vs None more is rest e = absurd (none-some _ e)
-joined tuple attr xs vs (Some v) None is rest e = absurd (none-some _ e)
-joined tuple attr xs vs (Some v) (Some ws) is rest e =
-    sym (some_same (v ∷ ws) vs e) ∙ ap (λ z. z ∷ ws) (sym (get_or_from_slice_get tuple attr v [] is)) ∙ ap (λ zs. text_of tuple attr ∷ zs) (rest ws refl)
-
-pub values_are : (tuple : List (List ℕ)) (xs : List ℕ) (vs : List (List ℕ)) → values_at tuple xs ≡ Some vs → vs ≡ left_of tuple xs
-values_are tuple [] vs e = sym (some_same [] vs e)
-values_are tuple (attr ∷ xs) vs e = joined tuple attr xs vs (slice_get tuple attr) (values_at tuple xs) refl (λ ws is. values_are tuple xs ws is) e
-
-abbrev pub sides_in : Rule → List (List ℕ) → Sides (List ℕ)
-sides_in rule tuple = record { x = left_of tuple rule.x; a = text_of tuple rule.a }
-
-sides_joined : (rule : Rule) (tuple : List (List ℕ)) (sides : Sides (List ℕ)) (found : Option (List (List ℕ))) (right : Option (List ℕ)) → ((ws : List (List ℕ)) → found ≡ Some ws → ws ≡ left_of tuple rule.x) → slice_get tuple rule.a ≡ right
-    → ◌≡◌ {A = Option (Sides (List ℕ))} (with_both (λ x a. record { x = x; a = a }) found right) (Some sides) → sides ≡ sides_in rule tuple
-sides_joined rule tuple sides None right left is e = absurd (none-some _ e)
-sides_joined rule tuple sides (Some ws) None left is e = absurd (none-some _ e)
-sides_joined rule tuple sides (Some ws) (Some a) left is e =
-    let here : Sides (List ℕ) = record { x = ws; a = a } in
-    sym (some_same here sides e) ∙ ap (λ zs. record { x = zs; a = a }) (left ws refl) ∙ ap (λ z. record { x = left_of tuple rule.x; a = z }) (sym (get_or_from_slice_get tuple rule.a a [] is))
-
-pub sides_are : (rule : Rule) (tuple : List (List ℕ)) (sides : Sides (List ℕ)) → sides_of rule tuple ≡ Some sides → sides ≡ sides_in rule tuple
-sides_are rule tuple sides e = sides_joined rule tuple sides (values_at tuple rule.x) (slice_get tuple rule.a) (λ ws is. values_are tuple rule.x ws is) refl e
-
-pub values_there : (tuple : List (List ℕ)) (xs : List ℕ) → AllByRecursion (λ attr. attr < length tuple) xs → values_at tuple xs ≡ Some (left_of tuple xs)
-values_there tuple [] within = refl
-values_there tuple (attr ∷ xs) within = rw (slice_get-get_or tuple attr [] within.0, values_there tuple xs within.1) refl
-
-pub sides_there : (rule : Rule) (tuple : List (List ℕ)) → AllByRecursion (λ attr. attr < length tuple) rule.x → rule.a < length tuple → sides_of rule tuple ≡ Some (sides_in rule tuple)
-sides_there rule tuple left right = rw (values_there tuple rule.x left, slice_get-get_or tuple rule.a [] right) refl
 
 -- what a row asks of a tuple with another, each of which is one of the two
 asked_of : (one other t u : List (List ℕ)) (rule : Rule) (row : TableauRow (List ℕ)) → RowHolds one other rule row → (one ≡ t) ⊎ (other ≡ t) → (one ≡ u) ⊎ (other ≡ u)
@@ -258,7 +216,7 @@ satisfies_from rule one other holds row t u first second there one_there other_t
 pub satisfies_to : (rule : Rule) (tuples : List (List (List ℕ))) (one other : List (List ℕ)) (row : TableauRow (List ℕ)) → Satisfies bytes_eq rule tuples → Contains tuples one → Contains tuples other
     → sides_of rule one ≡ Some (sides_in rule one) → sides_of rule other ≡ Some (sides_in rule other) → Contains rule.rows row → RowHolds one other rule row
 satisfies_to rule tuples one other row satisfies one_there other_there first second there = record {
-  first = λ match. (satisfies row one one (sides_in rule one) (sides_in rule one) there one_there one_there first first (list_same (left_of one rule.x) (left_of one rule.x) refl) match).1;
-  second = λ match. (satisfies row other other (sides_in rule other) (sides_in rule other) there other_there other_there second second (list_same (left_of other rule.x) (left_of other rule.x) refl) match).1;
+  first = holds_if_satisfied rule tuples one row satisfies one_there first there;
+  second = holds_if_satisfied rule tuples other row satisfies other_there second there;
   both = λ same match. same_text (text_of one rule.a) (text_of other rule.a) (satisfies row one other (sides_in rule one) (sides_in rule other) there one_there other_there first second (list_same (left_of one rule.x) (left_of other rule.x) same) match).0;
 }

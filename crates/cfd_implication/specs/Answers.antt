@@ -4,11 +4,10 @@ use Rattle.schema_core.specs.declared.schema.Schema.{Schema}
 use Rattle.case_tree.specs.CaseTree.{IsAllowed, IsPartial, Refutes, leaf_count}
 use Rattle.case_search.specs.Enough.{enough_of}
 use Rattle.rule_model.specs.declared.dep.Dep.{Dep}
-use Rattle.cell_values.specs.Assigned.{HasAllowed}
+use Rattle.cell_values.specs.Readings.{HasAllowed}
+use Rattle.cell_values.specs.declared.side.Side.TheVariants.{First, Second}
 use Rattle.cfd_implication.specs.Implied.{IsCounter, IsImplied, IsNotImplied}
-use Rattle.cfd_implication.specs.Pairs.{stands_for}
-use Rattle.cfd_implication.specs.Question.{question}
-use Rattle.cfd_implication.specs.declared.side.Side.TheVariants.{First, Second}
+use Rattle.cfd_implication.specs.Question.{question, stands_for}
 use Rattle.cfd_implication.specs.declared.answer.Implication.{Implication}
 use Rattle.cfd_implication.specs.declared.answer.Implication.TheVariants.{Counter, Implied, Spent}
 

@@ -1,4 +1,3 @@
 pub mod Implied
 pub mod Question
-pub mod Pairs
 pub mod Answers

@@ -7,10 +7,9 @@ ghost use Rattle.rule_model.specs.Rules.{IsValidDep};
 ghost use Rattle.cfd_implication.specs.Answers.{HasLaw, IsAnswer};
 
 use crate::answer::Implication;
-use crate::question::{Question, attrs_at};
-use crate::side::Side;
-use crate::texts::tuple_of;
+use crate::question::Question;
 use case_search::{Found, decide};
+use cell_values::{Side, attrs_at, tuple_of};
 use rule_model::{Dep, RuleBook};
 use schema_core::{List, Schema};
 use std::alloc::{AllocError, Global};

@@ -3,17 +3,11 @@
 #![tactic(auto)]
 
 pub mod answer;
-mod clause_list;
 mod decider;
 mod literals;
 mod question;
 mod rows;
-pub mod side;
-mod texts;
-mod var_cells;
-mod variables;
 
 pub use answer::Implication;
 pub use decider::{implies, implies_from};
 pub use question::{clauses_from, implication_clauses};
-pub use side::Side;

@@ -11,25 +11,14 @@ ghost use Rattle.cell_values.specs.TableRules.{rules_with, table_rules};
 ghost use Rattle.cell_values.specs.Values.{AreFew, occurring, values_for};
 ghost use Rattle.cfd_implication.specs.Answers.{HasLaw};
 ghost use Rattle.cfd_implication.specs.Question.{agreeing_at, asked_clauses, clauses_of, question};
-ghost use Rattle.cfd_implication.specs.declared.side.Side.TheVariants.{First};
 
-use crate::clause_list::ClauseList;
 use crate::rows::{push_agreeing, push_asked, push_rules};
-use crate::var_cells::var_cells;
 use case_tree::{Clauses, Literal};
-use cell_values::{CellValues, TableRules, occurring};
+use cell_values::{CellValues, ClauseList, TableRules, TupleCount, attrs_at, occurring, var_cells};
 use rule_model::{Dep, RuleBook};
-use schema_core::{Attr, List, Schema};
+use schema_core::{List, Schema};
 use std::alloc::{AllocError, Global};
 use std::slice;
-
-/// The attributes of a table.
-pub fn attrs_at(schema: &Schema, table: usize) -> &[Attr]
-    requires { table < length schema.now.tables }
-    ensures { result.now ≡ attrs_at schema.now table }
-{
-    schema.tables.as_slice()[table].attrs.as_slice()
-}
 
 /// Appends that tuples that agree have one constant, for all attributes.
 fn push_all_agreeing(
@@ -105,7 +94,7 @@ impl Question {
         let attrs = attrs_at(schema, dep.table);
         let all = TableRules::new(alloc, dep.table, deps, slice::from_ref(dep))?;
         let cells = occurring(alloc, attrs, &all)?;
-        let vars = var_cells(alloc, cells.as_slice())?;
+        let vars = var_cells(alloc, TupleCount::Two, cells.as_slice())?;
         let clauses = clauses_of(alloc, cells.as_slice(), deps, dep)?;
         Ok(Question {
             clauses: Clauses::new(vars, clauses),

@@ -5,12 +5,12 @@ ghost use Rattle.std.specs.List.{flat_map, zip, range_with_len};
 ghost use Rattle.cell_values.specs.Values.{AreFew, values_for};
 ghost use Rattle.cfd_implication.specs.Question.{constant_clauses, agreeing_at, row_clauses, rule_clauses, agree_on, asked_cell, asked_clauses};
 
-use crate::clause_list::ClauseList;
-use crate::literals::{alone, breaks, no, push_meets_at, together, yes};
-use crate::side::Side;
-use crate::variables::{equal_var, value_var};
+use crate::literals::{breaks, together};
 use case_tree::Literal;
-use cell_values::{CellValues, Rule, TableRules};
+use cell_values::{
+    CellValues, ClauseList, Rule, Side, TableRules, alone, equal_var, no, push_meets_at, value_var,
+    yes,
+};
 use cfd_semantics::Pattern;
 use rule_model::{Cell, DepRow};
 use std::alloc::{AllocError, Global};

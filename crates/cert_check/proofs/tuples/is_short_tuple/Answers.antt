@@ -1,5 +1,5 @@
 use Rattle.cert_check.specs.Verdict.{IsShortText}
-use Rattle.cfd_consistency.proofs.Lists.{AllZip-long}
+use Rattle.cell_values.proofs.Lists.{AllZip-long}
 use Rattle.cert_check.proofs.tuples.is_short_tuple.Goals as goal
 
 pub returns-then-attrs-tuple : goal.returns-then-attrs-tuple

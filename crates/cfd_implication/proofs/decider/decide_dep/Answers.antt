@@ -8,13 +8,15 @@ use Rattle.schema_core.specs.declared.schema.Attr.{Attr}
 use Rattle.rule_model.specs.declared.dep.Dep.{Dep}
 use Rattle.cell_values.specs.declared.values.CellValues.{CellValues}
 use Rattle.schema_core.specs.Lookups.{attrs_at}
-use Rattle.cfd_implication.specs.declared.side.Side.TheVariants.{First, Second}
+use Rattle.cell_values.specs.declared.side.Side.TheVariants.{First, Second}
 use Rattle.cfd_implication.specs.Implied.{IsCounter}
-use Rattle.cfd_implication.specs.Pairs.{tuple_of}
-use Rattle.cfd_implication.specs.Question.{question, var_total}
-use Rattle.cfd_implication.proofs.Questions.{attrs_valid, cells_for, question_one_free, question_vars, constants_bound, counter}
+use Rattle.cell_values.specs.Layout.{var_total}
+use Rattle.cell_values.specs.Readings.{tuple_of}
+use Rattle.cell_values.specs.declared.side.TupleCount.TheVariants.{Two}
+use Rattle.cfd_implication.specs.Question.{question}
+use Rattle.cell_values.proofs.Tables.{attrs_each, attrs_valid}
+use Rattle.cfd_implication.proofs.Questions.{cells_for, question_one_free, question_vars, constants_bound, counter}
 use Rattle.cfd_implication.proofs.Theorems.{implied_if_none}
-use Rattle.cfd_implication.proofs.Questions.{attrs_each}
 use Rattle.cfd_implication.proofs.decider.decide_dep.Goals as goal
 
 pub decide-requires-clause-one_free : goal.decide-requires-clause-one_free
@@ -55,7 +57,7 @@ tuple_of-requires-clause-told c =
       answer.0,
       ap (λ (set : ClauseSet). var_count set.cells) set-is,
       question_vars schema deps dep c.requires.schema c.requires.deps c.requires.dep,
-      ap var_total cells-here,
+      ap (var_total Two) cells-here,
     )
 
 pub tuple_of-requires-in-Model-clause-valid : goal.tuple_of-requires-in-Model-clause-valid
@@ -87,7 +89,7 @@ tuple_of-requires-in-Model-clause-told c =
       answer.0,
       ap (λ (set : ClauseSet). var_count set.cells) set-is,
       question_vars schema deps dep c.requires.schema c.requires.deps c.requires.dep,
-      ap var_total cells-here,
+      ap (var_total Two) cells-here,
     )
 
 pub returns-in-Model : goal.returns-in-Model

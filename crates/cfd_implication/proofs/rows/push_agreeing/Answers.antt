@@ -1,7 +1,7 @@
 use Rattle.std.specs.List.{flat_map, range_with_len}
 use Rattle.std.proofs.Common.{◌+◌}
 use Rattle.cfd_implication.specs.Question.{constant_clauses}
-use Rattle.cfd_implication.proofs.Loops.{appended, flat_range}
+use Rattle.cell_values.proofs.Loops.{appended, flat_range}
 use Rattle.cfd_implication.proofs.rows.push_agreeing.Goals as goal
 
 pub loop-place-preserved : goal.loop-place-preserved

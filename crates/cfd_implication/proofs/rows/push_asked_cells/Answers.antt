@@ -3,7 +3,7 @@ use Rattle.std.specs.List.{flat_map}
 use Rattle.std.specs.Prelude.{zip}
 use Rattle.cell_values.proofs.Lists.{zip_left_ended, zip_right_ended}
 use Rattle.cfd_implication.specs.Question.{asked_cell}
-use Rattle.cfd_implication.proofs.Loops.{nothing_left}
+use Rattle.cell_values.proofs.Loops.{nothing_left}
 use Rattle.cfd_implication.proofs.rows.push_asked_cells.Goals as goal
 
 pub returns : goal.returns

@@ -1,7 +1,7 @@
 use Rattle.std.specs.List.{flat_map}
 use Rattle.std.proofs.Common.{◌+◌, take}
 use Rattle.cfd_implication.specs.Question.{rule_clauses}
-use Rattle.cfd_implication.proofs.Loops.{appended, flat_take}
+use Rattle.cell_values.proofs.Loops.{appended, flat_take}
 use Rattle.cfd_implication.proofs.rows.push_rules.Goals as goal
 
 pub loop-place-preserved : goal.loop-place-preserved

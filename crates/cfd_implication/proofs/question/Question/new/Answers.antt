@@ -7,7 +7,9 @@ use Rattle.schema_core.specs.declared.schema.Attr.{Attr}
 use Rattle.cell_values.specs.declared.values.CellValues.{CellValues}
 use Rattle.cell_values.specs.TableRules.{Rule, rules_with, table_rules}
 use Rattle.cell_values.specs.Values.{AreFew, occurring, values_for}
-use Rattle.cfd_implication.specs.Question.{clauses_of, question, var_cells}
+use Rattle.cell_values.specs.Layout.{var_cells}
+use Rattle.cell_values.specs.declared.side.TupleCount.TheVariants.{Two}
+use Rattle.cfd_implication.specs.Question.{clauses_of, question}
 use Rattle.cfd_implication.proofs.Questions.{cells_for, constants_room, question_well_formed}
 use Rattle.cfd_implication.proofs.question.Question.new.Goals as goal
 
@@ -28,9 +30,9 @@ set-is c =
     let dep = c.args.dep.now in
     let all-is = c.in_ok-all.ensures ∙ ap (rules_with dep.table deps) c.from_ref.ensures.value in
     let cells-is : c.in_ok-cells.cells ≡ cells_for schema deps dep = c.in_ok-cells.ensures.cells ∙ ap (λ (rules : List Rule). occurring c.attrs_at-attrs.result.now rules) all-is ∙ ap (λ (attrs : List Attr). occurring attrs (rules_with dep.table deps (dep ∷ []))) c.attrs_at-attrs.ensures in
-    let vars-is = c.in_ok-vars.ensures ∙ ap (var_cells 0) (c.as_slice.ensures ∙ cells-is) in
+    let vars-is = c.in_ok-vars.ensures ∙ ap (var_cells Two 0) (c.as_slice.ensures ∙ cells-is) in
     let clauses-is = c.in_ok-clauses.ensures ∙ ap (λ (cells : List CellValues). clauses_of cells (table_rules dep.table deps) dep.rule) (c.as_slice-2.ensures ∙ cells-is) in
-    ap (λ (vars : List VarCell). clause_set vars c.in_ok-clauses.clauses.items) vars-is ∙ ap (λ (clauses : List (List Literal)). record { cells = var_cells 0 (cells_for schema deps dep); clauses = clauses }) clauses-is
+    ap (λ (vars : List VarCell). clause_set vars c.in_ok-clauses.clauses.items) vars-is ∙ ap (λ (clauses : List (List Literal)). record { cells = var_cells Two 0 (cells_for schema deps dep); clauses = clauses }) clauses-is
 
 few-is : (c : goal.In_ok-clauses) → c.in_ok-cells.cells ≡ cells_for c.args.schema.now c.args.deps.now c.args.dep.now
 few-is c =
@@ -50,6 +52,6 @@ returns-clause-clauses c =
     let dep = c.args.dep.now in
     let all-is = c.in_ok-all.ensures ∙ ap (rules_with dep.table deps) c.from_ref.ensures.value in
     let cells-is : c.in_ok-cells.cells ≡ cells_for schema deps dep = c.in_ok-cells.ensures.cells ∙ ap (λ (rules : List Rule). occurring c.attrs_at-attrs.result.now rules) all-is ∙ ap (λ (attrs : List Attr). occurring attrs (rules_with dep.table deps (dep ∷ []))) c.attrs_at-attrs.ensures in
-    let vars-is = c.in_ok-vars.ensures ∙ ap (var_cells 0) (c.as_slice.ensures ∙ cells-is) in
+    let vars-is = c.in_ok-vars.ensures ∙ ap (var_cells Two 0) (c.as_slice.ensures ∙ cells-is) in
     let clauses-is = c.in_ok-clauses.ensures ∙ ap (λ (cells : List CellValues). clauses_of cells (table_rules dep.table deps) dep.rule) (c.as_slice-2.ensures ∙ cells-is) in
-    c.new-2.ensures ∙ ap (λ (vars : List VarCell). clause_set vars c.in_ok-clauses.clauses.items) vars-is ∙ ap (λ (clauses : List (List Literal)). record { cells = var_cells 0 (cells_for schema deps dep); clauses = clauses }) clauses-is
+    c.new-2.ensures ∙ ap (λ (vars : List VarCell). clause_set vars c.in_ok-clauses.clauses.items) vars-is ∙ ap (λ (clauses : List (List Literal)). record { cells = var_cells Two 0 (cells_for schema deps dep); clauses = clauses }) clauses-is

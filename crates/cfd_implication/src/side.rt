@@ -1,7 +1,0 @@
-//! Which of two tuples.
-
-#[derive(Clone, Copy, Debug, PartialEq, Eq)]
-pub enum Side {
-    First,
-    Second,
-}
