@@ -1,12 +1,11 @@
 -- What was found ends a call as its form says, and so does what stopped it.
-use Rattle.std.proofs.Common.{◌≡◌, ℕ, ◌<◌, List, Some, None, IfSome, Err, inl, inr, refl, sym, ap, subst, ◌∙◌}
+use Rattle.std.proofs.Common.{◌≡◌, ℕ, List, IfSome, Err, inl, inr, sym, ap, subst, ◌∙◌}
 use Rattle.shelf_io.specs.Sink.{SinkTold}
 use Rattle.cli_output.specs.declared.fetching.Stop.{Stop}
 use Rattle.cli_output.specs.declared.fetching.Stop.TheVariants as stop
-use Rattle.cli_output.specs.declared.refusal.Cause.TheVariants.{TooManyFound}
 use Rattle.cli_output.specs.declared.refusal.Refusal.{Refusal}
 use Rattle.cli_output.specs.declared.status.Status.{Status}
-use Rattle.cli_output.specs.declared.status.Status.TheVariants.{Clean, Refused, ReadFault, WriteFault, Memory}
+use Rattle.cli_output.specs.declared.status.Status.TheVariants.{Clean, Refused}
 use Rattle.cli_output.specs.Fetching.{IsReadFault, refusal_in}
 use Rattle.cli_output.specs.Output.{Ends, EndsBy, Only}
 use Rattle.cli_output.specs.Refusals.{refusal_line}

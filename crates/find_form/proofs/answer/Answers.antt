@@ -1,4 +1,4 @@
-use Rattle.std.proofs.Common.{sym, ◌∙◌, subst}
+use Rattle.std.proofs.Common.{sym, subst}
 use Rattle.find_form.specs.FindForm.{IsFoundText}
 use Rattle.find_form.proofs.Told.{told_stop, told_text}
 use Rattle.find_form.proofs.answer.Goals as goal

@@ -7,7 +7,7 @@ use Rattle.text_lists.specs.declared.limits.Limits.{Limits}
 use Rattle.schema_core.specs.declared.schema.Table.{Table}
 use Rattle.cli_output.specs.Fetching.{Fetching, ◌>>=◌, given}
 use Rattle.cli_output.specs.TableFiles.{fetch_table}
-use Rattle.cli_output.proofs.FetchingSteps.{fetches-given, fetches-next, fetches-stopped}
+use Rattle.cli_output.proofs.FetchingSteps.{fetches-next, fetches-stopped}
 use Rattle.find_form.specs.FindForm.{fetch_asked, fetch_known}
 use Rattle.find_form.specs.declared.Asked.{Asked}
 use Rattle.find_form.proofs.fetch_asked.Goals as goal
