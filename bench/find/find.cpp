@@ -1,0 +1,270 @@
+// The same list as `cfdbench find` by the same method: find FOLDER WIDTH SUPPORT. It reads FOLDER/t.csv, whose cells are
+// plain words; its first line names the attributes. Rows that agree on attributes have one leader, the first of them, and
+// each row has the next one with its leader. The classes of one attribute more come from those before, class by class.
+// A left side of which a part determines A is skipped for A, and so are rows for which a part settles A.
+#include <algorithm>
+#include <cstdint>
+#include <cstdio>
+#include <cstdlib>
+#include <fstream>
+#include <iostream>
+#include <map>
+#include <sstream>
+#include <string>
+#include <string_view>
+#include <unordered_map>
+#include <vector>
+
+using Row = uint32_t;
+using Rows = std::vector<Row>;
+using Side = std::vector<uint32_t>;
+
+static const size_t LONGEST_CONSTANT = 1024;
+static const size_t MOST = 100000;
+
+struct Table {
+    std::string bytes;
+    std::vector<std::string> names;
+    std::vector<std::string_view> cells;
+    std::vector<Rows> columns;
+    Row rows = 0;
+    std::string_view cell(Row r, uint32_t attr) const { return cells[size_t(r) * names.size() + attr]; }
+};
+
+struct Classes { Rows leaders, nexts; };
+struct Settled { bool all = false; std::vector<uint8_t> flags; };
+struct Facts { Side x; std::vector<Settled> settled; };
+struct Candidate { uint32_t a, side; Row row; };
+
+static Table read_table(const std::string &path) {
+    Table table;
+    std::ifstream in(path, std::ios::binary);
+    std::stringstream all;
+    all << in.rdbuf();
+    table.bytes = all.str();
+    std::string_view text = table.bytes;
+    bool head = true;
+    for (size_t at = 0; at < text.size();) {
+        size_t end = text.find('\n', at);
+        if (end == std::string_view::npos) end = text.size();
+        for (size_t from = at; from <= end;) {
+            size_t comma = std::min(text.find(',', from), end);
+            if (head) table.names.emplace_back(text.substr(from, comma - from));
+            else table.cells.push_back(text.substr(from, comma - from));
+            from = comma + 1;
+        }
+        head = false;
+        at = end + 1;
+    }
+    table.rows = Row(table.cells.size() / table.names.size());
+    for (uint32_t attr = 0; attr < table.names.size(); attr++) {
+        std::unordered_map<std::string_view, Row> pool;
+        Rows ids(table.rows);
+        for (Row r = 0; r < table.rows; r++) ids[r] = pool.emplace(table.cell(r, attr), Row(pool.size())).first->second;
+        table.columns.push_back(std::move(ids));
+    }
+    return table;
+}
+
+static Rows nexts_of(const Rows &leaders) {
+    Row n = Row(leaders.size());
+    Rows nexts(n), fronts(n, n);
+    for (Row r = n; r-- > 0;) {
+        nexts[r] = fronts[leaders[r]];
+        fronts[leaders[r]] = r;
+    }
+    return nexts;
+}
+
+static Classes all_rows(Row n) {
+    Rows leaders(n, 0);
+    Rows nexts = nexts_of(leaders);
+    return {std::move(leaders), std::move(nexts)};
+}
+
+static Classes with_attr(const Classes &classes, const Rows &ids) {
+    Row n = Row(ids.size());
+    Rows marks(n, n), firsts(n);
+    for (Row first = 0; first < n; first++) {
+        if (classes.leaders[first] != first) continue;
+        for (Row r = first; r < n; r = classes.nexts[r]) {
+            Row mark = marks[ids[r]];
+            if (mark < n && classes.leaders[mark] == first) firsts[r] = mark;
+            else firsts[r] = marks[ids[r]] = r;
+        }
+    }
+    Rows nexts = nexts_of(firsts);
+    return {std::move(firsts), std::move(nexts)};
+}
+
+static Classes grouped(const Table &table, const Side &x) {
+    Classes classes = all_rows(table.rows);
+    for (uint32_t attr : x) classes = with_attr(classes, table.columns[attr]);
+    return classes;
+}
+
+static Rows leads_of(const Classes &classes, size_t support) {
+    Row n = Row(classes.leaders.size());
+    Rows sizes(n, 0), leads;
+    for (Row r = 0; r < n; r++) sizes[classes.leaders[r]]++;
+    for (Row r = 0; r < n; r++)
+        if (classes.leaders[r] == r && sizes[r] >= support) leads.push_back(r);
+    return leads;
+}
+
+static bool are_alike(const Rows &leaders, const Rows &ids) {
+    for (Row r = 0; r < ids.size(); r++)
+        if (ids[r] != ids[leaders[r]]) return false;
+    return true;
+}
+
+static bool is_alike(const Classes &classes, const Rows &ids, Row first) {
+    Row id = ids[first];
+    for (Row r = first; r < ids.size(); r = classes.nexts[r])
+        if (ids[r] != id) return false;
+    return true;
+}
+
+static Settled settled_at(const Classes &classes, const Rows &leads, const Rows &ids) {
+    Settled settled;
+    settled.all = are_alike(classes.leaders, ids);
+    if (settled.all) return settled;
+    for (Row first : leads) {
+        if (!is_alike(classes, ids, first)) continue;
+        if (settled.flags.empty()) settled.flags.assign(ids.size(), 0);
+        for (Row r = first; r < ids.size(); r = classes.nexts[r]) settled.flags[r] = 1;
+    }
+    return settled;
+}
+
+static bool says(const Settled &settled, Row r) { return settled.all || (!settled.flags.empty() && settled.flags[r]); }
+
+static Facts facts_of(const Table &table, size_t support, const Side &x) {
+    Classes classes = grouped(table, x);
+    Rows leads = leads_of(classes, support);
+    Facts facts{x, {}};
+    for (const Rows &ids : table.columns) facts.settled.push_back(settled_at(classes, leads, ids));
+    return facts;
+}
+
+static std::vector<Side> proper_parts(const Side &x) {
+    std::vector<Side> parts;
+    for (uint32_t taken = 0; taken + 1 < (1u << x.size()); taken++) {
+        Side part;
+        for (size_t i = 0; i < x.size(); i++)
+            if (taken >> i & 1) part.push_back(x[i]);
+        parts.push_back(part);
+    }
+    return parts;
+}
+
+static std::vector<Side> left_sides(uint32_t attrs, size_t width) {
+    std::vector<Side> sides{{}}, level{{}};
+    for (size_t size = 0; size < width; size++) {
+        std::vector<Side> longer;
+        for (const Side &side : level)
+            for (uint32_t attr = side.empty() ? 0 : side.back() + 1; attr < attrs; attr++) {
+                longer.push_back(side);
+                longer.back().push_back(attr);
+            }
+        sides.insert(sides.end(), longer.begin(), longer.end());
+        level = longer;
+    }
+    return sides;
+}
+
+static bool is_short(const Table &table, Row r, const Side &x, uint32_t a) {
+    for (uint32_t attr : x)
+        if (table.cell(r, attr).size() > LONGEST_CONSTANT) return false;
+    return table.cell(r, a).size() <= LONGEST_CONSTANT;
+}
+
+// All that are found, or one more than MOST at least.
+static std::vector<Candidate> all_found(const Table &table, size_t support, const std::vector<Side> &sides) {
+    std::vector<Candidate> found;
+    std::map<Side, Facts> store;
+    Side front;
+    Classes front_classes = all_rows(table.rows);
+    for (uint32_t number = 0; number < sides.size(); number++) {
+        const Side &x = sides[number];
+        std::vector<const Facts *> parts;
+        for (const Side &part : proper_parts(x)) {
+            auto at = store.find(part);
+            if (at == store.end()) at = store.emplace(part, facts_of(table, support, part)).first;
+            parts.push_back(&at->second);
+        }
+        Classes classes;
+        if (x.empty()) {
+            classes = all_rows(table.rows);
+        } else {
+            Side before(x.begin(), x.end() - 1);
+            if (before != front) {
+                front_classes = grouped(table, before);
+                front = before;
+            }
+            classes = with_attr(front_classes, table.columns[x.back()]);
+        }
+        Rows leads = leads_of(classes, support);
+        for (uint32_t a = 0; a < table.names.size(); a++) {
+            if (std::find(x.begin(), x.end(), a) != x.end()) continue;
+            if (std::any_of(parts.begin(), parts.end(), [&](const Facts *part) { return part->settled[a].all; })) continue;
+            Settled settled = settled_at(classes, leads, table.columns[a]);
+            if (settled.all) found.push_back({a, number, table.rows});
+            for (Row r : leads)
+                if (says(settled, r)
+                    && !std::any_of(parts.begin(), parts.end(), [&](const Facts *part) { return says(part->settled[a], r); })
+                    && is_short(table, r, x, a))
+                    found.push_back({a, number, r});
+            if (found.size() > MOST) return found;
+        }
+    }
+    return found;
+}
+
+static void sort_found(const Table &table, const std::vector<Side> &sides, std::vector<Candidate> &found) {
+    std::sort(found.begin(), found.end(), [&](const Candidate &one, const Candidate &other) {
+        if (one.a != other.a) return one.a < other.a;
+        if (one.side != other.side) return one.side < other.side;
+        bool plain = one.row == table.rows, too = other.row == table.rows;
+        if (plain || too) return plain && !too;
+        for (uint32_t attr : sides[one.side]) {
+            int order = table.cell(one.row, attr).compare(table.cell(other.row, attr));
+            if (order != 0) return order < 0;
+        }
+        return false;
+    });
+}
+
+static void push_cell(std::string &out, const Table &table, Row r, uint32_t attr) {
+    if (r == table.rows) out += "_";
+    else { out += '\''; out += table.cell(r, attr); out += '\''; }
+}
+
+int main(int argc, char **argv) {
+    if (argc != 4) return 1;
+    Table table = read_table(std::string(argv[1]) + "/t.csv");
+    std::vector<Side> sides = left_sides(uint32_t(table.names.size()), strtoul(argv[2], nullptr, 10));
+    std::vector<Candidate> found = all_found(table, strtoul(argv[3], nullptr, 10), sides);
+    if (found.size() > MOST) {
+        puts("too many");
+        return 0;
+    }
+    sort_found(table, sides, found);
+    std::string out;
+    for (size_t n = 0; n < found.size(); n++) {
+        const Candidate &c = found[n];
+        const Side &x = sides[c.side];
+        out += "cfd d" + std::to_string(n + 1) + " t: [";
+        for (size_t i = 0; i < x.size(); i++) out += (i ? ", " : "") + table.names[x[i]];
+        out += "] -> [" + table.names[c.a] + "]\nrow ";
+        for (size_t i = 0; i < x.size(); i++) {
+            if (i) out += ", ";
+            push_cell(out, table, c.row, x[i]);
+        }
+        out += x.empty() ? "|| " : " || ";
+        push_cell(out, table, c.row, c.a);
+        out += '\n';
+    }
+    out += "# found " + std::to_string(found.size()) + "\n";
+    fwrite(out.data(), 1, out.size(), stdout);
+}
