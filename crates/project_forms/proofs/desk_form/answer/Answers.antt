@@ -13,11 +13,11 @@ use Rattle.cli_output.specs.declared.status.Status.{Status}
 use Rattle.cli_output.specs.Output.{Ends}
 use Rattle.cli_output.proofs.Outputs.{Ends-wider}
 use Rattle.cfd_cli.specs.Project.{Tables}
-use Rattle.cfd_cli.specs.DeskForm.{DeskRead, desk_outputs, opened, read_of}
+use Rattle.project_forms.specs.DeskForm.{DeskRead, desk_outputs, opened, read_of}
 use Rattle.cfd_cli.specs.Transcripts.{HasStatus, transcripts}
-use Rattle.cfd_cli.proofs.Ends.{ends-answered, ends-memory, ends-write_fault}
-use Rattle.cfd_cli.proofs.Reports.{clean_where_satisfied}
-use Rattle.cfd_cli.proofs.desk_form.answer.Goals as goal
+use Rattle.project_forms.proofs.Ends.{ends-answered, ends-memory, ends-write_fault}
+use Rattle.project_forms.proofs.Reports.{clean_where_satisfied}
+use Rattle.project_forms.proofs.desk_form.answer.Goals as goal
 
 -- a desk with no entry over these tables is the one that is opened
 desk_with : Book → Limits → ℕ → History → List Entry → DeskModel

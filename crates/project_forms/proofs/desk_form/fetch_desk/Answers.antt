@@ -4,13 +4,13 @@ use Rattle.text_lists.specs.declared.limits.Limits.{Limits}
 use Rattle.schema_core.specs.declared.schema.Schema.{Schema}
 use Rattle.rule_model.specs.Books.{Book}
 use Rattle.desk_events.specs.declared.event.Event.{Event}
-use Rattle.cfd_cli.specs.declared.desk_form.DeskFiles.{DeskFiles}
+use Rattle.project_forms.specs.declared.desk_form.DeskFiles.{DeskFiles}
 use Rattle.cli_output.specs.Fetching.{Fetching, ◌>>=◌, given}
 use Rattle.cli_output.specs.RuleFiles.{fetch_rules, fetch_schema}
 use Rattle.cfd_cli.specs.Project.{Tables, fetch_bench, tables_of}
-use Rattle.cfd_cli.specs.DeskForm.{DeskRead, fetch_desk, fetch_events, read_of}
+use Rattle.project_forms.specs.DeskForm.{DeskRead, fetch_desk, fetch_events, read_of}
 use Rattle.cli_output.proofs.FetchingSteps.{fetches-given, fetches-next, fetches-stopped}
-use Rattle.cfd_cli.proofs.desk_form.fetch_desk.Goals as goal
+use Rattle.project_forms.proofs.desk_form.fetch_desk.Goals as goal
 
 -- what follows each step
 

@@ -1,6 +1,6 @@
-use Rattle.cfd_cli.specs.DeskForm.{desk_task, read_of}
+use Rattle.project_forms.specs.DeskForm.{desk_task, read_of}
 use Rattle.cli_output.proofs.Outputs.{output-found, output-stopped}
-use Rattle.cfd_cli.proofs.desk_form.desk_project.Goals as goal
+use Rattle.project_forms.proofs.desk_form.desk_project.Goals as goal
 
 pub returns-in-Ok-clause-written : goal.returns-in-Ok-clause-written
 returns-in-Ok-clause-written g c =
