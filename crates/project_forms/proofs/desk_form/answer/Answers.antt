@@ -12,9 +12,9 @@ use Rattle.desk.proofs.EachHasReply.{reply_of}
 use Rattle.cli_output.specs.declared.status.Status.{Status}
 use Rattle.cli_output.specs.Output.{Ends}
 use Rattle.cli_output.proofs.Outputs.{Ends-wider}
-use Rattle.cfd_cli.specs.Project.{Tables}
+use Rattle.project_forms.specs.Project.{Tables}
 use Rattle.project_forms.specs.DeskForm.{DeskRead, desk_outputs, opened, read_of}
-use Rattle.cfd_cli.specs.Transcripts.{HasStatus, transcripts}
+use Rattle.project_forms.specs.Transcripts.{HasStatus, transcripts}
 use Rattle.project_forms.proofs.Ends.{ends-answered, ends-memory, ends-write_fault}
 use Rattle.project_forms.proofs.Reports.{clean_where_satisfied}
 use Rattle.project_forms.proofs.desk_form.answer.Goals as goal
