@@ -20,9 +20,9 @@ use Rattle.desk_entries.proofs.Retired.{retired}
 -- ---- another entry is appended
 
 -- which entries are live, by those that were live before it
-record LiveAfter (es : List Entry) (alive : ℕ → Bool) (own : Bool) (all : List Entry) : Type 0 where
+record LiveAfter (es : List Entry) (alive : ℕ → Bool) (fresh : Bool) (all : List Entry) : Type 0 where
   same : (m : ℕ) → suc m ≤ length es → is_live all (suc m) ≡ alive (suc m)
-  own : is_live all (suc (length es)) ≡ own
+  newest : is_live all (suc (length es)) ≡ fresh
 
 module _ (list : List Kept) (new : NewEntry) (alive : ℕ → Bool) (live next : List ℕ → ℕ) (rows rows1 : RowKey → RowTops) (lb : ℕ)
     (chain : IsChain (by_editor (entries_kept list)) alive (length (entries_kept list)) live (live_below list))
@@ -59,12 +59,12 @@ module _ (list : List Kept) (new : NewEntry) (alive : ℕ → Bool) (live next :
   kept-so = subst Kept-so (sym (entries-push list k)) (
     subst ChainTo (sym (length-snoc es e)) live-pushed,
     take-within es e within own,
-    record { same = old; own = live-new es e within own },
+    record { same = old; newest = live-new es e within own },
   )
 
   pub pushed : IsTied (is_live (entries_kept (list ++ k ∷ []))) (list ++ k ∷ []) next rows1 × TakeWithin (entries_kept (list ++ k ∷ []))
   pushed = (
-    record { live = kept-so.0; rows = rows-noted list alive (is_live (entries_kept (list ++ k ∷ []))) rows tied new lb rows1 kept-so.2.same kept-so.2.own is },
+    record { live = kept-so.0; rows = rows-noted list alive (is_live (entries_kept (list ++ k ∷ []))) rows tied new lb rows1 kept-so.2.same kept-so.2.newest is },
     kept-so.1,
   )
 
