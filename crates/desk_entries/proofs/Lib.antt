@@ -1,3 +1,5 @@
 pub mod Numbers
 pub mod Chains
 pub mod Tied
+pub mod Retired
+pub mod Pushed

@@ -5,14 +5,14 @@ use Rattle.std.specs.Option.{option_map_or}
 use Rattle.std.specs.Str.{bytes_eq}
 use Rattle.desk_entries.specs.Numbers.{last_up_to}
 
--- an edit that was accepted: whose it is, of which row, the row's texts before and after it, which are none where the row
--- wasn't there, and the number of the entry that it takes back, if it does
+-- an edit that was accepted: whose it is, of which row, the row's texts before it, which are none where it inserted the row,
+-- whether it deleted the row, and the number of the entry that it takes back, if it does
 pub record Entry : Type 0 where
   pub editor : List ℕ
   pub table : ℕ
   pub row : ℕ
   pub before : Option (List (List ℕ))
-  pub after : Option (List (List ℕ))
+  pub deletes : Bool
   pub takes : Option ℕ
 
 -- the entry of that number; there is none of number 0
@@ -33,7 +33,7 @@ abbrev pub is_on : ℕ → ℕ → Entry → Bool
 is_on table row entry = (entry.table == table) && (entry.row == row)
 
 abbrev pub is_deletion : Entry → Bool
-is_deletion entry = is_none entry.after
+is_deletion entry = entry.deletes
 
 abbrev pub takes_none : Entry → Bool
 takes_none entry = is_none entry.takes

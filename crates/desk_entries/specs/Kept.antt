@@ -1,5 +1,5 @@
 -- Entries as they are kept, and what is kept beside them so that the last ones are found at once.
-use Rattle.std.specs.Prelude.{◌≡◌, ℕ, suc, ◌<◌, ◌≤◌, ◌==◌, ◌&&◌, ◌||◌, not, Bool, true, false, List, All, IfSome, length, Option, None, Some, map, slice_get, nat_eq, ⊤}
+use Rattle.std.specs.Prelude.{◌≡◌, ℕ, suc, ◌<◌, ◌≤◌, ◌==◌, ◌&&◌, ◌||◌, not, Bool, true, false, List, All, IfSome, length, Option, None, Some, map, slice_get, nat_eq, is_none, if◌then◌else◌, ⊤}
 use Rattle.std.specs.Option.{option_map_or}
 use Rattle.std.specs.Str.{bytes_eq}
 use Rattle.indexmap.specs.IndexMap.{IndexMap, get}
@@ -30,7 +30,7 @@ MayTake entries editor (Some number) =
 
 -- an entry that comes
 abbrev pub entry_new : NewEntry → Entry
-entry_new new = record { editor = new.editor; table = new.table; row = new.row; before = new.before; after = new.after; takes = new.takes }
+entry_new new = record { editor = new.editor; table = new.table; row = new.row; before = new.before; deletes = new.deletes; takes = new.takes }
 
 abbrev pub entry_kept : Kept → Entry
 entry_kept kept = entry_new kept.entry
@@ -67,20 +67,14 @@ live_below list place = option_map_or (λ (k : Kept). k.live_below) (slice_get l
 abbrev pub firm_below : List Kept → ℕ → ℕ
 firm_below list place = option_map_or (λ (k : Kept). k.firm_below) (slice_get list place) 0
 
--- the last live number of each editor, the last number on each row, and the last on it that is live or a deletion
-pub record Tops : Type 0 where
-  pub live : List ℕ → ℕ
-  pub version : RowKey → ℕ
-  pub firm : RowKey → ℕ
+-- The last numbers of the rows are as kept, where `alive` says which numbers are live; and those of the editors too.
+pub record AreRowsTied (alive : ℕ → Bool) (list : List Kept) (rows : RowKey → RowTops) : Type 0 where
+  pub firm : IsChain (on_row (entries_kept list)) (is_held (entries_kept list) alive) (length (entries_kept list)) (λ key. (rows key).firm) (firm_below list)
+  pub version : (key : RowKey) → (rows key).version ≡ last_up_to (on_row (entries_kept list) key) (length (entries_kept list))
 
--- The tops of the rows are those of the entries, where `alive` says which numbers are live; and those of the editors too.
-pub record AreRowsTied (alive : ℕ → Bool) (list : List Kept) (tops : Tops) : Type 0 where
-  pub firm : IsChain (on_row (entries_kept list)) (is_held (entries_kept list) alive) (length (entries_kept list)) tops.firm (firm_below list)
-  pub version : (key : RowKey) → tops.version key ≡ last_up_to (on_row (entries_kept list) key) (length (entries_kept list))
-
-pub record IsTied (alive : ℕ → Bool) (list : List Kept) (tops : Tops) : Type 0 where
-  pub live : IsChain (by_editor (entries_kept list)) alive (length (entries_kept list)) tops.live (live_below list)
-  pub rows : AreRowsTied alive list tops
+pub record IsTied (alive : ℕ → Bool) (list : List Kept) (of_editor : List ℕ → ℕ) (of_row : RowKey → RowTops) : Type 0 where
+  pub live : IsChain (by_editor (entries_kept list)) alive (length (entries_kept list)) of_editor (live_below list)
+  pub rows : AreRowsTied alive list of_row
 
 -- the live numbers without one that is taken back
 abbrev pub is_live_but : List Entry → ℕ → ℕ → Bool
@@ -98,12 +92,19 @@ row_tops rows key = option_map_or (λ (tops : RowTops). tops) (get same_row rows
 abbrev pub live_top : {S : Type 0} → IndexMap (List ℕ) ℕ S → List ℕ → ℕ
 live_top live editor = option_map_or (λ number. number) (get bytes_eq live editor) 0
 
-abbrev pub tops_of : {S T : Type 0} → IndexMap (List ℕ) ℕ S → IndexMap RowKey RowTops T → Tops
-tops_of live rows = record { live = live_top live; version = λ key. (row_tops rows key).version; firm = λ key. (row_tops rows key).firm }
+-- ---- where another entry comes
+
+-- an entry as it is kept, with the numbers below it
+abbrev pub kept_new : NewEntry → ℕ → ℕ → Kept
+kept_new new live firm = record { entry = new; live_below = live; firm_below = firm }
+
+-- the last numbers on its row once it has this number
+abbrev pub tops_noted : NewEntry → ℕ → RowTops → RowTops
+tops_noted new number tops = record { version = number; firm = if new.deletes || is_none new.takes then number else tops.firm }
 
 -- no entry takes a number beyond the list
 abbrev pub TakeWithin : List Entry → Type 0
 TakeWithin entries = All (λ (e : Entry). IfSome e.takes (λ number. number ≤ length entries)) entries
 
 abbrev pub IsKept : {S T : Type 0} → List Kept → IndexMap (List ℕ) ℕ S → IndexMap RowKey RowTops T → Type 0
-IsKept list live rows = IsTied (is_live (entries_kept list)) list (tops_of live rows) × TakeWithin (entries_kept list)
+IsKept list live rows = IsTied (is_live (entries_kept list)) list (live_top live) (row_tops rows) × TakeWithin (entries_kept list)

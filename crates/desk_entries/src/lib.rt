@@ -4,4 +4,4 @@
 
 pub mod entries;
 
-pub use entries::{Entries, Kept};
+pub use entries::{Entries, Kept, NewEntry};

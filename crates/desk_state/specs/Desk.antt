@@ -1,5 +1,5 @@
 -- What a desk is, and its answer to an event: the reply, and the desk that the event leaves.
-use Rattle.std.specs.Prelude.{◌≡◌, ◌≢◌, ⊤, All, ℕ, ◌+◌, ◌==◌, nat_le, if◌then◌else◌, List, [], ◌∷◌, ◌++◌, length, Option, None, Some, Ok, Err, ok_or, slice_get}
+use Rattle.std.specs.Prelude.{◌≡◌, ◌≢◌, ⊤, All, ℕ, ◌+◌, ◌==◌, nat_le, Bool, true, false, if◌then◌else◌, List, [], ◌∷◌, ◌++◌, length, Option, None, Some, Ok, Err, ok_or, slice_get}
 use Rattle.std.specs.Option.{option_map_or}
 use Rattle.schema_core.specs.Schemas.{table_place}
 use Rattle.schema_core.specs.declared.schema.Schema.{Schema}
@@ -11,7 +11,7 @@ use Rattle.edit_log.specs.declared.edit.Edit.TheVariants as edit
 use Rattle.bench_core.specs.Answers.{row_texts}
 use Rattle.bench_core.specs.Edited.{Step, ◌>>=◌, name_of_table, table_of_name}
 use Rattle.bench_core.specs.History.{History, history_edited}
-use Rattle.bench_core.specs.State.{texts_of}
+use Rattle.bench_core.specs.State.{State, texts_of}
 use Rattle.bench_core.specs.declared.edit.Applied.{Applied}
 use Rattle.bench_core.specs.declared.edit.Applied.TheVariants.{Inserted, Changed}
 use Rattle.bench_core.specs.declared.edit.EditFault.TheVariants.{UnknownTable, UnknownRow, Memory}
@@ -54,26 +54,38 @@ row_of_edit edit Changed = named_row edit
 abbrev pub table_of_edit : Book → Edit → ℕ
 table_of_edit rules edit = option_map_or (λ number. number) (table_place rules.schema (name_of_table edit)) 0
 
--- the entry of an accepted edit that leads to the history after it
-abbrev pub entry_of : DeskModel → List ℕ → Option ℕ → ℕ → ℕ → History → Entry
-entry_of desk editor takes table row after = record {
+-- the texts that the row of an edit of the numbered table has before it, which are none where it inserts a row
+abbrev pub before_in : State → ℕ → Edit → Option (List (List ℕ))
+before_in state number (edit.Insert table values) = None
+before_in state number (edit.Set table row attr value) = row_texts state number row
+before_in state number (edit.Delete table row) = row_texts state number row
+before_in state number (edit.Fix table row values) = row_texts state number row
+
+abbrev pub is_delete : Edit → Bool
+is_delete (edit.Insert table values) = false
+is_delete (edit.Set table row attr value) = false
+is_delete (edit.Delete table row) = true
+is_delete (edit.Fix table row values) = false
+
+-- the entry of an edit that is accepted in this state
+abbrev pub entry_in : Book → State → List ℕ → Option ℕ → Edit → ℕ → Entry
+entry_in rules state editor takes edit row = record {
   editor = editor;
-  table = table;
+  table = table_of_edit rules edit;
   row = row;
-  before = row_texts desk.history.present table row;
-  after = row_texts after.present table row;
+  before = before_in state (table_of_edit rules edit) edit;
+  deletes = is_delete edit;
   takes = takes;
 }
 
--- an accepted edit of a row is the next entry
-abbrev pub accepted : DeskModel → List ℕ → Option ℕ → ℕ → ℕ → History → Answer
-accepted desk editor takes table row after =
-    (Done table row (length desk.entries + 1), record desk { history = after; entries = desk.entries ++ entry_of desk editor takes table row after ∷ [] })
+-- an accepted edit is the next entry
+abbrev pub accepted : DeskModel → Entry → History → Answer
+accepted desk entry after = (Done entry.table entry.row (length desk.entries + 1), record desk { history = after; entries = desk.entries ++ entry ∷ [] })
 
 -- the edit is refused, or accepted
 abbrev pub made : DeskModel → List ℕ → Option ℕ → Edit → Step (History × Applied) → Answer
 made desk editor takes edit (Err fault) = (Refused fault, desk)
-made desk editor takes edit (Ok (after, applied)) = accepted desk editor takes (table_of_edit desk.rules edit) (row_of_edit edit applied) after
+made desk editor takes edit (Ok (after, applied)) = accepted desk (entry_in desk.rules desk.history.present editor takes edit (row_of_edit edit applied)) after
 
 -- no edit is accepted where there are `last` entries
 abbrev pub edit_answer : DeskModel → List ℕ → Option ℕ → Edit → Answer
@@ -83,9 +95,9 @@ edit_answer desk editor takes edit =
 -- ---- a row that is named
 
 -- a row by its table's name: the table's number and the row's texts, where both are there
-abbrev pub row_named : DeskModel → List ℕ → ℕ → Step (ℕ × List (List ℕ))
-row_named desk name row = do
-  at ← ok_or (table_of_name desk.rules.schema desk.history.present name) UnknownTable
+abbrev pub row_named : Book → State → List ℕ → ℕ → Step (ℕ × List (List ℕ))
+row_named rules state name row = do
+  at ← ok_or (table_of_name rules.schema state name) UnknownTable
   texts ← ok_or (texts_of at.state row) UnknownRow
   Ok (at.number, texts)
 
@@ -105,15 +117,15 @@ look_answer desk row (Ok (table, texts)) = (Row table (version_of desk.entries t
 abbrev pub table_name : Schema → ℕ → List ℕ
 table_name schema number = option_map_or (λ (t : Table). t.name) (slice_get schema.tables number) []
 
--- what takes back an edit of this row of the named table that went from the one to the other: an insertion is deleted, a
--- change is put back, and what was deleted is inserted as a new row
-abbrev pub opposite_edit : List ℕ → ℕ → Option (List (List ℕ)) → Option (List (List ℕ)) → Edit
-opposite_edit name row None after = edit.Delete name row
-opposite_edit name row (Some texts) (Some now) = edit.Fix name row texts
-opposite_edit name row (Some texts) None = edit.Insert name texts
+-- what takes back an edit of this row of the named table: an insertion is deleted, a change is put back, and what was
+-- deleted is inserted as a new row
+abbrev pub opposite_edit : List ℕ → ℕ → Option (List (List ℕ)) → Bool → Edit
+opposite_edit name row None deletes = edit.Delete name row
+opposite_edit name row (Some texts) false = edit.Fix name row texts
+opposite_edit name row (Some texts) true = edit.Insert name texts
 
 abbrev pub opposite : Schema → Entry → Edit
-opposite schema entry = opposite_edit (table_name schema entry.table) entry.row entry.before entry.after
+opposite schema entry = opposite_edit (table_name schema entry.table) entry.row entry.before entry.deletes
 
 -- The numbered entry is taken back, unless somebody built on it. It is the editor's last live one, if there is one.
 abbrev pub take_back : DeskModel → List ℕ → ℕ → Option Entry → Answer
@@ -130,10 +142,10 @@ take_last_back desk editor = let number = last_live desk.entries editor in take_
 
 abbrev pub act_answer : DeskModel → List ℕ → Act → Answer
 act_answer desk editor (act.Insert table values) = edit_answer desk editor None (edit.Insert table values)
-act_answer desk editor (act.Set table row seen attr value) = edit_seen desk editor row seen (edit.Set table row attr value) (row_named desk table row)
-act_answer desk editor (act.Delete table row seen) = edit_seen desk editor row seen (edit.Delete table row) (row_named desk table row)
+act_answer desk editor (act.Set table row seen attr value) = edit_seen desk editor row seen (edit.Set table row attr value) (row_named desk.rules desk.history.present table row)
+act_answer desk editor (act.Delete table row seen) = edit_seen desk editor row seen (edit.Delete table row) (row_named desk.rules desk.history.present table row)
 act_answer desk editor act.TakeBack = take_last_back desk editor
-act_answer desk editor (act.Look table row) = look_answer desk row (row_named desk table row)
+act_answer desk editor (act.Look table row) = look_answer desk row (row_named desk.rules desk.history.present table row)
 act_answer desk editor act.List = (Lines (listing desk.rules desk.history.present), desk)
 
 -- the reply to an event, and the desk that the event leaves

@@ -1,35 +1,47 @@
 //! A desk and its answers.
 
-ghost use Rattle.std.specs.Prelude.{◌≡◌, ◌≤◌, ◌≢◌, [], All, IfOk, OnErr};
+ghost use Rattle.std.specs.Prelude.{◌≡◌, ◌+◌, ◌≤◌, [], IfOk, OnErr};
 ghost use Rattle.bench_core.specs.Bench.{IsHistory};
-ghost use Rattle.bench_core.specs.declared.edit.EditFault.TheVariants as edit_fault;
-ghost use Rattle.desk_state.specs.Desk.{AreTold, IsAnswer};
-ghost use Rattle.desk_state.specs.Probes.{IsWithin};
+ghost use Rattle.bench_core.specs.Indexed.{edit_probes};
+ghost use Rattle.desk_entries.specs.Entries.{entry_at, last_live};
+ghost use Rattle.desk_entries.specs.Kept.{MayTake};
+ghost use Rattle.desk_state.specs.Desk.{AreTold, IsAnswer, act_answer, edit_answer, edit_seen, look_answer, row_named, take_last_back};
+ghost use Rattle.desk_state.specs.Probes.{IsWithin, back_probes};
 
-use desk_entries::Entries;
+use crate::making::{new_entry, opposite, row_of_edit};
 use crate::reply::Reply;
-use bench_core::Bench;
-use desk_events::Event;
+use crate::rows::{find_row, texts_of};
+use bench_core::{Bench, EditFault};
+use desk_entries::{Entries, NewEntry};
+use desk_events::{Act, Event};
+use edit_log::Edit;
 use probe_steps::Steps;
+use row_store::RowId;
+use schema_core::Text;
 use std::alloc::{AllocError, Global};
 use std::marker::Model;
 use std::sync::ledger::Ledger;
+use violation_report::list;
 
 /// A bench on which several editors work, with an entry for each edit that was accepted since it was opened. Clauses see
 /// the rules, limits and history of the bench, the entries, and the most entries that there may be.
 #[derive(Drop)]
 pub struct Desk {
+    alloc: Global,
     bench: Bench,
     entries: Entries,
     last: u64,
 }
 
 impl Model for Desk {
+    ghost use Rattle.std.specs.Prelude.{◌≤◌};
     ghost use Rattle.desk_state.specs.Desk.{DeskModel};
 
     ghost Value = { DeskModel };
 
     ghost view = { λ d. record { rules = d.bench.rules; limits = d.bench.limits; last = d.last; history = d.bench.history; entries = d.entries.entries } };
+
+    ghost invariant = { λ d. d.last ≤ 999_999_999_999 };
 }
 
 impl Desk {
@@ -41,6 +53,7 @@ impl Desk {
         ensures no_entries { result.entries ≡ [] }
     {
         Desk {
+            alloc,
             bench,
             entries: Entries::new(alloc),
             last,
@@ -62,8 +75,162 @@ impl Desk {
         // A refusal tells what is wrong with the edit, and the lines are those of rules that are there.
         ensures told { IfOk result (AreTold self.new.rules) }
     {
+        let reply = self.reply(&event.editor, &event.act, steps);
         let _valid = self.bench.rules();
-        Err(AllocError)
+        reply
+    }
+
+    /// Answers an act of an editor.
+    fn reply<L: Ledger>(
+        &mut self,
+        editor: &Text,
+        act: &Act,
+        steps: &mut Steps<L>,
+    ) -> Result<Reply, AllocError>
+        ensures ok { IfOk result (λ reply. act_answer self.old editor.now act.now ≡ (reply, self.new)) }
+        ensures memory { OnErr result (self.new ≡ self.old) }
+        ensures made_with { (self.new.rules ≡ self.old.rules) × (self.new.limits ≡ self.old.limits) × (self.new.last ≡ self.old.last) }
+        ensures probes { IsWithin self.old editor.now act.now steps.old steps.new }
+        ensures told { IfOk result (AreTold self.new.rules) }
+    {
+        match act {
+            Act::Insert { table, values } => {
+                let edit = Edit::Insert {
+                    table: table.clone()?,
+                    values: values.copied()?,
+                };
+                self.edit(editor, None, &edit, steps)
+            }
+            Act::Set {
+                table,
+                row,
+                seen,
+                attr,
+                value,
+            } => {
+                let edit = Edit::Set {
+                    table: table.clone()?,
+                    row: *row,
+                    attr: attr.clone()?,
+                    value: value.clone()?,
+                };
+                self.edit_seen(editor, table, *row, *seen, &edit, steps)
+            }
+            Act::Delete { table, row, seen } => {
+                let edit = Edit::Delete {
+                    table: table.clone()?,
+                    row: *row,
+                };
+                self.edit_seen(editor, table, *row, *seen, &edit, steps)
+            }
+            Act::TakeBack => self.take_back(editor, steps),
+            Act::Look { table, row } => self.look(table, *row),
+            Act::List => Ok(Reply::Lines(list(self.alloc, &self.bench, steps)?)),
+        }
+    }
+
+    /// Makes an edit as the next entry, unless all numbers are spent. All that may want memory comes before the edit.
+    fn edit<L: Ledger>(
+        &mut self,
+        editor: &Text,
+        takes: Option<usize>,
+        edit: &Edit,
+        steps: &mut Steps<L>,
+    ) -> Result<Reply, AllocError>
+        requires may { MayTake self.old.entries editor.now takes }
+        ensures ok { IfOk result (λ reply. edit_answer self.old editor.now takes edit.now ≡ (reply, self.new)) }
+        ensures memory { OnErr result (self.new ≡ self.old) }
+        ensures made_with { (self.new.rules ≡ self.old.rules) × (self.new.limits ≡ self.old.limits) × (self.new.last ≡ self.old.last) }
+        ensures probes { steps.new ≤ steps.old + edit_probes self.old.rules edit.now }
+        ensures told { IfOk result (AreTold self.new.rules) }
+    {
+        let count = self.entries.len() as u64;
+        if count >= self.last {
+            return Ok(Reply::EditsSpent);
+        }
+        let entry = new_entry(self.alloc, &self.bench, editor, takes, edit)?;
+        let editor = editor.clone()?;
+        self.entries.ready()?;
+        match self.bench.apply(edit, steps) {
+            Ok(applied) => {
+                let row = row_of_edit(edit, applied);
+                let table = entry.table;
+                self.entries.push(NewEntry { row, ..entry }, editor);
+                Ok(Reply::Done {
+                    table,
+                    row,
+                    version: count + 1,
+                })
+            }
+            Err(EditFault::Memory) => Err(AllocError),
+            Err(fault) => Ok(Reply::Refused(fault)),
+        }
+    }
+
+    /// Makes an edit of a row that was seen in a version, which must be its present one.
+    fn edit_seen<L: Ledger>(
+        &mut self,
+        editor: &Text,
+        table: &Text,
+        row: RowId,
+        seen: u64,
+        edit: &Edit,
+        steps: &mut Steps<L>,
+    ) -> Result<Reply, AllocError>
+        ensures ok { IfOk result (λ reply. edit_seen self.old editor.now row seen edit.now (row_named self.old.rules self.old.history.present table.now row) ≡ (reply, self.new)) }
+        ensures memory { OnErr result (self.new ≡ self.old) }
+        ensures made_with { (self.new.rules ≡ self.old.rules) × (self.new.limits ≡ self.old.limits) × (self.new.last ≡ self.old.last) }
+        ensures probes { steps.new ≤ steps.old + edit_probes self.old.rules edit.now }
+        ensures told { IfOk result (AreTold self.new.rules) }
+    {
+        let number = match find_row(&self.bench, table, row) {
+            Ok(at) => at.table,
+            Err(fault) => return Ok(Reply::Refused(fault)),
+        };
+        let version = self.entries.version(number, row) as u64;
+        if seen != version {
+            return Ok(Reply::Stale { version });
+        }
+        self.edit(editor, None, edit, steps)
+    }
+
+    /// Takes back the editor's last entry that still stands.
+    fn take_back<L: Ledger>(
+        &mut self,
+        editor: &Text,
+        steps: &mut Steps<L>,
+    ) -> Result<Reply, AllocError>
+        ensures ok { IfOk result (λ reply. take_last_back self.old editor.now ≡ (reply, self.new)) }
+        ensures memory { OnErr result (self.new ≡ self.old) }
+        ensures made_with { (self.new.rules ≡ self.old.rules) × (self.new.limits ≡ self.old.limits) × (self.new.last ≡ self.old.last) }
+        ensures probes { steps.new ≤ steps.old + back_probes self.old.rules (entry_at self.old.entries (last_live self.old.entries editor.now)) }
+        ensures told { IfOk result (AreTold self.new.rules) }
+    {
+        let number = self.entries.last_live(editor);
+        let Some(kept) = self.entries.entry(number) else {
+            return Ok(Reply::NothingToTakeBack);
+        };
+        if self.entries.is_overtaken(number, kept) {
+            let version = self.entries.version(kept.entry.table, kept.entry.row) as u64;
+            return Ok(Reply::Overtaken { version });
+        }
+        let edit = opposite(self.alloc, self.bench.rules(), &kept.entry)?;
+        self.edit(editor, Some(number), &edit, steps)
+    }
+
+    /// The row with its version.
+    fn look(&self, table: &Text, row: RowId) -> Result<Reply, AllocError>
+        ensures ok { IfOk result (λ reply. look_answer self.now row (row_named self.now.rules self.now.history.present table.now row) ≡ (reply, self.now)) }
+        ensures told { IfOk result (AreTold self.now.rules) }
+    {
+        match find_row(&self.bench, table, row) {
+            Ok(at) => Ok(Reply::Row {
+                table: at.table,
+                version: self.entries.version(at.table, row) as u64,
+                values: texts_of(self.alloc, self.bench.pool(), at.tuple)?,
+            }),
+            Err(fault) => Ok(Reply::Refused(fault)),
+        }
     }
 
     pub fn bench(&self) -> &Bench

@@ -3,7 +3,9 @@
 #![tactic(auto)]
 
 mod desk;
+mod making;
 mod reply;
+mod rows;
 
 pub use desk::Desk;
 pub use reply::Reply;

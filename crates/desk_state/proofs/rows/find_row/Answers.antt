@@ -1,0 +1,26 @@
+use Rattle.std.proofs.Common.{refl, sym}
+use Rattle.std.proofs.lemmas.Slice.Zip.{AllZip-long}
+use Rattle.row_store.specs.Tuple.{ids_of}
+use Rattle.bench_core.specs.Stored.{stored, table_state}
+use Rattle.bench_core.proofs.Planned.{have-texts, texts-absent, texts-there}
+use Rattle.desk_state.proofs.RowFound.{row-known, row-unknown}
+use Rattle.desk_state.proofs.rows.find_row.Goals as goal
+
+pub store-requires : goal.store-requires
+store-requires c =
+    let within = rw (c.schema.ensures.schema, c.rules.ensures.value) at c.in-Some.ensures.found.0 in
+    rw (AllZip-long _ _ _ c.rules.ensures.valid.present.tables) within
+
+pub returns-in-Some-get-clause-there : goal.returns-in-Some-get-clause-there
+returns-in-Some-get-clause-there c =
+    let bench = c.args.bench.now in
+    let within = rw (c.schema.ensures.schema, c.rules.ensures.value) at c.in-Some.ensures.found.0 in
+    let place = rw (c.schema.ensures.schema, c.rules.ensures.value, c.as_str.ensures.bytes) at (sym c.in-Some.ensures.place) in
+    let store = stored c.store.result.now in
+    let ids = ids_of c.in-Some-get.tuple.now in
+    row-known bench.rules bench.history.present c.args.table.now c.args.row c.in-Some.number (table_state bench.texts store) place within c.store.ensures.state _ (texts-there bench.texts store c.args.row ids (sym c.in-Some-get.ensures))
+
+pub returns-in-Some-get-clause-named : goal.returns-in-Some-get-clause-named
+returns-in-Some-get-clause-named c =
+    let bench = c.args.bench.now in
+    have-texts bench.texts (stored c.store.result.now) c.args.row (ids_of c.in-Some-get.tuple.now) c.store.ensures.texts (sym c.in-Some-get.ensures)

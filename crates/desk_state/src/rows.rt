@@ -1,0 +1,69 @@
+//! Rows of a bench, by the names of their tables or by numbers, with their texts.
+
+ghost use Rattle.std.specs.Prelude.{◌≡◌, ◌≢◌, Err, Ok, map, IfErr, IfOk};
+ghost use Rattle.bench_core.specs.Answers.{row_texts};
+ghost use Rattle.bench_core.specs.Stored.{HaveTexts, text_of};
+ghost use Rattle.bench_core.specs.declared.edit.EditFault.TheVariants as edit_fault;
+ghost use Rattle.desk_state.specs.Desk.{row_named};
+ghost use Rattle.row_store.specs.Tuple.{ids_of};
+
+use bench_core::{Bench, EditFault};
+use row_store::{RowId, Tuple};
+use schema_core::{List, Text, Texts};
+use std::alloc::{AllocError, Global};
+use value_pool::Pool;
+
+/// A row that is there.
+#[derive(Clone, Copy)]
+pub(crate) struct RowAt<'a> {
+    pub table: usize,
+    pub tuple: &'a Tuple,
+}
+
+/// The row by the name of its table and its id.
+pub(crate) fn find_row<'a>(bench: &'a Bench, table: &Text, row: RowId) -> Result<RowAt<'a>, EditFault>
+    ensures there { IfOk result (λ at. row_named bench.now.rules bench.now.history.present table.now row ≡ Ok (at.table, map (text_of bench.now.texts) (ids_of at.tuple.now))) }
+    ensures named { IfOk result (λ at. HaveTexts bench.now.texts (ids_of at.tuple.now)) }
+    ensures refused { IfErr result (λ fault. (row_named bench.now.rules bench.now.history.present table.now row ≡ Err fault) × (fault ≢ edit_fault.Memory)) }
+{
+    let Some(number) = bench.rules().schema().table_named(table.as_str()) else {
+        return Err(EditFault::UnknownTable);
+    };
+    match bench.store(number).get(row) {
+        Some(tuple) => Ok(RowAt {
+            table: number,
+            tuple,
+        }),
+        None => Err(EditFault::UnknownRow),
+    }
+}
+
+/// The texts of a row of a numbered table, where both are there.
+pub(crate) fn row_texts(
+    alloc: Global,
+    bench: &Bench,
+    table: usize,
+    row: RowId,
+) -> Result<Option<Texts>, AllocError>
+    ensures { IfOk result (λ texts. texts ≡ row_texts bench.now.history.present table row) }
+{
+    if table >= bench.rules().schema().tables.as_slice().len() {
+        return Ok(None);
+    }
+    match bench.store(table).get(row) {
+        Some(tuple) => Ok(Some(texts_of(alloc, bench.pool(), tuple)?)),
+        None => Ok(None),
+    }
+}
+
+/// The texts of a tuple.
+pub(crate) fn texts_of(alloc: Global, pool: &Pool, tuple: &Tuple) -> Result<Texts, AllocError>
+    requires { HaveTexts pool.now (ids_of tuple.now) }
+    ensures { IfOk result (λ texts. texts ≡ map (text_of pool.now) (ids_of tuple.now)) }
+{
+    let mut texts = List::new(alloc);
+    for id in tuple.as_slice() {
+        texts.push(Text::new(alloc, pool.text(*id))?)?;
+    }
+    Ok(texts)
+}
