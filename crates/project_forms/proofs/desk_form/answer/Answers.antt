@@ -38,13 +38,13 @@ told most desk status sink sink_after ends =
 pub returns-in-Ok : goal.returns-in-Ok
 returns-in-Ok g c =
     let files = read_of c.args.files in
-    let start = c.open.result in
+    let start = c.open-desk.result in
     let last = c.serve_desk.new.desk in
-    let is = is_opened start c.args.last files.tables c.open.ensures.bench.0 c.open.ensures.bench.1 c.open.ensures.bench.2 c.open.ensures.last c.open.ensures.no_entries in
+    let is = is_opened start c.args.last files.tables c.open-desk.ensures.bench.0 c.open-desk.ensures.bench.1 c.open-desk.ensures.bench.2 c.open-desk.ensures.last c.open-desk.ensures.no_entries in
     let before = g.O.Sink.told c.args.out.now in
     let after = g.O.Sink.told c.serve_desk.new.out in
     let all = subst (λ (d : DeskModel). Answers IsReply d files.events last before.written after.written) is c.in-Ok.ensures.ok in
-    let rules : c.bench.result.now.rules ≡ files.tables.rules = c.bench.ensures.bench.0 ∙ c.serve_desk.ensures.made_with.0 ∙ c.open.ensures.bench.0 in
+    let rules : c.bench.result.now.rules ≡ files.tables.rules = c.bench.ensures.bench.0 ∙ c.serve_desk.ensures.made_with.0 ∙ c.open-desk.ensures.bench.0 in
     let history : c.bench.result.now.history ≡ last.history = c.bench.ensures.bench.2 in
     let status = subst (λ (h : History). HasStatus (listing files.tables.rules h.present) c.status_of.result) history (subst (λ (r : Book). HasStatus (listing r c.bench.result.now.history.present) c.status_of.result) rules c.status_of.ensures) in
     told c.args.last files c.status_of.result before after
@@ -54,7 +54,7 @@ pub returns-in-Err-WriteFault : goal.returns-in-Err-WriteFault
 returns-in-Err-WriteFault g c =
     let files = read_of c.args.files in
     let last = c.serve_desk.new.desk in
-    let is = is_opened c.open.result c.args.last files.tables c.open.ensures.bench.0 c.open.ensures.bench.1 c.open.ensures.bench.2 c.open.ensures.last c.open.ensures.no_entries in
+    let is = is_opened c.open-desk.result c.args.last files.tables c.open-desk.ensures.bench.0 c.open-desk.ensures.bench.1 c.open-desk.ensures.bench.2 c.open-desk.ensures.last c.open-desk.ensures.no_entries in
     let before = g.O.Sink.told c.args.out.now in
     let after = g.O.Sink.told c.serve_desk.new.out in
     let front = subst (λ (d : DeskModel). AnswersFront IsReply d files.events last before.written after.written) is c.in-Err-WriteFault.ensures.fault in
@@ -65,7 +65,7 @@ pub returns : goal.returns
 returns g c =
     let files = read_of c.args.files in
     let last = c.serve_desk.new.desk in
-    let is = is_opened c.open.result c.args.last files.tables c.open.ensures.bench.0 c.open.ensures.bench.1 c.open.ensures.bench.2 c.open.ensures.last c.open.ensures.no_entries in
+    let is = is_opened c.open-desk.result c.args.last files.tables c.open-desk.ensures.bench.0 c.open-desk.ensures.bench.1 c.open-desk.ensures.bench.2 c.open-desk.ensures.last c.open-desk.ensures.no_entries in
     let before = g.O.Sink.told c.args.out.now in
     let after = g.O.Sink.told c.serve_desk.new.out in
     let front = subst (λ (d : DeskModel). AnswersFront IsReply d files.events last before.written after.written) is c.in-Err-Memory.ensures.fault in
