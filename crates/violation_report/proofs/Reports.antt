@@ -3,12 +3,12 @@ use Rattle.std.proofs.Common.{◌≡◌, ℕ, ◌+◌, ◌<◌, Bool, true, fals
 use Rattle.std.specs.Prelude.{decimal}
 use Rattle.std.specs.List.{concat}
 use Rattle.std.proofs.lemmas.List.{append_assoc, drop_more}
-use Rattle.serde_json.specs.Data.{Data, string}
+use Rattle.serde_json.specs.Data.{string}
 use Rattle.serde_json.specs.View.{items_of}
 use Rattle.serde_json.specs.Written.{comma_if, compact_text, items_text}
 use Rattle.serde_json.proofs.OnLiterals.{serde_json_on_literals}
 use Rattle.rule_model.specs.Books.{Book}
-use Rattle.violation_report.specs.Report.{line_data, lines_data, report_text}
+use Rattle.violation_report.specs.Report.{line_data, report_text}
 use Rattle.violation_report.specs.Text.{dep_name, dep_attr, dep_table, cind_name, cind_table}
 use Rattle.violation_report.specs.declared.line.Line.{Line}
 use Rattle.violation_report.specs.declared.line.Line.TheVariants.{Single, Pair, Orphan}

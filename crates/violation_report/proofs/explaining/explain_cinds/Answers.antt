@@ -1,4 +1,4 @@
-use Rattle.std.proofs.Common.{◌≡◌, ◌<◌, ◌≤◌, ◌++◌, ◌∙◌, sym, ap, length, map, take, filter}
+use Rattle.std.proofs.Common.{◌<◌, ◌≤◌, ◌++◌, ◌∙◌, sym, ap, length, map, take, filter}
 use Rattle.std.proofs.lemmas.List.{append_assoc, take_all}
 use Rattle.cfd_semantics.specs.Numbered.{numbered}
 use Rattle.rule_model.specs.Books.{book_cinds}

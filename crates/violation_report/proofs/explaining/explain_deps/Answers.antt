@@ -1,4 +1,4 @@
-use Rattle.std.proofs.Common.{◌≡◌, ◌<◌, ◌≤◌, ◌++◌, ◌∙◌, sym, ap, length, filter}
+use Rattle.std.proofs.Common.{◌<◌, ◌≤◌, ◌++◌, ◌∙◌, sym, ap, length, filter}
 use Rattle.std.proofs.lemmas.List.{take_all}
 use Rattle.rule_model.specs.Books.{book_deps}
 use Rattle.bench_core.specs.Answers.{violations_at}

@@ -1,8 +1,7 @@
-use Rattle.std.proofs.Common.{◌≡◌, ◌<◌, ◌≤◌, ◌++◌, ◌∙◌, sym, ap, length, map, take}
-use Rattle.std.proofs.lemmas.List.{append_assoc, take_all}
-use Rattle.cfd_semantics.specs.Numbered.{numbered}
+use Rattle.std.proofs.Common.{◌<◌, ◌≤◌, ◌++◌, ◌∙◌, sym, ap, length, map}
+use Rattle.std.proofs.lemmas.List.{take_all}
 use Rattle.rule_model.specs.Books.{book_deps}
-use Rattle.bench_core.specs.Answers.{dep_violations, violations_at}
+use Rattle.bench_core.specs.Answers.{violations_at}
 use Rattle.violation_report.specs.Listing.{dep_line}
 use Rattle.violation_report.proofs.Loops.{dep-lines-more}
 use Rattle.bench_core.specs.DirtyCounts.{dep_walk}
