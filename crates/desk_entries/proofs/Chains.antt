@@ -1,6 +1,6 @@
 -- Chains of numbers: what becomes of one where the last number that counts doesn't count any more, and where another
 -- number comes.
-use Rattle.std.proofs.Common.{◌≡◌, ℕ, zero, suc, ◌+◌, ◌<◌, ◌≤◌, ◌⊎◌, inl, inr, ◌&&◌, Bool, true, false, refl, sym, ◌∙◌, ap, arith, true≢false}
+use Rattle.std.proofs.Common.{◌≡◌, ℕ, suc, ◌≤◌, ◌⊎◌, inl, inr, ◌&&◌, Bool, true, false, refl, sym, ◌∙◌, ap, arith, true≢false}
 use Rattle.std.proofs.lemmas.Bool.{cases_eq}
 use Rattle.desk_entries.specs.Numbers.{last_up_to}
 use Rattle.desk_entries.specs.Kept.{IsChain}

@@ -1,5 +1,5 @@
 -- The last number that passes a test, where one more number is asked and where the test changes.
-use Rattle.std.proofs.Common.{◌≡◌, ℕ, zero, suc, ◌+◌, ◌<◌, ◌≤◌, ◌⊎◌, inl, inr, Bool, true, false, refl, sym, ◌∙◌, ap, arith, true≢false}
+use Rattle.std.proofs.Common.{◌≡◌, ℕ, zero, suc, ◌<◌, ◌≤◌, ◌⊎◌, inl, inr, Bool, true, false, refl, sym, ◌∙◌, ap, arith, true≢false}
 use Rattle.std.proofs.lemmas.Bool.{cases_eq}
 use Rattle.desk_entries.specs.Numbers.{last_up_to}
 
@@ -36,9 +36,11 @@ last-above t (suc n) k above within = by (last-above t n k) (t (suc n)) refl
   where
     Lower : Type 0
     Lower = last_up_to t n < suc k → suc k ≤ n → t (suc k) ≡ false
+
     at : Lower → t (suc n) ≡ false → last_up_to t n < suc k → (k ≡ n) ⊎ (k ≡ n → ⊥) → t (suc k) ≡ false
     at r h low (inl e) = rw e h
     at r h low (inr ne) = r low (omega arith)
+
     by : Lower → (b : Bool) → t (suc n) ≡ b → t (suc k) ≡ false
     by r true h = let low : suc n < suc k = rw (last-hit t n h) at above in absurd (omega arith)
     by r false h = at r h (rw (last-miss t n h) at above) (cases_eq k n)
@@ -50,9 +52,11 @@ last-reaches t (suc n) k h within = by (last-reaches t n k h) (t (suc n)) refl
   where
     Lower : Type 0
     Lower = suc k ≤ n → suc k ≤ last_up_to t n
+
     at : Lower → t (suc n) ≡ false → (k ≡ n) ⊎ (k ≡ n → ⊥) → suc k ≤ last_up_to t n
     at r miss (inl e) = let h2 : t (suc n) ≡ true = rw (sym e) h in absurd (true≢false (sym h2 ∙ miss))
     at r miss (inr ne) = r (omega arith)
+
     by : Lower → (b : Bool) → t (suc n) ≡ b → suc k ≤ last_up_to t (suc n)
     by r true e = rw (last-hit t n e) within
     by r false e = rw (last-miss t n e) (at r e (cases_eq k n))

@@ -1,20 +1,16 @@
 -- What is kept beside the entries is right again, once one is taken back and another one is appended.
-use Rattle.std.proofs.Common.{◌≡◌, ℕ, zero, suc, ◌+◌, ◌<◌, ◌≤◌, ◌⊎◌, ◌==◌, nat_lt, inl, inr, ◌&&◌, ◌||◌, not, Bool, true, false, List, [], ◌∷◌, ◌++◌, All, length, Option, Some, None, option_map, is_none, if◌then◌else◌, slice_get, refl, sym, ◌∙◌, ap, subst, arith, true≢false}
-use Rattle.std.proofs.lemmas.Option.{slice_get-map, slice_get_within}
-use Rattle.std.proofs.Math.Bool.{and-false, and-true}
-use Rattle.std.proofs.lemmas.Bool.{ne_eqb, cases_eq, ltb-false}
-use Rattle.std.proofs.lemmas.Slice.Eq.{bytes_eq-Decides}
+use Rattle.std.proofs.Common.{◌≡◌, ℕ, zero, suc, ◌-◌, ◌<◌, ◌≤◌, ◌==◌, ◌&&◌, not, Bool, true, false, List, [], ◌∷◌, ◌++◌, length, Some, None, option_map, is_none, if◌then◌else◌, slice_get, get_or, refl, sym, ◌∙◌, ap, subst, arith, true≢false}
+use Rattle.std.proofs.lemmas.Option.{none-some, same_Some, slice_get-get_or, slice_get_within}
+use Rattle.std.proofs.Math.Bool.{and-true}
 use Rattle.std.specs.Option.{option_map_or, IfSome}
 use Rattle.std.specs.Str.{bytes_eq}
 use Rattle.desk_entries.specs.declared.entries.Kept.{Kept}
 use Rattle.desk_entries.specs.declared.entries.NewEntry.{NewEntry}
 use Rattle.desk_entries.specs.declared.entries.RowTops.{RowTops}
-use Rattle.desk_entries.specs.Numbers.{last_up_to}
-use Rattle.desk_entries.specs.Entries.{Entry, entry_at, entry_is, is_by, is_deletion, is_firm, is_firm_on, is_live, is_live_of, is_on, is_overtaken, last_live, takes_none}
-use Rattle.desk_entries.specs.Kept.{AreRowsTied, IsChain, IsTied, MayTake, RowKey, TakeWithin, by_editor, entries_kept, entry_kept, entry_new, firm_below, is_held, is_live_but, kept_new, live_below, on_row, same_row, tops_noted}
-use Rattle.desk_entries.proofs.Numbers.{last-within, last-passes, last-reaches}
-use Rattle.desk_entries.proofs.Chains.{counted, chain-pushed, chain-retired, chain-same}
-use Rattle.desk_entries.proofs.Tied.{below-new, below-old, entries-length, entries-push, entry_is-new, entry_is-old, length-snoc, live-new, live-old, rows-noted, same-bytes, take-within}
+use Rattle.desk_entries.specs.Entries.{Entry, is_by, is_deletion, is_live, is_overtaken, last_live}
+use Rattle.desk_entries.specs.Kept.{AreRowsTied, IsChain, IsTied, MayTake, RowKey, TakeWithin, by_editor, entries_kept, entry_kept, entry_new, is_live_but, kept_new, live_below, same_row, tops_noted}
+use Rattle.desk_entries.proofs.Chains.{chain-pushed}
+use Rattle.desk_entries.proofs.Tied.{below-new, below-old, entries-length, entry-kept, entries-push, entry_is-new, entry_is-old, length-snoc, live-new, live-old, rows-noted, same-bytes, take-within}
 use Rattle.desk_entries.proofs.Retired.{retired}
 
 -- ---- another entry is appended
@@ -35,8 +31,10 @@ module _ (list : List Kept) (new : NewEntry) (alive : ℕ → Bool) (live next :
     (is : (key : RowKey) → rows1 key ≡ (if same_row (new.table, new.row) key then tops_noted new (suc (length list)) (rows key) else rows key)) where
   abbrev es : List Entry
   es = entries_kept list
+
   abbrev e : Entry
   e = entry_new new
+
   abbrev k : Kept
   k = kept_new new lb (rows (new.table, new.row)).firm
 
@@ -129,3 +127,40 @@ module _ (list : List Kept) (new : NewEntry) (k : ℕ) (tk : Kept) (live next : 
   pub pushed-some : IsTied (is_live (entries_kept (list ++ kept_new new lb (rows1 (new.table, new.row)).firm ∷ []))) (list ++ kept_new new lb (rows1 (new.table, new.row)).firm ∷ []) next rows2 × TakeWithin (entries_kept (list ++ kept_new new lb (rows1 (new.table, new.row)).firm ∷ []))
   pushed-some = pushed list new (is_live_but (entries_kept list) (suc k)) next next rows1 rows2 lb some-tied.live some-tied.rows within own-some some-old
       (λ q same t. absurd (true≢false (sym t ∙ some-takes))) (λ q gone. refl) is
+
+-- ---- the two, as they are read off a call
+
+abbrev IsKeptBy : (List ℕ → ℕ) → (RowKey → RowTops) → List Kept → Type 0
+IsKeptBy next rows list = IsTied (is_live (entries_kept list)) list next rows × TakeWithin (entries_kept list)
+
+module _ (list after : List Kept) (new : NewEntry) (editor : List ℕ) (live next : List ℕ → ℕ) (rows rows1 rows2 : RowKey → RowTops) (lb : ℕ)
+    (tied : IsTied (is_live (entries_kept list)) list live rows) (within : TakeWithin (entries_kept list)) (same-editor : editor ≡ new.editor) (below : lb ≡ live editor)
+    (is : (key : RowKey) → rows2 key ≡ (if same_row (new.table, new.row) key then tops_noted new (suc (length list)) (rows1 key) else rows1 key))
+    (is-after : after ≡ list ++ kept_new new lb (rows1 (new.table, new.row)).firm ∷ []) where
+  pub after-none : (number : ℕ) → new.takes ≡ None → number ≡ suc (length list) → ((q : List ℕ) → next q ≡ (if bytes_eq editor q then number else live q)) → rows1 ≡ rows → IsKeptBy next rows2 after
+  after-none number none is-number of_editor same-rows =
+      subst (IsKeptBy next rows2) (sym is-after)
+      (pushed-none list new live next rows1 rows2 lb number (subst (λ r. IsTied (is_live (entries_kept list)) list live r) (sym same-rows) tied) within none is-number
+      (λ q. of_editor q ∙ ap (λ e. if bytes_eq e q then number else live q) same-editor) (below ∙ ap live same-editor) is)
+
+  some-at : (k : ℕ) (tk : Kept) → new.takes ≡ Some (suc k) → suc k ≡ last_live (entries_kept list) new.editor → slice_get list k ≡ Some tk → is_overtaken (entries_kept list) (suc k) (entry_kept tk) ≡ false
+      → ((q : List ℕ) → next q ≡ (if bytes_eq editor q then tk.live_below else live q))
+      → ((q : RowKey) → rows1 q ≡ (if not (is_deletion (entry_kept tk)) && same_row (tk.entry.table, tk.entry.row) q then record { version = (rows q).version; firm = tk.firm_below } else rows q))
+      → IsKeptBy next rows2 after
+  some-at k tk takes last at free of_editor of_row =
+      subst (IsKeptBy next rows2) (sym is-after)
+      (pushed-some list new k tk live next rows rows1 rows2 lb tied within takes last at free
+      (λ q. of_editor q ∙ ap (λ e. if bytes_eq e q then tk.live_below else live q) same-editor) of_row is)
+
+  pub after-some : (taken : ℕ) (tk : Kept) → new.takes ≡ Some taken → MayTake (entries_kept list) new.editor (Some taken) → tk ≡ get_or list (taken - 1) tk
+      → ((q : List ℕ) → next q ≡ (if bytes_eq editor q then tk.live_below else live q))
+      → ((q : RowKey) → rows1 q ≡ (if not (is_deletion (entry_kept tk)) && same_row (tk.entry.table, tk.entry.row) q then record { version = (rows q).version; firm = tk.firm_below } else rows q))
+      → IsKeptBy next rows2 after
+  after-some zero tk takes may read of_editor of_row = absurd (none-some may.1 may.2)
+  after-some (suc k) tk takes may read of_editor of_row =
+      let short : k < length list = subst (λ n. k < n) (entries-length list) (slice_get_within (entries_kept list) k may.1 may.2) in
+      let one : suc k - 1 ≡ k = omega arith in
+      let at : slice_get list k ≡ Some tk = slice_get-get_or list k tk short ∙ ap Some (sym (subst (λ n. tk ≡ get_or list n tk) one read)) in
+      let there : Some may.1 ≡ Some (entry_kept tk) = sym may.2 ∙ entry-kept list k (suc k) refl ∙ ap (option_map entry_kept) at in
+      let free : is_overtaken (entries_kept list) (suc k) (entry_kept tk) ≡ false = subst (λ e. is_overtaken (entries_kept list) (suc k) e ≡ false) (same_Some may.1 (entry_kept tk) there) may.3 in
+      some-at k tk takes may.0 at free of_editor of_row

@@ -1,5 +1,5 @@
 -- What is kept beside the entries, once the editor's last live entry is taken back, on which nobody built.
-use Rattle.std.proofs.Common.{◌≡◌, ℕ, zero, suc, ◌+◌, ◌<◌, ◌≤◌, ◌⊎◌, ◌==◌, nat_lt, inl, inr, ◌&&◌, ◌||◌, not, Bool, true, false, List, length, Some, option_map, if◌then◌else◌, slice_get, refl, sym, ◌∙◌, ap, arith, true≢false}
+use Rattle.std.proofs.Common.{◌≡◌, ℕ, suc, ◌≤◌, ◌⊎◌, inl, inr, ◌&&◌, ◌||◌, not, Bool, true, false, List, length, Some, option_map, if◌then◌else◌, slice_get, refl, sym, ◌∙◌, ap, arith, true≢false}
 use Rattle.std.proofs.lemmas.Option.{slice_get-map, slice_get_within}
 use Rattle.std.proofs.Math.Bool.{and-false, and-true}
 use Rattle.std.proofs.lemmas.Bool.{ne_eqb, eq-eqb, cases_eq, ltb-false}
@@ -28,12 +28,16 @@ module _ (list : List Kept) (editor : List ℕ) (k : ℕ) (tk : Kept) (live live
     (of_row : (q : RowKey) → rows1 q ≡ (if not (is_deletion (entry_kept tk)) && same_row (tk.entry.table, tk.entry.row) q then record { version = (rows q).version; firm = tk.firm_below } else rows q)) where
   abbrev es : List Entry
   es = entries_kept list
+
   abbrev len : ℕ
   len = length (entries_kept list)
+
   abbrev alive : ℕ → Bool
   alive = is_live_but (entries_kept list) (suc k)
+
   abbrev te : Entry
   te = entry_kept tk
+
   abbrev on : RowKey
   on = (tk.entry.table, tk.entry.row)
 

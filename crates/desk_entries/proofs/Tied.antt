@@ -1,9 +1,9 @@
 -- What is kept beside the entries, where one is taken back and where another one comes.
-use Rattle.std.proofs.Common.{◌≡◌, ℕ, zero, suc, ◌+◌, ◌-◌, ◌<◌, ◌≤◌, ◌⊎◌, ◌==◌, inl, inr, ◌&&◌, ◌||◌, not, Bool, true, false, List, [], ◌∷◌, ◌++◌, All, length, map, Option, Some, None, option_map, is_none, nat_eq, if◌then◌else◌, slice_get, refl, sym, ◌∙◌, ap, subst, arith, true≢false}
-use Rattle.std.proofs.lemmas.Option.{slice_get-map, slice_get_within}
+use Rattle.std.proofs.Common.{◌≡◌, ℕ, zero, suc, ◌<◌, ◌≤◌, ◌==◌, ◌&&◌, ◌||◌, not, Bool, true, false, List, [], ◌∷◌, ◌++◌, All, length, Option, Some, None, option_map, is_none, nat_eq, if◌then◌else◌, slice_get, refl, sym, ◌∙◌, ap, subst, arith, true≢false}
+use Rattle.std.proofs.lemmas.Option.{slice_get-map}
 use Rattle.std.proofs.lemmas.List.{length-map}
-use Rattle.std.proofs.Math.Bool.{and-false, and-true, or-false}
-use Rattle.std.proofs.lemmas.Bool.{ne_eqb, cases_eq, eqb-true}
+use Rattle.std.proofs.Math.Bool.{and-true, or-false}
+use Rattle.std.proofs.lemmas.Bool.{ne_eqb, eqb-true}
 use Rattle.std.proofs.lemmas.Slice.Eq.{bytes_eq-Decides}
 use Rattle.std.specs.Str.{bytes_eq}
 use Rattle.std.proofs.lemmas.List.Elements.{All-head, All-tail, All-push, All-weaker}
@@ -11,11 +11,11 @@ use Rattle.std.specs.Option.{option_map_or, IfSome}
 use Rattle.std.specs.List.{list_any}
 use Rattle.std.proofs.lemmas.List.Folds.{list_any-append}
 use Rattle.desk_entries.specs.declared.entries.Kept.{Kept}
-use Rattle.desk_entries.specs.Entries.{Entry, entry_at, entry_is, is_by, is_deletion, is_live, is_on, is_overtaken, last_live, is_taken_back, takes_back, takes_none}
+use Rattle.desk_entries.specs.Entries.{Entry, entry_at, entry_is, is_deletion, is_live, is_on, is_taken_back, takes_back, takes_none}
 use Rattle.desk_entries.specs.Numbers.{last_up_to}
-use Rattle.desk_entries.specs.Kept.{AreRowsTied, IsChain, IsTied, RowKey, TakeWithin, by_editor, entries_kept, entry_kept, entry_new, firm_below, is_held, is_live_but, kept_new, live_below, on_row, same_row, tops_noted}
-use Rattle.desk_entries.proofs.Numbers.{last-same, last-hit, last-miss, last-passes, last-reaches}
-use Rattle.desk_entries.proofs.Chains.{counted, chain-pushed, chain-retired, chain-same}
+use Rattle.desk_entries.specs.Kept.{AreRowsTied, IsChain, RowKey, TakeWithin, entries_kept, entry_kept, entry_new, firm_below, is_held, kept_new, on_row, same_row, tops_noted}
+use Rattle.desk_entries.proofs.Numbers.{last-same, last-hit, last-miss}
+use Rattle.desk_entries.proofs.Chains.{counted, chain-pushed}
 use Rattle.desk_entries.specs.declared.entries.NewEntry.{NewEntry}
 use Rattle.desk_entries.specs.declared.entries.RowTops.{RowTops}
 
@@ -86,6 +86,7 @@ module _ (es : List Entry) (e : Entry) where
     where
       long : length (es ++ e ∷ []) ≡ suc (length es)
       long = length-snoc es e
+
       more : (taken : Option ℕ) → IfSome taken (λ n. n ≤ length es) → IfSome taken (λ n. n ≤ length (es ++ e ∷ []))
       more None h = h
       more (Some n) h = rw long (omega arith)
@@ -126,12 +127,16 @@ module _ (list : List Kept) (alive now : ℕ → Bool) (rows : RowKey → RowTop
     (is : (key : RowKey) → next key ≡ (if same_row (new.table, new.row) key then tops_noted new (suc (length list)) (rows key) else rows key)) where
   abbrev es : List Entry
   es = entries_kept list
+
   abbrev e : Entry
   e = entry_new new
+
   abbrev len : ℕ
   len = length (entries_kept list)
+
   abbrev at : RowKey
   at = (new.table, new.row)
+
   abbrev k : Kept
   k = kept_new new lb (rows at).firm
 
@@ -149,8 +154,7 @@ module _ (list : List Kept) (alive now : ℕ → Bool) (rows : RowKey → RowTop
   firm-hit key mem cnt =
       let on : same_row at key ≡ true = sym (entry_is-new (is_on key.0 key.1) es e) ∙ mem in
       let held : (new.deletes || is_none new.takes) ≡ true = sym held-new ∙ cnt in
-      let pair = same-pair at key on in
-      (
+      let pair = same-pair at key on in (
         ap (λ (t : RowTops). t.firm) (next-on key on) ∙ (rw held refl),
         below-new list k (λ (x : Kept). x.firm_below) ∙ (λ i. (rows (pair.0 i, pair.1 i)).firm),
       )

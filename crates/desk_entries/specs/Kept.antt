@@ -4,7 +4,7 @@ use Rattle.std.specs.Option.{option_map_or}
 use Rattle.std.specs.Str.{bytes_eq}
 use Rattle.indexmap.specs.IndexMap.{IndexMap, get}
 use Rattle.desk_entries.specs.Numbers.{last_up_to}
-use Rattle.desk_entries.specs.Entries.{Entry, entry_at, entry_is, is_by, is_deletion, is_firm, is_live, is_on, is_overtaken, last_live, last_number, version_of}
+use Rattle.desk_entries.specs.Entries.{Entry, entry_at, entry_is, is_by, is_deletion, is_live, is_on, is_overtaken, last_live}
 use Rattle.desk_entries.specs.declared.entries.Kept.{Kept}
 use Rattle.desk_entries.specs.declared.entries.NewEntry.{NewEntry}
 use Rattle.desk_entries.specs.declared.entries.RowTops.{RowTops}

@@ -129,7 +129,7 @@ impl Entries {
         requires small { length self.old.entries < 2 ^ 63 }
         ensures { self.new.entries ≡ self.old.entries ++ entry_new entry ∷ [] }
     {
-        let number = self.list.len() + 1;
+        let number = self.list.as_slice().len() + 1;
         let live_below = live_at(&self.live, &editor);
         match entry.takes {
             Some(taken) => {

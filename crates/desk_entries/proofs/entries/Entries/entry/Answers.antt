@@ -1,4 +1,4 @@
-use Rattle.std.proofs.Common.{rules, suc, ◌≡◌, ◌+◌, ◌-◌, ℕ, sym, ◌∙◌, ap, option_map, arith}
+use Rattle.std.proofs.Common.{suc, ◌≡◌, ◌-◌, sym, ◌∙◌, ap, option_map, arith}
 use Rattle.desk_entries.specs.Kept.{entry_kept}
 use Rattle.desk_entries.proofs.Tied.{entry-kept}
 use Rattle.desk_entries.proofs.entries.Entries.entry.Goals as goal
