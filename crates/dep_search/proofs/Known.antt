@@ -1,8 +1,8 @@
 -- What the facts of parts tell of a left side.
-use Rattle.std.proofs.Common.{◌≡◌, ℕ, zero, suc, ◌+◌, ◌<◌, ◌≤◌, Bool, true, false, not, ◌&&◌, ◌||◌, cond, List, [], ◌∷◌, ◌++◌, map, take, length, leb, eqb, get_or, Option, None, Some, refl, sym, ap, subst, ◌∙◌, arith, ⊎_elim}
-use Rattle.std.specs.Prelude.{⊤, All, slice_get, slice_index, slice_index_or, nat_eq, nat_le}
-use Rattle.std.specs.List.{AllZip, list_all, list_any, flat_map}
-use Rattle.std.proofs.lemmas.Bool.{and_parts, and_from, and_right, cond-true, cond-false, cases_Bool, eq-eqb, eqb-true}
+use Rattle.std.proofs.Common.{◌≡◌, ℕ, zero, suc, ◌+◌, ◌<◌, ◌≤◌, Bool, true, false, not, ◌&&◌, ◌||◌, cond, List, [], ◌∷◌, ◌++◌, map, take, length, leb, get_or, Option, Some, refl, sym, ap, subst, ◌∙◌, arith, ⊎_elim}
+use Rattle.std.specs.Prelude.{⊤, All, slice_get, nat_eq}
+use Rattle.std.specs.List.{list_any, flat_map}
+use Rattle.std.proofs.lemmas.Bool.{and_parts, and_from, and_right, cond-true, cond-false, cases_Bool}
 use Rattle.std.proofs.lemmas.Option.{slice_get_within, get_or_from_slice_get, slice_get-get_or}
 use Rattle.std.proofs.lemmas.Grind.{common_steps, flat_map-append}
 use Rattle.std.proofs.lemmas.List.Elements.{All-append, All-cons, All-map, All-nil}
@@ -14,9 +14,8 @@ use Rattle.dep_search.specs.Found.{settles, determines, has_support, proper_part
 use Rattle.dep_search.specs.Settled.{AreFacts, IsSettled, KeepsFacts, StandAt, StandsAt, known_at, leads_of, says, says_all, says_of}
 use Rattle.dep_search.specs.declared.facts.Facts.{Facts}
 use Rattle.dep_search.specs.declared.settled.Settled.{Settled}
-use Rattle.dep_search.specs.declared.candidate.Candidate.{Candidate}
 use Rattle.dep_search.proofs.Listed.{all_zip_step}
-use Rattle.dep_search.proofs.Counted.{every-at, every-all, same_bool}
+use Rattle.dep_search.proofs.Counted.{every-at}
 
 -- ---- places in a store that grows
 

@@ -1,11 +1,10 @@
 -- The leaders by the parts of a left side.
-use Rattle.std.proofs.Common.{◌≡◌, ℕ, zero, suc, ◌<◌, ◌≤◌, ◌+◌, ◌-◌, drop, drop-cons, subst, not, leb, cond, length-append, ⊎_elim, Bool, true, false, ◌||◌, ◌&&◌, List, [], ◌∷◌, ◌++◌, map, length, replicate, get_or, eqb, refl, sym, ap, ◌∙◌, arith}
+use Rattle.std.proofs.Common.{◌≡◌, ℕ, zero, suc, ◌<◌, ◌+◌, ◌-◌, drop, drop-cons, subst, not, leb, cond, length-append, ⊎_elim, Bool, true, false, ◌||◌, ◌&&◌, List, [], ◌∷◌, ◌++◌, length, replicate, get_or, eqb, refl, sym, ap, ◌∙◌, arith}
 use Rattle.std.specs.Prelude.{All, slice_index, slice_index_or, nat_eq}
-use Rattle.std.specs.List.{AllZip, list_all, list_any}
 use Rattle.std.proofs.lemmas.Bool.{and_from, cases_Bool, cases_eq, cond-true, eq-eqb, eqb-true, ne_eqb}
 use Rattle.std.proofs.Math.ListN.{get_or-append}
 use Rattle.std.proofs.Math.Seq.{get_or-append_seam}
-use Rattle.dep_search.specs.Counting.{every, gathered, tally}
+use Rattle.dep_search.specs.Counting.{gathered, tally}
 use Rattle.dep_search.specs.Rows.{Row, agree}
 use Rattle.dep_search.specs.Found.{settles, determines, is_first, has_support}
 use Rattle.dep_search.specs.Leaders.{AreWithin, AreColumns, Tells, AreLeaders}

@@ -1,15 +1,12 @@
 -- Rows that are told apart by numbers.
-use Rattle.std.proofs.Common.{◌≡◌, ◌≢◌, ℕ, zero, suc, ◌+◌, ◌<◌, ◌≤◌, Bool, true, false, not, ◌&&◌, ◌||◌, cond, List, [], ◌∷◌, ◌++◌, length, Option, None, Some, get_or, eqb, refl, sym, ap, subst, ◌∙◌, arith, ⊎_elim, length-append}
-use Rattle.std.proofs.lemmas.Grind.{common_steps}
-use Rattle.std.specs.Prelude.{unwrap_or, slice_get, slice_index, slice_index_or, nat_eq}
+use Rattle.std.proofs.Common.{◌≡◌, ◌≢◌, ℕ, ◌+◌, ◌<◌, ◌≤◌, Bool, true, false, not, ◌&&◌, ◌||◌, List, [], ◌∷◌, ◌++◌, length, Some, get_or, eqb, refl, sym, ap, ◌∙◌, arith, ⊎_elim, length-append}
+use Rattle.std.specs.Prelude.{slice_get, slice_index, slice_index_or, nat_eq}
 use Rattle.std.specs.Str.{bytes_eq}
-use Rattle.std.specs.List.{list_all}
-use Rattle.std.proofs.lemmas.Bool.{cases_eq, cases_lt, cases_Bool, eq-eqb, ne_eqb, eqb-true, eqb-false, and_parts, and_from, or_left, or_right, or_parts, not-false, true≢false, both_ways, true_from_ne_false, cond-true, cond-false}
+use Rattle.std.proofs.lemmas.Bool.{cases_eq, cases_lt, cases_Bool, eq-eqb, ne_eqb, eqb-true, eqb-false, and_parts, and_from, or_left, or_right, or_parts, not-false, true≢false}
 use Rattle.std.proofs.lemmas.Slice.Eq.{bytes_eq-Decides}
 use Rattle.std.proofs.lemmas.Option.{slice_get_within}
 use Rattle.value_pool.specs.Pool.{HasId, HaveOneId, Interns, IsNew}
-use Rattle.dep_search.specs.Counting.{every, tally}
-use Rattle.dep_search.specs.Rows.{Row, row_at, texts, agree}
+use Rattle.dep_search.specs.Rows.{Row, row_at, agree}
 use Rattle.dep_search.specs.Found.{settles, determines}
 use Rattle.dep_search.specs.Leaders.{Tells, AreLeaders, AreFirstPairs, AreWithin}
 use Rattle.dep_search.specs.Classes.{is_alike, are_alike}

@@ -1,9 +1,6 @@
 -- How rows are told apart by numbers.
-use Rattle.std.specs.Prelude.{◌≡◌, ◌≢◌, ℕ, ◌<◌, ◌≤◌, Bool, true, false, ◌||◌, ◌&&◌, not, List, [], ◌∷◌, length, slice_index, slice_index_or, nat_eq, Option, None, Some}
-use Rattle.std.specs.List.{list_all, list_any, AllZip}
-use Rattle.dep_search.specs.Counting.{every}
+use Rattle.std.specs.Prelude.{◌≡◌, ◌≢◌, ℕ, ◌<◌, ◌≤◌, List, [], ◌∷◌, length, slice_index, slice_index_or, nat_eq}
 use Rattle.dep_search.specs.Rows.{Row, agree}
-use Rattle.dep_search.specs.Found.{settles, determines, proper_parts}
 
 -- each row has a number, and two rows have one number exactly where they agree on X
 pub record Tells (rows : List Row) (x : List ℕ) (ids : List ℕ) : Type 0 where

@@ -1,5 +1,5 @@
 -- What is known of a left side before it is asked what follows from it.
-use Rattle.std.specs.Prelude.{◌≡◌, ◌<◌, ℕ, List, length, All}
+use Rattle.std.specs.Prelude.{◌≡◌, ◌<◌, List, length, All}
 use Rattle.dep_search.specs.Found.{proper_parts}
 use Rattle.dep_search.specs.Settled.{AreFacts, IsGrouped, IsTable, StandAt, leads_of}
 use Rattle.dep_search.specs.declared.table.Table.{Table}

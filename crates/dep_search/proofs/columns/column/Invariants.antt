@@ -1,4 +1,4 @@
-use Rattle.std.proofs.Common.{◌≡◌, ℕ, ◌<◌, ◌≤◌, [], ◌∷◌, length}
+use Rattle.std.proofs.Common.{◌≡◌, ℕ, ◌<◌, ◌≤◌, [], length}
 use Rattle.std.specs.Prelude.{slice_index_or, slice_index}
 use Rattle.value_pool.specs.Pool.{HasId}
 use Rattle.dep_search.specs.Rows.{row_at}

@@ -1,4 +1,4 @@
-use Rattle.std.proofs.Common.{◌≡◌, ◌≤◌, ◌+◌, length, Result, Ok, Err}
+use Rattle.std.proofs.Common.{Result, Ok, Err}
 use Rattle.std.specs.Result.{OnOk}
 use Rattle.dep_search.proofs.Told.{interned_few}
 use Rattle.dep_search.proofs.columns.intern.Goals as goal

@@ -1,4 +1,4 @@
-use Rattle.std.proofs.Common.{◌≡◌, ◌∷◌, [], ◌∙◌, sym, subst}
+use Rattle.std.proofs.Common.{◌∷◌, [], ◌∙◌, sym, subst}
 use Rattle.std.specs.Prelude.{All}
 use Rattle.dep_search.specs.Leaders.{Tells}
 use Rattle.dep_search.specs.Settled.{IsLeader}

@@ -1,4 +1,4 @@
-use Rattle.std.proofs.Common.{◌≡◌, List, ℕ, ◌∙◌, sym, ap, length}
+use Rattle.std.proofs.Common.{List, ℕ, ◌∙◌, sym, ap, length}
 use Rattle.dep_search.specs.Found.{is_short}
 use Rattle.dep_search.proofs.Known.{constant_tested}
 use Rattle.dep_search.proofs.finder.is_constant.Goals as goal

@@ -1,4 +1,4 @@
-use Rattle.std.proofs.Common.{◌≡◌, sym, subst}
+use Rattle.std.proofs.Common.{sym, subst}
 use Rattle.std.specs.Prelude.{All}
 use Rattle.dep_search.proofs.Known.{IsLead, leads_are}
 use Rattle.dep_search.proofs.finder.push_constants.Goals as goal

@@ -1,8 +1,8 @@
-use Rattle.std.proofs.Common.{◌≡◌, ◌∷◌, [], ◌++◌, List, length, subst, sym, ap, false, ◌∙◌, append_assoc}
+use Rattle.std.proofs.Common.{◌≡◌, ◌++◌, List, length, subst, sym, ap, false, ◌∙◌, append_assoc}
 use Rattle.std.specs.Prelude.{nat_eq}
 use Rattle.std.specs.List.{list_any}
 use Rattle.std.specs.Result.{OnOk}
-use Rattle.dep_search.specs.Found.{found_at, plain_at, constants_at, proper_parts}
+use Rattle.dep_search.specs.Found.{plain_at, constants_at, proper_parts}
 use Rattle.dep_search.specs.declared.candidate.Candidate.{Candidate}
 use Rattle.dep_search.proofs.Kept.{found_outside, any_flipped}
 use Rattle.dep_search.proofs.Known.{append_none, nothing_found, parts_determine, plain_test}

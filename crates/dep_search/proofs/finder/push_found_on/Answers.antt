@@ -1,4 +1,4 @@
-use Rattle.std.proofs.Common.{◌≡◌, length, arith, ap, ◌∙◌}
+use Rattle.std.proofs.Common.{length, arith, ap}
 use Rattle.dep_search.specs.Found.{found_at, found_on}
 use Rattle.dep_search.proofs.Counted.{too_many}
 use Rattle.dep_search.proofs.finder.push_found_on.Goals as goal

@@ -1,4 +1,4 @@
-use Rattle.std.proofs.Common.{◌≡◌, length}
+use Rattle.std.proofs.Common.{length}
 use Rattle.dep_search.proofs.Known.{parts_within}
 use Rattle.dep_search.proofs.finder.push_side.Goals as goal
 

@@ -1,4 +1,4 @@
-use Rattle.std.proofs.Common.{◌≡◌, ◌∙◌, sym}
+use Rattle.std.proofs.Common.{◌∙◌}
 use Rattle.dep_search.specs.Settled.{large}
 use Rattle.dep_search.proofs.Listed.{if_ok}
 use Rattle.dep_search.proofs.Parted.{large_lead}

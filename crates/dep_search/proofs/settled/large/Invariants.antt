@@ -1,4 +1,4 @@
-use Rattle.std.proofs.Common.{◌≡◌, ℕ, ◌&&◌, List, [], ◌∷◌}
+use Rattle.std.proofs.Common.{◌≡◌, ◌&&◌, [], ◌∷◌}
 use Rattle.std.specs.Prelude.{if◌then◌else◌, nat_eq, nat_le, slice_index}
 use Rattle.dep_search.specs.Counting.{gathered}
 use Rattle.dep_search.proofs.settled.large.Given as goal
