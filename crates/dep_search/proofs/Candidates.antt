@@ -1,11 +1,11 @@
 -- Each member of what is found has its left side, its attribute and its row.
-use Rattle.std.proofs.Common.{◌≡◌, ℕ, zero, suc, ◌+◌, ◌<◌, ◌≤◌, Bool, true, false, cond, List, [], ◌∷◌, ◌++◌, length, Option, None, Some, All, get_or, sym, subst, ◌∙◌, arith}
+use Rattle.std.proofs.Common.{◌≡◌, ℕ, zero, suc, ◌<◌, Bool, true, false, cond, List, [], ◌∷◌, ◌++◌, length, None, Some, All, sym, subst, arith}
 use Rattle.std.specs.Prelude.{nat_eq, nat_lt, slice_index_or}
 use Rattle.std.specs.List.{list_all, list_any}
 use Rattle.std.proofs.lemmas.List.Elements.{All-append, All-cons, All-nil}
 use Rattle.dep_search.specs.Counting.{gathered}
 use Rattle.dep_search.specs.Rows.{Row, row_at}
-use Rattle.dep_search.specs.Found.{all_found, found_on, found_at, plain_at, constants_at, constant_at, is_plain, is_constant, side_at, left_sides, longer, sides_of_size}
+use Rattle.dep_search.specs.Found.{all_found, found_on, found_at, plain_at, constants_at, constant_at, is_plain, is_constant, side_at, longer, sides_of_size}
 use Rattle.dep_search.specs.Keys.{IsCandidate}
 use Rattle.dep_search.specs.declared.candidate.Candidate.{Candidate}
 

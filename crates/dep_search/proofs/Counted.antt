@@ -1,6 +1,6 @@
 -- What numbers below a bound give, one number further.
-use Rattle.std.proofs.Common.{◌≡◌, ℕ, zero, suc, ◌+◌, ◌<◌, ◌≤◌, Bool, true, false, ◌&&◌, cond, List, [], ◌++◌, refl, sym, ap, ◌∙◌, arith, ⊎_elim, add-one, length, length-append}
-use Rattle.std.proofs.lemmas.Bool.{cases_eq, and_cases, and_parts, and_from, and_left, and_right, cases_Bool, true≢false}
+use Rattle.std.proofs.Common.{◌≡◌, ℕ, zero, suc, ◌+◌, ◌<◌, ◌≤◌, Bool, true, false, ◌&&◌, cond, List, ◌++◌, refl, sym, ap, ◌∙◌, arith, ⊎_elim, add-one, length, length-append}
+use Rattle.std.proofs.lemmas.Bool.{cases_eq, and_cases, and_parts, and_from, and_left, and_right, true≢false}
 use Rattle.dep_search.specs.Counting.{gathered, every, tally}
 
 pub gathered_more : {A : Type 0} (f : ℕ → List A) (n : ℕ) → gathered f (n + 1) ≡ gathered f n ++ f n

@@ -1,57 +1,30 @@
 -- The leaders by the parts of a left side.
-use Rattle.std.proofs.Common.{◌≡◌, ℕ, zero, suc, ◌<◌, ◌≤◌, ◌+◌, ◌-◌, drop, drop-cons, subst, not, leb, ⊎_elim, append_assoc, Bool, true, false, ◌||◌, List, [], ◌∷◌, ◌++◌, map, length, replicate, get_or, eqb, refl, sym, ap, ◌∙◌, arith}
-use Rattle.std.specs.Prelude.{slice_index, slice_index_or, nat_eq}
-use Rattle.std.specs.List.{AllZip, list_all, list_any}
-use Rattle.std.proofs.lemmas.Bool.{cases_eq, eq-eqb, ne_eqb}
-use Rattle.dep_search.specs.Counting.{every, tally}
+use Rattle.std.proofs.Common.{◌≡◌, ℕ, zero, suc, ◌<◌, ◌+◌, ◌-◌, drop, drop-cons, subst, not, leb, cond, length-append, ⊎_elim, Bool, true, false, ◌||◌, ◌&&◌, List, [], ◌∷◌, ◌++◌, length, replicate, get_or, eqb, refl, sym, ap, ◌∙◌, arith}
+use Rattle.std.specs.Prelude.{All, slice_index, slice_index_or, nat_eq}
+use Rattle.std.proofs.lemmas.Bool.{and_from, cases_Bool, cases_eq, cond-true, eq-eqb, eqb-true, ne_eqb}
+use Rattle.std.proofs.Math.ListN.{get_or-append}
+use Rattle.std.proofs.Math.Seq.{get_or-append_seam}
+use Rattle.dep_search.specs.Counting.{gathered, tally}
 use Rattle.dep_search.specs.Rows.{Row, agree}
-use Rattle.dep_search.specs.Found.{settles, determines, proper_parts, is_first, has_support}
-use Rattle.dep_search.specs.Leaders.{AreWithin, AreColumns, Tells, AreLeaders, AreFirstPairs, ArePartsOf, AreAlike, AreSettled, any_flag}
+use Rattle.dep_search.specs.Found.{settles, determines, is_first, has_support}
+use Rattle.dep_search.specs.Leaders.{AreWithin, AreColumns, Tells, AreLeaders}
+use Rattle.dep_search.specs.Classes.{is_alike}
+use Rattle.dep_search.specs.Settled.{IsSettled, IsToldBy, large, leads_of, IsLeader}
+use Rattle.dep_search.specs.declared.settled.Settled.{Settled}
 use Rattle.std.proofs.lemmas.List.{get_or_read}
-use Rattle.dep_search.proofs.Listed.{zip_at}
-use Rattle.dep_search.proofs.Told.{leaders_from_pairs, settled}
-use Rattle.dep_search.proofs.Counted.{tally-congr, every-all, every-none}
-
-all_zip_append : {A B : Type 0} (R : A → B → Type 0) (xs us : List A) (ys vs : List B) → AllZip R xs ys → AllZip R us vs → AllZip R (xs ++ us) (ys ++ vs)
-all_zip_append R [] us [] vs f g = g
-all_zip_append R [] us (y ∷ ys) vs f g = absurd f
-all_zip_append R (x ∷ xs) us [] vs f g = absurd f
-all_zip_append R (x ∷ xs) us (y ∷ ys) vs f g = (f.0, all_zip_append R xs us ys vs f.1 g)
-
-with_attr : (rows : List Row) (a : ℕ) (column : List ℕ) (xs : List (List ℕ)) (old new : List (List ℕ)) → Tells rows (a ∷ []) column
-    → AllZip (AreLeaders rows) xs old → AllZip (AreFirstPairs column) old new → AllZip (AreLeaders rows) (map (λ part. a ∷ part) xs) new
-with_attr rows a column [] [] [] at f g = tt
-with_attr rows a column [] [] (l ∷ new) at f g = absurd g
-with_attr rows a column [] (k ∷ old) new at f g = absurd f
-with_attr rows a column (x ∷ xs) [] new at f g = absurd f
-with_attr rows a column (x ∷ xs) (k ∷ old) [] at f g = absurd g
-with_attr rows a column (x ∷ xs) (k ∷ old) (l ∷ new) at f g =
-    (leaders_from_pairs rows x a column k l at f.0.tells g.0, with_attr rows a column xs old new at f.1 g.1)
-
--- the parts of a left side with one attribute more in front
-pub parts_with_attr : (rows : List Row) (x : List ℕ) (a : ℕ) (column : List ℕ) (proper more : List (List ℕ)) (whole longer : List ℕ)
-    → ArePartsOf rows x proper whole → Tells rows (a ∷ []) column → AllZip (AreFirstPairs column) proper more → AreFirstPairs column whole longer
-    → ArePartsOf rows (a ∷ x) ((proper ++ more) ++ whole ∷ []) longer
-parts_with_attr rows x a column proper more whole longer parts at f g = record {
-  each = simp append_assoc
-      (all_zip_append (AreLeaders rows) (proper_parts x) (map (λ part. a ∷ part) (proper_parts x) ++ x ∷ []) proper (more ++ whole ∷ []) parts.each
-      (all_zip_append (AreLeaders rows) (map (λ part. a ∷ part) (proper_parts x)) (x ∷ []) more (whole ∷ [])
-      (with_attr rows a column (proper_parts x) proper more at parts.each f) (parts.all, tt)));
-  all = leaders_from_pairs rows x a column whole longer at parts.all.tells g;
-}
+use Rattle.dep_search.proofs.Told.{settles_at, all_alike}
+use Rattle.dep_search.proofs.Counted.{tally-congr, every-all, every-at, every-none, same_bool}
+use Rattle.dep_search.proofs.Known.{leads_are}
 
 -- all rows agree on no attribute, so the first leads them
-pub no_attrs : (rows : List Row) (n : ℕ) → n ≡ length rows → ArePartsOf rows [] [] (replicate n 0)
+pub no_attrs : (rows : List Row) (n : ℕ) → n ≡ length rows → AreLeaders rows [] (replicate n 0)
 no_attrs rows n e = record {
-  each = tt;
-  all = record {
-    tells = record {
-      long = long n ∙ e;
-      same = λ r s rl sl. sym (eq-eqb (slice_index (replicate n 0) r) (slice_index (replicate n 0) s) (zeros n r ∙ sym (zeros n s)));
-    };
-    below = λ r rl. omega (arith, zeros n r);
-    own = λ r rl. zeros n (slice_index (replicate n 0) r) ∙ sym (zeros n r);
+  tells = record {
+    long = long n ∙ e;
+    same = λ r s rl sl. sym (eq-eqb (slice_index (replicate n 0) r) (slice_index (replicate n 0) s) (zeros n r ∙ sym (zeros n s)));
   };
+  below = λ r rl. omega (arith, zeros n r);
+  own = λ r rl. zeros n (slice_index (replicate n 0) r) ∙ sym (zeros n r);
 }
   where
     long : (n : ℕ) → length (replicate {A = ℕ} n 0) ≡ n
@@ -90,45 +63,119 @@ unfolding has_support
 leads_support rows x leaders support r size led rl e =
     ap (leb support) (tally-congr (λ s. agree rows x r s) (λ s. eqb (slice_index leaders r) (slice_index leaders s)) (length rows) (λ s sl. led.tells.same r s rl sl) ∙ sym e)
 
--- by the parts: whether one settles an attribute for a row, and whether one determines it
-pub parts_settle : (rows : List Row) (a : ℕ) (ids : List ℕ) (r : ℕ) (xs : List (List ℕ)) (leaders : List (List ℕ)) (flags : List (List Bool))
-    → Tells rows (a ∷ []) ids → r < length rows → AllZip (AreLeaders rows) xs leaders → AllZip (λ ls fs. AreAlike ls ids fs) leaders flags
-    → any_flag leaders flags r ≡ list_any (λ part. settles rows part a r) xs
-parts_settle rows a ids r [] [] [] at rl f g = refl
-parts_settle rows a ids r [] [] (fs ∷ flags) at rl f g = absurd g
-parts_settle rows a ids r [] (ls ∷ leaders) flags at rl f g = absurd f
-parts_settle rows a ids r (x ∷ xs) [] flags at rl f g = absurd f
-parts_settle rows a ids r (x ∷ xs) (ls ∷ leaders) [] at rl f g = absurd g
-parts_settle rows a ids r (x ∷ xs) (ls ∷ leaders) (fs ∷ flags) at rl f g =
-    let here = (settled rows x a ls ids fs f.0 at g.0).each r rl in
-    let there = parts_settle rows a ids r xs leaders flags at rl f.1 g.1 in
-    λ i. here i || there i
-
-pub parts_determine : (rows : List Row) (a : ℕ) (ids : List ℕ) (xs : List (List ℕ)) (leaders : List (List ℕ)) (flags : List (List Bool))
-    → Tells rows (a ∷ []) ids → AllZip (AreLeaders rows) xs leaders → AllZip (λ ls fs. AreAlike ls ids fs) leaders flags
-    → list_any (list_all (λ flag. flag)) flags ≡ list_any (λ part. determines rows part a) xs
-parts_determine rows a ids [] [] [] at f g = refl
-parts_determine rows a ids [] [] (fs ∷ flags) at f g = absurd g
-parts_determine rows a ids [] (ls ∷ leaders) flags at f g = absurd f
-parts_determine rows a ids (x ∷ xs) [] flags at f g = absurd f
-parts_determine rows a ids (x ∷ xs) (ls ∷ leaders) [] at f g = absurd g
-parts_determine rows a ids (x ∷ xs) (ls ∷ leaders) (fs ∷ flags) at f g =
-    let here = (settled rows x a ls ids fs f.0 at g.0).all in
-    let there = parts_determine rows a ids xs leaders flags at f.1 g.1 in
-    λ i. here i || there i
-
 -- leaders are places, and there is one for each row
 pub leaders_within : (rows : List Row) (x : List ℕ) (leaders : List ℕ) → AreLeaders rows x leaders → AreWithin leaders
 leaders_within rows x leaders led = λ r rl. omega (arith, led.below r (omega (arith, led.tells.long)), led.tells.long, rl)
-
-pub leaders_at : (rows : List Row) (xs : List (List ℕ)) (proper : List (List ℕ)) (k : ℕ) (d : List ℕ) → AllZip (AreLeaders rows) xs proper → k < length proper
-    → AreLeaders rows (get_or xs k []) (get_or proper k d)
-leaders_at rows xs proper k d f l = zip_at (AreLeaders rows) xs proper k [] d f l
 
 -- the column of an attribute tells the rows apart there
 pub column_tells : (rows : List Row) (columns : List (List ℕ)) (a : ℕ) (column : List ℕ) → AreColumns rows (length columns) columns → a < length columns
     → column ≡ get_or columns a column → Tells rows (a ∷ []) column
 column_tells rows columns a column are al e = subst (Tells rows (a ∷ [])) (sym (get_or_read columns a column al e [])) (are.each a al)
+
+-- ---- the first rows of classes with support
+
+gathered-same : {A : Type 0} (f g : ℕ → List A) (n : ℕ) → ((k : ℕ) → k < n → f k ≡ g k) → gathered f n ≡ gathered g n
+gathered-same f g zero same = refl
+gathered-same f g (suc n) same =
+    let before = gathered-same f g n (λ k l. same k (omega (arith, l))) in
+    let here = same n (omega arith) in
+    λ i. before i ++ here i
+
+lead_test : (rows : List Row) (support : ℕ) (x leaders sizes : List ℕ) (r : ℕ) → AreLeaders rows x leaders → r < length rows
+    → slice_index sizes r ≡ tally (λ s. nat_eq r (slice_index leaders s)) (length leaders)
+    → (eqb (slice_index leaders r) r && leb support (slice_index sizes r)) ≡ (is_first rows x r && has_support rows support x r)
+lead_test rows support x leaders sizes r led rl size =
+    let first = first_leads rows x leaders r led rl in
+    ⊎_elim
+    (λ (e : slice_index leaders r ≡ r).
+    let far : length leaders ≡ length rows = led.tells.long in
+    let many = leads_support rows x leaders support r (slice_index sizes r) led rl (size ∙ (λ i. tally (λ s. nat_eq (sym e i) (slice_index leaders s)) (far i))) in
+    λ i. sym first i && sym many i)
+    (λ (ne : slice_index leaders r ≡ r → ⊥).
+    let no = ne_eqb (slice_index leaders r) r ne in
+    (λ i. no i && leb support (slice_index sizes r)) ∙ sym (λ i. (first ∙ no) i && has_support rows support x r))
+    (cases_eq (slice_index leaders r) r)
+
+pub large_lead : (rows : List Row) (support : ℕ) (x leaders sizes : List ℕ) → AreLeaders rows x leaders
+    → ((first : ℕ) → first < length leaders → slice_index sizes first ≡ tally (λ r. nat_eq first (slice_index leaders r)) (length leaders))
+    → large leaders sizes support ≡ leads_of rows support x
+large_lead rows support x leaders sizes led each =
+    let far : length leaders ≡ length rows = led.tells.long in
+    ap (gathered (λ r. cond (eqb (slice_index leaders r) r && leb support (slice_index sizes r)) (r ∷ []) [])) far
+    ∙ gathered-same _ _ (length rows) (λ r rl. ap (λ b. cond b (r ∷ []) []) (lead_test rows support x leaders sizes r led rl (each r (omega (arith, far, rl)))))
+
+in_gathered : (p : ℕ → Bool) (n f : ℕ) → f < n → p f ≡ true
+    → (k : ℕ) × (k < length (gathered (λ r. cond (p r) (r ∷ []) []) n)) × (get_or (gathered (λ r. cond (p r) (r ∷ []) []) n) k 0 ≡ f)
+in_gathered p zero f fl e = absurd (omega (arith, fl))
+in_gathered p (suc n) f fl e =
+    let front = gathered (λ r. cond (p r) (r ∷ []) []) n in
+    ⊎_elim
+    (λ (here : f ≡ n).
+    let one : cond (p n) (n ∷ []) [] ≡ n ∷ [] = cond-true _ _ _ (ap p (sym here) ∙ e) in (
+      length front,
+      omega (arith, ap length one, length-append front (cond (p n) (n ∷ []) [])),
+      ap (λ back. get_or (front ++ back) (length front) 0) one ∙ get_or-append_seam front n [] 0 ∙ sym here,
+    ))
+    (λ (ne : f ≡ n → ⊥).
+    let (k, kl, g) = in_gathered p n f (omega (arith, fl, ne)) e in
+    (k, omega (arith, kl, length-append front (cond (p n) (n ∷ []) [])), get_or-append front (cond (p n) (n ∷ []) []) 0 k kl ∙ g))
+    (cases_eq f n)
+
+leader_leads : (rows : List Row) (support : ℕ) (x leaders : List ℕ) (r : ℕ) → AreLeaders rows x leaders → r < length rows → has_support rows support x r ≡ true
+    → (k : ℕ) × (k < length (leads_of rows support x)) × (get_or (leads_of rows support x) k 0 ≡ slice_index leaders r)
+leader_leads rows support x leaders r led rl many =
+    let f = slice_index leaders r in
+    let fl : f < length rows = omega (arith, led.below r rl, rl) in
+    let own = led.own r rl in
+    let size = tally (λ s. nat_eq (slice_index leaders r) (slice_index leaders s)) (length rows) in
+    let first : is_first rows x f ≡ true = first_leads rows x leaders f led fl ∙ eq-eqb (slice_index leaders f) f own in
+    let as_many : has_support rows support x f ≡ true =
+    leads_support rows x leaders support f size led fl (λ i. tally (λ s. nat_eq (sym own i) (slice_index leaders s)) (length rows))
+    ∙ sym (leads_support rows x leaders support r size led rl refl) ∙ many in
+    in_gathered (λ r. is_first rows x r && has_support rows support x r) (length rows) f fl (and_from (is_first rows x f) (has_support rows support x f) first as_many)
+
+-- what is told of leaders is so of rows
+pub settled_rows : (rows : List Row) (support : ℕ) (x leaders : List ℕ) (a : ℕ) (ids list : List ℕ) (settled : Settled) → AreLeaders rows x leaders
+    → Tells rows (a ∷ []) ids → list ≡ leads_of rows support x → IsToldBy leaders list ids settled → IsSettled rows support x a settled
+unfolding determines
+settled_rows rows support x leaders a ids list settled led at e told =
+    let all = told.all ∙ all_alike rows x a leaders ids led at in
+    record {
+      all = all;
+      each = λ r rl many.
+          let far : length leaders ≡ length rows = led.tells.long in
+          let here = settles_at rows x a leaders ids led at r rl in
+          ⊎_elim
+          (λ (yes : settled.all ≡ true).
+          (λ i. yes i || slice_index_or settled.flags r false)
+          ∙ sym (every-at (settles rows x a) (length rows) r (sym all ∙ yes) rl))
+          (λ (no : settled.all ≡ false).
+          let flags = told.flags no in
+          (λ i. no i || slice_index_or settled.flags r false)
+          ∙ same_bool (slice_index_or settled.flags r false) (settles rows x a r)
+          (λ flag. sym here ∙ flags.sound r (omega (arith, far, rl)) flag)
+          (λ settle. let (k, kl, g) = leader_leads rows support x leaders r led rl many in
+          let lead : slice_index list k ≡ slice_index leaders r = ap (λ l. get_or l k 0) e ∙ g in
+          flags.complete k r (omega (arith, kl, ap length e)) (omega (arith, far, rl)) (sym lead) (ap (is_alike leaders ids) lead ∙ here ∙ settle)))
+          (cases_Bool settled.all);
+    }
+
+pub leads_lead : (rows : List Row) (support : ℕ) (x leaders : List ℕ) → AreLeaders rows x leaders → All (IsLeader leaders) (leads_of rows support x)
+leads_lead rows support x leaders led = λ k d kl.
+    let lead = leads_are rows support x k d kl in
+    let r = get_or (leads_of rows support x) k d in
+    (omega (arith, lead.row, led.tells.long), eqb-true (slice_index leaders r) r (sym (first_leads rows x leaders r led lead.row) ∙ lead.first))
+
+-- what holds of each and of one more behind them
+pub settled_more : (P : ℕ → Settled → Type 0) (xs : List Settled) (x : Settled) (n : ℕ) → length xs ≡ n → ((a : ℕ) (d : Settled) → a < n → P a (get_or xs a d)) → P n x
+    → (a : ℕ) (d : Settled) → a < n + 1 → P a (get_or (xs ++ x ∷ []) a d)
+settled_more P xs x n long each here a d al =
+    ⊎_elim
+    (λ (e : a ≡ n).
+    let last : get_or (xs ++ x ∷ []) a d ≡ x = ap (λ k. get_or (xs ++ x ∷ []) k d) (e ∙ sym long) ∙ get_or-append_seam xs x [] d in
+    subst (P a) (sym last) (subst (λ k. P k x) (sym e) here))
+    (λ (ne : a ≡ n → ⊥). subst (P a) (sym (get_or-append xs (x ∷ []) d a (omega (arith, al, ne, long)))) (each a d (omega (arith, al, ne))))
+    (cases_eq a n)
 
 -- a list from one place further back
 pub drop_back : (x : List ℕ) (i : ℕ) → i < length x → drop (length x - (i + 1)) x ≡ get_or x (length x - 1 - i) 0 ∷ drop (length x - i) x

@@ -1,16 +1,15 @@
 -- Rows that are told apart by numbers.
-use Rattle.std.proofs.Common.{◌≡◌, ◌≢◌, ℕ, zero, suc, ◌+◌, ◌<◌, ◌≤◌, Bool, true, false, not, ◌&&◌, ◌||◌, cond, List, [], ◌∷◌, ◌++◌, length, Option, None, Some, get_or, eqb, refl, sym, ap, subst, ◌∙◌, arith, ⊎_elim}
-use Rattle.std.proofs.lemmas.Grind.{common_steps}
-use Rattle.std.specs.Prelude.{unwrap_or, slice_get, slice_index, slice_index_or, nat_eq}
+use Rattle.std.proofs.Common.{◌≡◌, ◌≢◌, ℕ, ◌+◌, ◌<◌, ◌≤◌, Bool, true, false, not, ◌&&◌, ◌||◌, List, [], ◌∷◌, ◌++◌, length, Some, get_or, eqb, refl, sym, ap, ◌∙◌, arith, ⊎_elim, length-append}
+use Rattle.std.specs.Prelude.{slice_get, slice_index, slice_index_or, nat_eq}
 use Rattle.std.specs.Str.{bytes_eq}
-use Rattle.std.specs.List.{list_all}
-use Rattle.std.proofs.lemmas.Bool.{cases_eq, cases_lt, cases_Bool, eq-eqb, ne_eqb, eqb-true, eqb-false, and_parts, and_from, or_left, or_right, or_parts, not-false, true≢false, both_ways, true_from_ne_false, cond-true, cond-false}
+use Rattle.std.proofs.lemmas.Bool.{cases_eq, cases_lt, cases_Bool, eq-eqb, ne_eqb, eqb-true, eqb-false, and_parts, and_from, or_left, or_right, or_parts, not-false, true≢false}
 use Rattle.std.proofs.lemmas.Slice.Eq.{bytes_eq-Decides}
-use Rattle.value_pool.specs.Pool.{HasId, HaveOneId}
-use Rattle.dep_search.specs.Counting.{every, tally}
-use Rattle.dep_search.specs.Rows.{Row, row_at, texts, agree}
+use Rattle.std.proofs.lemmas.Option.{slice_get_within}
+use Rattle.value_pool.specs.Pool.{HasId, HaveOneId, Interns, IsNew}
+use Rattle.dep_search.specs.Rows.{Row, row_at, agree}
 use Rattle.dep_search.specs.Found.{settles, determines}
-use Rattle.dep_search.specs.Leaders.{Tells, AreLeaders, IsFirstPair, AreFirstPairs, AreAlike, AreSettled, IsSeen, same_pair}
+use Rattle.dep_search.specs.Leaders.{Tells, AreLeaders, AreFirstPairs, AreWithin}
+use Rattle.dep_search.specs.Classes.{is_alike, are_alike}
 use Rattle.dep_search.proofs.Counted.{every-at, every-all, every-none, every_fails, same_bool}
 
 -- two numbers tell as two other numbers do
@@ -49,17 +48,28 @@ and-true : (b : Bool) → (b && true) ≡ b
 and-true true = refl
 and-true false = refl
 
+-- rows agree on X and an attribute more where they agree on both
+agree_more : (rows : List Row) (x : List ℕ) (a r s : ℕ) → agree rows (x ++ a ∷ []) r s ≡ (agree rows x r s && agree rows (a ∷ []) r s)
+agree_more rows [] a r s = refl
+agree_more rows (y ∷ x) a r s =
+    ap (λ b. bytes_eq (get_or (row_at rows r) y []) (get_or (row_at rows s) y []) && b) (agree_more rows x a r s)
+    ∙ and_grouped (bytes_eq (get_or (row_at rows r) y []) (get_or (row_at rows s) y [])) (agree rows x r s) (agree rows (a ∷ []) r s)
+  where
+    and_grouped : (b c d : Bool) → (b && (c && d)) ≡ ((b && c) && d)
+    and_grouped true c d = refl
+    and_grouped false c d = refl
+
 -- rows that are told apart on X by one list and at an attribute by another have the first places of both as leaders
 pub leaders_from_pairs : (rows : List Row) (x : List ℕ) (a : ℕ) (one other firsts : List ℕ)
-    → Tells rows (a ∷ []) one → Tells rows x other → AreFirstPairs one other firsts → AreLeaders rows (a ∷ x) firsts
+    → Tells rows (a ∷ []) one → Tells rows x other → AreFirstPairs one other firsts → AreLeaders rows (x ++ a ∷ []) firsts
 leaders_from_pairs rows x a one other firsts at on all = record {
   tells = record {
     long = all.long ∙ at.long;
     same = λ r s rl sl.
         let rl' : r < length one = omega (arith, at.long) in
         let sl' : s < length one = omega (arith, at.long) in
-        (λ i. (sym (and-true (bytes_eq (get_or (row_at rows r) a []) (get_or (row_at rows s) a []))) ∙ at.same r s rl sl) i && on.same r s rl sl i)
-        ∙ pair_test _ _ _ _ _ _ (first-pairs one other firsts all r s rl' sl') (first-same one other firsts all r s rl' sl');
+        agree_more rows x a r s ∙ (λ i. on.same r s rl sl i && at.same r s rl sl i)
+        ∙ pair_test _ _ _ _ _ _ (λ e. let both = first-pairs one other firsts all r s rl' sl' e in (both.1, both.0)) (λ e g. first-same one other firsts all r s rl' sl' g e);
   };
   below = λ r rl. (all.each r (omega (arith, at.long))).below;
   own = λ r rl.
@@ -84,31 +94,56 @@ tells_from_ids rows a ids pool unique long each = record {
       (bytes_eq-Decides _ _).1 texts_same);
 }
 
+-- such ids are below how many rows there are
+pub ids_within : (rows : List Row) (a : ℕ) (ids : List ℕ) (pool : List (List ℕ)) → length ids ≡ length rows → length pool ≤ length rows
+    → ((r : ℕ) → r < length rows → HasId pool (slice_index_or (row_at rows r) a []) (slice_index ids r)) → AreWithin ids
+ids_within rows a ids pool long few each = λ r rl.
+    omega (arith, long, few, slice_get_within pool (slice_index ids r) (slice_index_or (row_at rows r) a []) (each r (omega (arith, rl, long))))
+
+pub interned_few : (old new : List (List ℕ)) (text : List ℕ) → Interns old text new → length new ≤ length old + 1
+interned_few old new text f =
+    ⊎_elim (λ (same : (id : ℕ) × HasId old text id × (new ≡ old)). let (id, has, e) = same in omega (arith, ap length e))
+    (λ (more : IsNew old text × (new ≡ old ++ text ∷ [])). omega (arith, ap length more.1, length-append old (text ∷ []))) f
+
 -- the leaders that have one id in all the places that they lead, and those that haven't
-alike_yes : (leaders ids : List ℕ) (flags : List Bool) → AreAlike leaders ids flags → (first r : ℕ) → first < length leaders → r < length leaders
-    → get_or flags first false ≡ true → slice_index leaders r ≡ first → slice_index ids r ≡ slice_index ids first
-alike_yes leaders ids flags all first r fl rl hit e =
+pub alike_yes : (leaders ids : List ℕ) (first r : ℕ) → is_alike leaders ids first ≡ true → r < length leaders → slice_index leaders r ≡ first
+    → slice_index ids r ≡ slice_index ids first
+alike_yes leaders ids first r hit rl e =
     let test = λ (s : ℕ). not (nat_eq (slice_index leaders s) first) || nat_eq (slice_index ids s) (slice_index ids first) in
-    passed (slice_index leaders r) first (slice_index ids r) (slice_index ids first) e
-    (every-at test (length leaders) r (sym (all.each first fl) ∙ hit) rl)
+    passed (slice_index leaders r) first (slice_index ids r) (slice_index ids first) e (every-at test (length leaders) r hit rl)
   where
     passed : (l k i j : ℕ) → l ≡ k → (not (nat_eq l k) || nat_eq i j) ≡ true → i ≡ j
     passed l k i j e h = eqb-true i j (ap (λ b. not b || nat_eq i j) (sym (eq-eqb l k e)) ∙ h)
 
-alike_no : (leaders ids : List ℕ) (flags : List Bool) → AreAlike leaders ids flags → (first : ℕ) → first < length leaders
-    → get_or flags first false ≡ false → (r : ℕ) × (r < length leaders) × (slice_index leaders r ≡ first) × (slice_index ids r ≢ slice_index ids first)
-alike_no leaders ids flags all first fl miss =
+alike_no : (leaders ids : List ℕ) (first : ℕ) → is_alike leaders ids first ≡ false
+    → (r : ℕ) × (r < length leaders) × (slice_index leaders r ≡ first) × (slice_index ids r ≢ slice_index ids first)
+alike_no leaders ids first miss =
     let test = λ (s : ℕ). not (nat_eq (slice_index leaders s) first) || nat_eq (slice_index ids s) (slice_index ids first) in
-    let (r, rl, fails) = every_fails test (length leaders) (sym (all.each first fl) ∙ miss) in
+    let (r, rl, fails) = every_fails test (length leaders) miss in
     let parts = or_parts (not (nat_eq (slice_index leaders r) first)) (nat_eq (slice_index ids r) (slice_index ids first)) fails in
     (r, rl, eqb-true _ _ (not-false _ parts.0), eqb-false _ _ parts.1)
 
+pub are_one : (leaders ids : List ℕ) (first : ℕ)
+    → ((s : ℕ) → s < length leaders → slice_index leaders s ≡ first → slice_index ids s ≡ slice_index ids first) → is_alike leaders ids first ≡ true
+are_one leaders ids first all =
+    every-all (λ s. not (nat_eq (slice_index leaders s) first) || nat_eq (slice_index ids s) (slice_index ids first)) (length leaders) (λ s sl.
+    pass (slice_index leaders s) first (slice_index ids s) (slice_index ids first) (all s sl))
+  where
+    pass : (l k i j : ℕ) → (l ≡ k → i ≡ j) → (not (nat_eq l k) || nat_eq i j) ≡ true
+    pass l k i j f = ⊎_elim (λ (e : l ≡ k). or_right (not (nat_eq l k)) (nat_eq i j) (eq-eqb i j (f e)))
+        (λ (ne : l ≡ k → ⊥). or_left (not (nat_eq l k)) (nat_eq i j) (ap not (ne_eqb l k ne))) (cases_eq l k)
+
+pub are_two : (leaders ids : List ℕ) (first r : ℕ) → r < length leaders → slice_index leaders r ≡ first → slice_index ids r ≢ slice_index ids first
+    → is_alike leaders ids first ≡ false
+are_two leaders ids first r rl e ne =
+    ⊎_elim (λ (hit : is_alike leaders ids first ≡ true). absurd (ne (alike_yes leaders ids first r hit rl e)))
+    (λ (miss : is_alike leaders ids first ≡ false). miss) (cases_Bool (is_alike leaders ids first))
+
 -- what leaders tell of the rows that they lead tells which rows settle an attribute
-settles_at : (rows : List Row) (x : List ℕ) (a : ℕ) (leaders ids : List ℕ) (flags : List Bool)
-    → AreLeaders rows x leaders → Tells rows (a ∷ []) ids → AreAlike leaders ids flags
-    → (r : ℕ) → r < length rows → get_or flags (slice_index leaders r) false ≡ settles rows x a r
+pub settles_at : (rows : List Row) (x : List ℕ) (a : ℕ) (leaders ids : List ℕ) → AreLeaders rows x leaders → Tells rows (a ∷ []) ids
+    → (r : ℕ) → r < length rows → is_alike leaders ids (slice_index leaders r) ≡ settles rows x a r
 unfolding settles
-settles_at rows x a leaders ids flags led at all r rl =
+settles_at rows x a leaders ids led at r rl =
     let n = length rows in
     let first = slice_index leaders r in
     let test = λ (s : ℕ). not (agree rows x r s) || agree rows (a ∷ []) r s in
@@ -119,19 +154,18 @@ settles_at rows x a leaders ids flags led at all r rl =
     let fails : (s : ℕ) → s < n → first ≡ slice_index leaders s → slice_index ids r ≢ slice_index ids s → test s ≡ false =
     λ s sl e ne. fail _ _ first (slice_index leaders s) (slice_index ids r) (slice_index ids s) (led.tells.same r s rl sl) (at.same r s rl sl) e ne in
     ⊎_elim
-    (λ (hit : get_or flags first false ≡ true).
+    (λ (hit : is_alike leaders ids first ≡ true).
     hit ∙ sym (every-all test n (λ s sl. passes s sl (λ e.
-    alike_yes leaders ids flags all first r (omega arith) (omega arith) hit refl
-    ∙ sym (alike_yes leaders ids flags all first s (omega arith) (omega arith) hit (sym e))))))
-    (λ (miss : get_or flags first false ≡ false).
-    let (s, sl, led_too, apart) = alike_no leaders ids flags all first (omega arith) miss in
+    alike_yes leaders ids first r hit (omega arith) refl ∙ sym (alike_yes leaders ids first s hit (omega arith) (sym e))))))
+    (λ (miss : is_alike leaders ids first ≡ false).
+    let (s, sl, led_too, apart) = alike_no leaders ids first miss in
     miss ∙ sym (⊎_elim
     (λ (same : slice_index ids r ≡ slice_index ids s).
     every-none test n first here (fails first here (sym (led.own r rl)) (λ e. apart (sym same ∙ e))))
     (λ (ne : slice_index ids r ≡ slice_index ids s → ⊥).
     every-none test n s (omega arith) (fails s (omega arith) (sym led_too) ne))
     (cases_eq (slice_index ids r) (slice_index ids s))))
-    (cases_Bool (get_or flags first false))
+    (cases_Bool (is_alike leaders ids first))
   where
     pass : (b c : Bool) (l k i j : ℕ) → b ≡ nat_eq l k → c ≡ nat_eq i j → (l ≡ k → i ≡ j) → (not b || c) ≡ true
     pass true c l k i j e g f = g ∙ eq-eqb i j (f (eqb-true l k (sym e)))
@@ -141,103 +175,18 @@ settles_at rows x a leaders ids flags led at all r rl =
     fail true c l k i j e g f ne = g ∙ ne_eqb i j ne
     fail false c l k i j e g f ne = absurd (true≢false (sym (eq-eqb l k f) ∙ sym e))
 
-pub settled : (rows : List Row) (x : List ℕ) (a : ℕ) (leaders ids : List ℕ) (flags : List Bool)
-    → AreLeaders rows x leaders → Tells rows (a ∷ []) ids → AreAlike leaders ids flags → AreSettled rows x a leaders flags
+-- all rows have the ids of their leaders exactly where X determines the attribute
+pub all_alike : (rows : List Row) (x : List ℕ) (a : ℕ) (leaders ids : List ℕ) → AreLeaders rows x leaders → Tells rows (a ∷ []) ids
+    → are_alike leaders ids ≡ determines rows x a
 unfolding determines
-settled rows x a leaders ids flags led at all =
+all_alike rows x a leaders ids led at =
     let n = length rows in
     let far : length leaders ≡ n = led.tells.long in
-    let each = settles_at rows x a leaders ids flags led at all in
-    record {
-      long = all.long ∙ far;
-      each = each;
-      all = same_bool _ _
-          (λ e. every-all (settles rows x a) n (λ r rl.
-          sym (each r rl) ∙ list_all-get flags (slice_index leaders r) e (omega (arith, led.below r rl, all.long))))
-          (λ e. list_all-from flags (λ first fl.
-          true_from_ne_false (get_or flags first false) (λ miss.
-          let (r, rl, led_here, apart) = alike_no leaders ids flags all first (omega (arith, all.long)) miss in
-          true≢false (sym (every-at (settles rows x a) n r e (omega arith)) ∙ sym (each r (omega arith)) ∙ ap (λ k. get_or flags k false) led_here ∙ miss))));
-    }
-  where
-    list_all-get : (flags : List Bool) (k : ℕ) → list_all (λ flag. flag) flags ≡ true → k < length flags → get_or flags k false ≡ true
-    list_all-get [] k e l = absurd (omega arith)
-    list_all-get (flag ∷ flags) zero e l = (and_parts flag (list_all (λ flag. flag) flags) e).0
-    list_all-get (flag ∷ flags) (suc k) e l = list_all-get flags k (and_parts flag (list_all (λ flag. flag) flags) e).1 (omega arith)
-
-    list_all-from : (flags : List Bool) → ((k : ℕ) → k < length flags → get_or flags k false ≡ true) → list_all (λ flag. flag) flags ≡ true
-    list_all-from [] all = refl
-    list_all-from (flag ∷ flags) all = and_from flag _ (all 0 (omega arith)) (list_all-from flags (λ k l. all (suc k) (omega arith)))
-
--- a pair looked up, and put in where it is new
-pub seen_more : (one other : List ℕ) (r : ℕ) (look later : ℕ → ℕ → Option ℕ) (first : ℕ) → IsSeen one other r look
-    → first ≡ unwrap_or (look (slice_index one r) (slice_index other r)) r
-    → ((p q : ℕ) → later p q ≡ cond (same_pair (slice_index one r, slice_index other r) (p, q)) (Some first) (look p q))
-    → IsFirstPair one other r first × IsSeen one other (r + 1) later
-seen_more one other r look later first seen is after =
-    let here = first_here (look (slice_index one r) (slice_index other r)) refl is in (
-      here,
-      record {
-        known = λ p q f e.
-            ⊎_elim
-            (λ (same : same_pair (slice_index one r, slice_index other r) (p, q) ≡ true).
-            let parts = and_parts (nat_eq (slice_index one r) p) (nat_eq (slice_index other r) q) same in
-            let ep : slice_index one r ≡ p = eqb-true _ _ parts.0 in
-            let eq' : slice_index other r ≡ q = eqb-true _ _ parts.1 in
-            let ef : first ≡ f = some_same (sym (cond-true _ _ _ same) ∙ sym (after p q) ∙ e) in
-            subst (λ f. (f < r + 1) × (slice_index one f ≡ p) × (slice_index other f ≡ q) × ((s : ℕ) → s < f → slice_index one s ≡ p → slice_index other s ≢ q)) ef
-            (omega (arith, here.below), here.one_same ∙ ep, here.other_same ∙ eq', λ s sl g h. here.least s sl (g ∙ sym ep) (h ∙ sym eq')))
-            (λ (apart : same_pair (slice_index one r, slice_index other r) (p, q) ≡ false).
-            let before = seen.known p q f (sym (cond-false _ _ _ apart) ∙ sym (after p q) ∙ e) in
-            (omega (arith, before.0), before.1, before.2, before.3))
-            (cases_Bool (same_pair (slice_index one r, slice_index other r) (p, q)));
-        new = λ p q e s sl g h.
-            ⊎_elim
-            (λ (same : same_pair (slice_index one r, slice_index other r) (p, q) ≡ true).
-            some_not_none (sym (cond-true _ _ _ same) ∙ sym (after p q) ∙ e))
-            (λ (apart : same_pair (slice_index one r, slice_index other r) (p, q) ≡ false).
-            ⊎_elim
-            (λ (now : s ≡ r). true≢false (sym (and_from (nat_eq (slice_index one r) p) (nat_eq (slice_index other r) q)
-            (eq-eqb _ _ (ap (slice_index one) (sym now) ∙ g)) (eq-eqb _ _ (ap (slice_index other) (sym now) ∙ h))) ∙ apart))
-            (λ (ne : s ≡ r → ⊥). seen.new p q (sym (cond-false _ _ _ apart) ∙ sym (after p q) ∙ e) s (omega (arith, ne)) g h)
-            (cases_eq s r))
-            (cases_Bool (same_pair (slice_index one r, slice_index other r) (p, q)));
-      },
-    )
-  where
-    some_same : {a b : ℕ} → Some a ≡ Some b → a ≡ b
-    some_same e = cc
-
-    some_not_none : {a : ℕ} → Some a ≡ None → ⊥
-    some_not_none e = cc
-
-    first_here : (looked : Option ℕ) → look (slice_index one r) (slice_index other r) ≡ looked → first ≡ unwrap_or looked r → IsFirstPair one other r first
-    first_here None e g = subst (IsFirstPair one other r) (sym g) (record {
-      below = omega arith;
-      one_same = refl;
-      other_same = refl;
-      least = λ s sl p q. seen.new (slice_index one r) (slice_index other r) e s sl p q;
-    })
-    first_here (Some f) e g =
-        let known = seen.known (slice_index one r) (slice_index other r) f e in
-        subst (IsFirstPair one other r) (sym g) (record {
-          below = omega (arith, known.0);
-          one_same = known.1;
-          other_same = known.2;
-          least = λ s sl p q. known.3 s sl p q;
-        })
-
--- what holds of each item and its place holds with one more item behind them
-pub each_more : (P : ℕ → ℕ → Type 0) (xs : List ℕ) (x n : ℕ) → length xs ≡ n → ((k : ℕ) → k < n → P k (slice_index xs k)) → P n x
-    → (k : ℕ) → k < n + 1 → P k (slice_index (xs ++ x ∷ []) k)
-each_more P xs x n long each here k kl =
-    ⊎_elim
-    (λ (e : k ≡ n). subst (P k) (sym (at_end xs x k (e ∙ sym long))) (subst (λ m. P m x) (sym e) here))
-    (λ (ne : k ≡ n → ⊥). subst (P k) (sym (before_end xs x k (omega (arith, ne)))) (each k (omega (arith, ne))))
-    (cases_eq k n)
-  where
-    at_end : (xs : List ℕ) (x k : ℕ) → k ≡ length xs → slice_index (xs ++ x ∷ []) k ≡ x
-    at_end xs x k e = grind (arith, common_steps, e)
-
-    before_end : (xs : List ℕ) (x k : ℕ) → k < length xs → slice_index (xs ++ x ∷ []) k ≡ slice_index xs k
-    before_end xs x k l = grind (arith, common_steps, l)
+    let test = λ (r : ℕ). nat_eq (slice_index ids r) (slice_index ids (slice_index leaders r)) in
+    same_bool _ _
+    (λ e. every-all (settles rows x a) n (λ r rl.
+    sym (settles_at rows x a leaders ids led at r rl) ∙ are_one leaders ids (slice_index leaders r) (λ s sl f.
+    eqb-true _ _ (every-at test (length leaders) s e sl) ∙ ap (slice_index ids) f)))
+    (λ e. every-all test (length leaders) (λ r rl.
+    let rl' : r < n = omega (arith, far) in
+    eq-eqb _ _ (alike_yes leaders ids (slice_index leaders r) r (settles_at rows x a leaders ids led at r rl' ∙ every-at (settles rows x a) n r e rl') rl refl)))

@@ -1,11 +1,9 @@
 -- What stands for a candidate while candidates are sorted.
-use Rattle.std.specs.Prelude.{◌≡◌, ℕ, ◌<◌, List, length, map, All, Option, None, Some, slice_index_or}
+use Rattle.std.specs.Prelude.{◌≡◌, ℕ, ◌<◌, List, length, map, All, Option, Some}
 use Rattle.std.specs.Option.{option_map}
-use Rattle.std.specs.Ordering.{ordering_then, nat_cmp}
-use Rattle.std.specs.declared.cmp.Ordering.{Ordering}
 use Rattle.std.specs.declared.vec.Vec.{Vec}
 use Rattle.std.specs.declared.alloc.Global.{Global}
-use Rattle.dep_search.specs.Rows.{Row, row_at, texts}
+use Rattle.dep_search.specs.Rows.{Row, row_at}
 use Rattle.dep_search.specs.Found.{constants, side_at}
 use Rattle.dep_search.specs.declared.candidate.Candidate.{Candidate}
 

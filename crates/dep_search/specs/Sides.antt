@@ -1,16 +1,26 @@
 -- What is known of a left side before it is asked what follows from it.
-use Rattle.std.specs.Prelude.{◌≡◌, ℕ, ◌<◌, List, length, All, slice_index, nat_eq}
-use Rattle.dep_search.specs.Rows.{Row}
-use Rattle.dep_search.specs.Counting.{tally}
-use Rattle.dep_search.specs.Leaders.{AreColumns, ArePartsOf}
-use Rattle.dep_search.specs.declared.finder.Table.{Table}
+use Rattle.std.specs.Prelude.{◌≡◌, ◌<◌, List, length, All}
+use Rattle.dep_search.specs.Found.{proper_parts}
+use Rattle.dep_search.specs.Settled.{AreFacts, IsGrouped, IsTable, StandAt, leads_of}
+use Rattle.dep_search.specs.declared.table.Table.{Table}
+use Rattle.dep_search.specs.declared.facts.Facts.{Facts}
 use Rattle.dep_search.specs.declared.finder.Side.{Side}
+use Rattle.dep_search.specs.declared.finder.Past.{Past}
 
--- the columns tell the rows apart, the parts have their leaders, and each leader leads so many rows
-pub record IsSide (table : Table) (side : Side) : Type 0 where
-  pub columns : AreColumns table.rows.now (length table.columns.now) table.columns.now
-  pub rows : All (λ (row : Row). length row ≡ length table.columns.now) table.rows.now
-  pub x : All (λ attr. attr < length table.columns.now) side.x.now
-  pub parts : ArePartsOf table.rows.now side.x.now side.parts.now.proper.items side.parts.now.whole
-  pub long : length side.sizes.now ≡ length table.rows.now
-  pub sizes : (first : ℕ) → first < length table.rows.now → slice_index side.sizes.now first ≡ tally (λ r. nat_eq first (slice_index side.parts.now.whole r)) (length table.rows.now)
+-- the facts of left sides are true of a table
+abbrev pub AreTrue : Table → List Facts → Type 0
+AreTrue table store = All (AreFacts table.rows.now (length table.columns.now) table.support) store
+
+-- the rows are told apart by the left side, and the facts of its parts are at hand
+pub record IsSide (table : Table) (store : List Facts) (side : Side) : Type 0 where
+  pub numbered : IsTable table
+  pub grouped : IsGrouped table.rows.now side.grouped.now
+  pub leads : side.leads.now ≡ leads_of table.rows.now table.support side.grouped.now.x
+  pub x : All (λ attr. attr < length table.columns.now) side.grouped.now.x
+  pub facts : AreTrue table store
+  pub places : StandAt store side.places.now (proper_parts side.grouped.now.x)
+
+-- what is known of the sides before
+pub record IsPast (table : Table) (past : Past) : Type 0 where
+  pub front : IsGrouped table.rows.now past.front
+  pub facts : AreTrue table past.store

@@ -1,82 +1,27 @@
 //! What is found for a left side.
-ghost use Rattle.std.specs.Prelude.{◌≡◌, ◌≤◌, ◌<◌, ◌++◌, ◌&&◌, ◌∷◌, [], ℕ, List, length, All, IfErr, IfOk, OnOk, not, slice_index, slice_index_or, nat_eq, nat_le};
-ghost use Rattle.std.specs.List.{AllZip, list_all, list_any};
+ghost use Rattle.std.specs.Prelude.{◌≡◌, ◌≤◌, ◌<◌, ◌++◌, ◌∷◌, [], ℕ, List, length, All, IfErr, IfOk, OnOk, true, nat_le, slice_index_or};
+ghost use Rattle.std.specs.List.{list_all};
 ghost use Rattle.dep_search.specs.Rows.{Row, row_at};
-ghost use Rattle.dep_search.specs.Counting.{tally};
-ghost use Rattle.dep_search.specs.Found.{all_found, constant_at, constants_at, found_at, found_on, is_constant, is_plain, is_short, plain_at};
-ghost use Rattle.dep_search.specs.Leaders.{any_flag, AreAlike, AreColumns, ArePartsOf, AreWithin, IsKnown, all_settle};
+ghost use Rattle.dep_search.specs.Found.{all_found, constant_at, constants_at, found_at, found_on, has_support, is_constant, is_first, is_plain, is_short, plain_at};
 ghost use Rattle.dep_search.specs.Keys.{IsCandidate};
-ghost use Rattle.dep_search.specs.Sides.{IsSide};
+ghost use Rattle.dep_search.specs.Settled.{IsGrouped, IsSettled, IsTable};
+ghost use Rattle.dep_search.specs.Sides.{IsPast, IsSide};
 ghost use Rattle.dep_search.specs.declared.candidate.Candidate.{Candidate};
 ghost use Rattle.dep_search.specs.declared.finder.FindFault.TheVariants.{TooMany};
 
 use crate::candidate::Candidate;
 use crate::columns::columns;
-use crate::parts::{Parts, parts_of};
-use crate::settled::{alike, sizes};
+use crate::facts::{Facts, is_any_all, is_any_said, places, settled_at};
+use crate::grouped::{Grouped, grouped_by, leads, with_attr};
+use crate::parts::proper_parts;
+use crate::settled::Settled;
+use crate::table::Table;
 use std::alloc::{AllocError, Global};
 use std::slice;
 use text_lists::{List, Texts};
 
 /// The most bytes of a constant.
 const LONGEST_CONSTANT: usize = 1024;
-
-/// What is known of the rows at a left side X and an attribute A: whether they settle it, by X and by each proper part.
-#[derive(Drop)]
-pub struct Known {
-    pub proper: List<List<bool>>,
-    pub whole: List<bool>,
-}
-
-#[tactic(auto, using(crate::proofs::Listed::all_zip_step, std::proofs::lemmas::List::take_all))]
-fn known_of(alloc: Global, ids: &[usize], parts: &Parts) -> Result<Known, AllocError>
-    requires proper { All (λ (leaders : List ℕ). AreWithin leaders × (length ids.now ≡ length leaders)) parts.now.proper.items }
-    requires whole { AreWithin parts.now.whole × (length ids.now ≡ length parts.now.whole) }
-    ensures { IfOk result (λ known. IsKnown parts.now.proper.items parts.now.whole ids.now known.proper known.whole) }
-{
-    let whole = alike(alloc, parts.whole.as_slice(), ids)?;
-    let mut proper = List::new(alloc);
-    for leaders in &parts.proper {
-        proper.push(alike(alloc, leaders.as_slice(), ids)?)?;
-    }
-    Ok(Known { proper, whole })
-}
-
-fn all_of(flags: &List<bool>) -> bool
-    ensures { result ≡ list_all (λ flag. flag) flags.now }
-{
-    flags.as_slice().iter().all(|flag| *flag)
-}
-
-fn any_all(known: &[List<bool>]) -> bool
-    ensures { result ≡ list_any (list_all (λ flag. flag)) known.now }
-{
-    known.iter().any(|flags| all_of(flags))
-}
-
-/// Whether X determines A, and no proper part of it does.
-fn is_plain(known: &Known) -> bool
-    ensures { result ≡ (list_all (λ flag. flag) known.now.whole && not (list_any (list_all (λ flag. flag)) known.now.proper)) }
-{
-    all_of(&known.whole) && !any_all(known.proper.as_slice())
-}
-
-// Whether a proper part settles A for the row.
-#[tactic(auto, using(crate::proofs::Listed::any_flag_at, crate::proofs::Listed::any_flag_end))]
-fn is_settled_by_part(proper: &[List<usize>], known: &[List<bool>], r: usize) -> bool
-    requires long { length proper.now ≡ length known.now }
-    requires row { (k : ℕ) → k < length proper.now → r < length (slice_index_or proper.now k []) }
-    requires leader { (k : ℕ) → k < length proper.now → slice_index (slice_index_or proper.now k []) r < length (slice_index_or known.now k []) }
-    ensures { result ≡ any_flag proper.now known.now r }
-{
-    for k in 0..proper.len() {
-        let first = proper[k].as_slice()[r];
-        if known[k].as_slice()[first] {
-            return true;
-        }
-    }
-    false
-}
 
 #[tactic(auto, using(std::proofs::lemmas::List::Folds::list_all_at, std::proofs::lemmas::List::Folds::list_all_more, std::proofs::lemmas::List::take_all))]
 fn is_short(row: &Texts, attrs: &[usize]) -> bool
@@ -102,47 +47,13 @@ fn is_short_at(rows: &[Texts], r: usize, attrs: &[usize]) -> bool
 
 // ---- candidates of a left side X and an attribute A
 
-/// A table by numbers: its rows, for each attribute the rows by the texts there, and how many rows a constant one has.
-#[derive(Clone, Copy)]
-pub struct Table<'a> {
-    pub rows: &'a [Texts],
-    pub columns: &'a [List<usize>],
-    pub support: usize,
-}
-
-/// A left side: its number, its attributes, the leaders by it and by its parts, and how many rows each leads.
+/// A left side: its number, the rows by it, the first rows of its classes with support, and where its parts' facts stand.
 #[derive(Clone, Copy)]
 pub struct Side<'a> {
     pub number: usize,
-    pub x: &'a [usize],
-    pub parts: &'a Parts,
-    pub sizes: &'a [usize],
-}
-
-fn is_constant(table: &Table, side: &Side, a: usize, known: &Known, r: usize) -> bool
-    requires side { IsSide table.now side.now }
-    requires a { a < length table.now.columns.now }
-    requires known { IsKnown side.now.parts.now.proper.items side.now.parts.now.whole (slice_index_or table.now.columns.now a []) known.now.proper known.now.whole }
-    requires row { r < length table.now.rows.now }
-    ensures { result ≡ is_constant table.now.rows.now table.now.support side.now.x.now a r }
-{
-    let first = side.parts.whole.as_slice()[r];
-    if first != r {
-        return false;
-    }
-    if side.sizes[first] < table.support {
-        return false;
-    }
-    if !is_short_at(table.rows, r, slice::from_ref(&a)) {
-        return false;
-    }
-    if !is_short_at(table.rows, r, side.x) {
-        return false;
-    }
-    if !known.whole.as_slice()[first] {
-        return false;
-    }
-    !is_settled_by_part(side.parts.proper.as_slice(), known.proper.as_slice(), r)
+    pub grouped: &'a Grouped,
+    pub leads: &'a [usize],
+    pub places: &'a [usize],
 }
 
 #[tactic(auto, unfolding(crate::specs::Found::plain_at))]
@@ -150,12 +61,12 @@ fn push_plain(
     found: &mut List<Candidate>,
     side: &Side,
     a: usize,
-    known: &Known,
+    settled: &Settled,
 ) -> Result<(), AllocError>
-    ensures { (rows : List Row) → is_plain rows side.now.x.now a ≡ all_settle known.now.proper known.now.whole
-        → OnOk result (found.new ≡ found.old ++ plain_at rows side.now.number side.now.x.now a) }
+    ensures { (rows : List Row) → is_plain rows side.now.grouped.now.x a ≡ settled.now.all
+        → OnOk result (found.new ≡ found.old ++ plain_at rows side.now.number side.now.grouped.now.x a) }
 {
-    if is_plain(known) {
+    if settled.all {
         found.push(Candidate {
             a,
             side: side.number,
@@ -165,22 +76,54 @@ fn push_plain(
     Ok(())
 }
 
+// Whether the first row of a class with support has the constants of a dependency that is found.
+fn is_constant(
+    table: &Table,
+    store: &[Facts],
+    side: &Side,
+    a: usize,
+    settled: &Settled,
+    r: usize,
+) -> bool
+    requires side { IsSide table.now store.now side.now }
+    requires a { a < length table.now.columns.now }
+    requires settled { IsSettled table.now.rows.now table.now.support side.now.grouped.now.x a settled.now }
+    requires row { r < length table.now.rows.now }
+    requires first { is_first table.now.rows.now side.now.grouped.now.x r ≡ true }
+    requires support { has_support table.now.rows.now table.now.support side.now.grouped.now.x r ≡ true }
+    ensures { result ≡ is_constant table.now.rows.now table.now.support side.now.grouped.now.x a r }
+{
+    if !settled.says(r) {
+        return false;
+    }
+    if is_any_said(store, side.places, a, r) {
+        return false;
+    }
+    if !is_short_at(table.rows, r, slice::from_ref(&a)) {
+        return false;
+    }
+    is_short_at(table.rows, r, side.grouped.x.as_slice())
+}
+
 #[tactic(auto, unfolding(crate::specs::Found::constant_at))]
 fn push_constant(
     found: &mut List<Candidate>,
     table: &Table,
+    store: &[Facts],
     side: &Side,
     a: usize,
-    known: &Known,
+    settled: &Settled,
     r: usize,
 ) -> Result<(), AllocError>
-    requires side { IsSide table.now side.now }
+    requires side { IsSide table.now store.now side.now }
     requires a { a < length table.now.columns.now }
-    requires known { IsKnown side.now.parts.now.proper.items side.now.parts.now.whole (slice_index_or table.now.columns.now a []) known.now.proper known.now.whole }
+    requires settled { IsSettled table.now.rows.now table.now.support side.now.grouped.now.x a settled.now }
     requires row { r < length table.now.rows.now }
-    ensures { OnOk result (found.new ≡ found.old ++ constant_at table.now.rows.now table.now.support side.now.number side.now.x.now a r) }
+    requires first { is_first table.now.rows.now side.now.grouped.now.x r ≡ true }
+    requires support { has_support table.now.rows.now table.now.support side.now.grouped.now.x r ≡ true }
+    ensures { OnOk result (found.new ≡ found.old ++ constant_at table.now.rows.now table.now.support side.now.number side.now.grouped.now.x a r) }
 {
-    if is_constant(table, side, a, known, r) {
+    if is_constant(table, store, side, a, settled, r) {
         found.push(Candidate {
             a,
             side: side.number,
@@ -190,21 +133,22 @@ fn push_constant(
     Ok(())
 }
 
-#[tactic(auto, using(crate::proofs::Counted::gathered_more))]
+#[tactic(auto, using(crate::proofs::Known::constants_at_leads, std::proofs::lemmas::List::take_all))]
 fn push_constants(
     found: &mut List<Candidate>,
     table: &Table,
+    store: &[Facts],
     side: &Side,
     a: usize,
-    known: &Known,
+    settled: &Settled,
 ) -> Result<(), AllocError>
-    requires side { IsSide table.now side.now }
+    requires side { IsSide table.now store.now side.now }
     requires a { a < length table.now.columns.now }
-    requires known { IsKnown side.now.parts.now.proper.items side.now.parts.now.whole (slice_index_or table.now.columns.now a []) known.now.proper known.now.whole }
-    ensures { OnOk result (found.new ≡ found.old ++ constants_at table.now.rows.now table.now.support side.now.number side.now.x.now a) }
+    requires settled { IsSettled table.now.rows.now table.now.support side.now.grouped.now.x a settled.now }
+    ensures { OnOk result (found.new ≡ found.old ++ constants_at table.now.rows.now table.now.support side.now.number side.now.grouped.now.x a) }
 {
-    for r in 0..table.rows.len() {
-        push_constant(found, table, side, a, known, r)?;
+    for r in side.leads {
+        push_constant(found, table, store, side, a, settled, *r)?;
     }
     Ok(())
 }
@@ -214,19 +158,23 @@ fn push_found_at(
     alloc: Global,
     found: &mut List<Candidate>,
     table: &Table,
+    store: &[Facts],
     side: &Side,
     a: usize,
 ) -> Result<(), AllocError>
-    requires side { IsSide table.now side.now }
+    requires side { IsSide table.now store.now side.now }
     requires a { a < length table.now.columns.now }
-    ensures { OnOk result (found.new ≡ found.old ++ found_at table.now.rows.now table.now.support side.now.number side.now.x.now a) }
+    ensures { OnOk result (found.new ≡ found.old ++ found_at table.now.rows.now table.now.support side.now.number side.now.grouped.now.x a) }
 {
-    if side.x.contains(&a) {
+    if side.grouped.x.as_slice().contains(&a) {
         return Ok(());
     }
-    let known = known_of(alloc, table.columns[a].as_slice(), side.parts)?;
-    push_plain(found, side, a, &known)?;
-    push_constants(found, table, side, a, &known)
+    if is_any_all(store, side.places, a) {
+        return Ok(());
+    }
+    let settled = settled_at(alloc, table, side.grouped, side.leads, a)?;
+    push_plain(found, side, a, &settled)?;
+    push_constants(found, table, store, side, a, &settled)
 }
 
 /// Why nothing is given: more were found than asked for, or memory ran out.
@@ -253,17 +201,18 @@ fn push_found_on(
     alloc: Global,
     found: &mut List<Candidate>,
     table: &Table,
+    store: &[Facts],
     side: &Side,
     most: usize,
 ) -> Result<(), FindFault>
-    requires side { IsSide table.now side.now }
+    requires side { IsSide table.now store.now side.now }
     requires few { length found.old ≤ most }
-    ensures ok { OnOk result (found.new ≡ found.old ++ found_on table.now.rows.now table.now.support (length table.now.columns.now) side.now.number side.now.x.now) }
+    ensures ok { OnOk result (found.new ≡ found.old ++ found_on table.now.rows.now table.now.support (length table.now.columns.now) side.now.number side.now.grouped.now.x) }
     ensures few { OnOk result (length found.new ≤ most) }
-    ensures many { IfErr result (λ fault. fault ≡ TooMany → most < length (found.old ++ found_on table.now.rows.now table.now.support (length table.now.columns.now) side.now.number side.now.x.now)) }
+    ensures many { IfErr result (λ fault. fault ≡ TooMany → most < length (found.old ++ found_on table.now.rows.now table.now.support (length table.now.columns.now) side.now.number side.now.grouped.now.x)) }
 {
     for a in 0..table.columns.len() {
-        push_found_at(alloc, found, table, side, a)?;
+        push_found_at(alloc, found, table, store, side, a)?;
         if found.as_slice().len() > most {
             return Err(FindFault::TooMany);
         }
@@ -271,31 +220,67 @@ fn push_found_on(
     Ok(())
 }
 
+// The rows by a left side. They come from those by all but its last attribute, which are kept for the next left side.
+fn grouped_next(
+    alloc: Global,
+    table: &Table,
+    front: &mut Grouped,
+    x: &[usize],
+) -> Result<Grouped, AllocError>
+    requires table { IsTable table.now }
+    requires x { All (λ attr. attr < length table.now.columns.now) x.now }
+    requires front { IsGrouped table.now.rows.now front.old }
+    ensures x { IfOk result (λ grouped. grouped.x ≡ x.now) }
+    ensures rows { IfOk result (IsGrouped table.now.rows.now) }
+    ensures front { IsGrouped table.now.rows.now front.new }
+{
+    match x.split_last() {
+        None => grouped_by(alloc, table, x),
+        Some((last, before)) => {
+            if front.x.as_slice() != before {
+                *front = grouped_by(alloc, table, before)?;
+            }
+            with_attr(alloc, table, front, *last)
+        }
+    }
+}
+
+/// What was gone through: the rows by the front of the last left side, and the facts of parts.
+#[derive(Drop)]
+pub struct Past {
+    pub front: Grouped,
+    pub store: List<Facts>,
+}
+
 fn push_side(
     alloc: Global,
     found: &mut List<Candidate>,
     table: &Table,
+    past: &mut Past,
     number: usize,
     x: &[usize],
     most: usize,
 ) -> Result<(), FindFault>
-    requires columns { AreColumns table.now.rows.now (length table.now.columns.now) table.now.columns.now }
-    requires rows { All (λ (row : Row). length row ≡ length table.now.columns.now) table.now.rows.now }
+    requires table { IsTable table.now }
+    requires past { IsPast table.now past.old }
     requires x { All (λ attr. attr < length table.now.columns.now) x.now }
     requires few { length found.old ≤ most }
+    ensures past { OnOk result (IsPast table.now past.new) }
     ensures ok { OnOk result (found.new ≡ found.old ++ found_on table.now.rows.now table.now.support (length table.now.columns.now) number x.now) }
     ensures few { OnOk result (length found.new ≤ most) }
     ensures many { IfErr result (λ fault. fault ≡ TooMany → most < length (found.old ++ found_on table.now.rows.now table.now.support (length table.now.columns.now) number x.now)) }
 {
-    let parts = parts_of(alloc, table.rows, table.columns, x)?;
-    let sizes = sizes(alloc, parts.whole.as_slice())?;
+    let parts = proper_parts(alloc, x)?;
+    let places = places(alloc, table, &mut past.store, parts.as_slice())?;
+    let grouped = grouped_next(alloc, table, &mut past.front, x)?;
+    let leads = leads(alloc, table, &grouped)?;
     let side = Side {
         number,
-        x,
-        parts: &parts,
-        sizes: sizes.as_slice(),
+        grouped: &grouped,
+        leads: leads.as_slice(),
+        places: places.as_slice(),
     };
-    push_found_on(alloc, found, table, &side, most)
+    push_found_on(alloc, found, table, past.store.as_slice(), &side, most)
 }
 
 /// All that are found, if they are not too many.
@@ -322,12 +307,17 @@ pub fn all_found(
         columns: columns.as_slice(),
         support,
     };
+    let mut past = Past {
+        front: grouped_by(alloc, &table, &[])?,
+        store: List::new(alloc),
+    };
     let mut found = List::new(alloc);
     for number in 0..sides.len() {
         push_side(
             alloc,
             &mut found,
             &table,
+            &mut past,
             number,
             sides[number].as_slice(),
             most,

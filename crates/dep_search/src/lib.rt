@@ -7,12 +7,16 @@
 #![tactic(auto)]
 
 pub mod candidate;
+mod classes;
 mod columns;
+mod facts;
 pub mod finder;
+mod grouped;
 mod parts;
 mod settled;
 mod sides;
 mod sorting;
+mod table;
 
 pub use candidate::Candidate;
 pub use finder::{FindFault, all_found};

@@ -1,70 +1,74 @@
-//! The leaders of a left side and of each of its parts.
-ghost use Rattle.std.specs.Prelude.{◌≡◌, ℕ, ◌<◌, [], ◌∷◌, List, length, All, IfOk, slice_index_or};
-ghost use Rattle.std.specs.List.{AllZip};
-ghost use Rattle.dep_search.specs.Rows.{Row};
-ghost use Rattle.dep_search.specs.Leaders.{AreColumns, AreFirstPairs, ArePartsOf, Tells};
+//! The parts of a left side.
+ghost use Rattle.std.specs.Prelude.{◌≡◌, ℕ, ◌<◌, ◌+◌, ◌++◌, [], ◌∷◌, List, length, drop, map, IfOk, OnOk};
+ghost use Rattle.dep_search.specs.Found.{proper_parts};
 
-use crate::columns::first_pairs;
 use std::alloc::{AllocError, Global};
-use text_lists::{List, Texts};
+use text_lists::List;
 
-/// The leaders of the rows by each proper part of a left side, and by the whole of it.
-#[derive(Drop)]
-pub struct Parts {
-    pub proper: Vec<List<usize>>,
-    pub whole: List<usize>,
-}
-
-/// The leaders by a left side and by each of its proper parts. Its attributes are gone through from the last.
-pub fn parts_of(
-    alloc: Global,
-    rows: &[Texts],
-    columns: &[List<usize>],
-    x: &[usize],
-) -> Result<Parts, AllocError>
-    requires columns { AreColumns rows.now (length columns.now) columns.now }
-    requires within { All (λ attr. attr < length columns.now) x.now }
-    ensures { IfOk result (λ parts. ArePartsOf rows.now x.now parts.proper.items parts.whole) }
+/// The lists that are left where attributes are taken away. The attributes are gone through from the last.
+pub fn proper_parts(alloc: Global, x: &[usize]) -> Result<List<List<usize>>, AllocError>
+    ensures { IfOk result (λ parts. parts ≡ proper_parts x.now) }
 {
-    let mut parts = Parts {
-        proper: Vec::new(alloc),
-        whole: List::from(vec![in alloc; 0; rows.len()]?),
-    };
+    let mut parts = List::new(alloc);
     for i in 0..x.len() {
-        let attr = x[x.len() - 1 - i];
-        parts = with_attr(alloc, columns[attr].as_slice(), parts)?;
+        parts = with_attr(alloc, parts.as_slice(), x, x.len() - 1 - i)?;
     }
     Ok(parts)
 }
 
-// The parts without the attribute, and then those with it.
-#[tactic(auto, using(crate::proofs::Parted::parts_with_attr))]
-fn with_attr(alloc: Global, column: &[usize], parts: Parts) -> Result<Parts, AllocError>
-    requires proper { All (λ (leaders : List ℕ). length leaders ≡ length column.now) parts.proper.items }
-    requires whole { length parts.whole ≡ length column.now }
-    ensures { IfOk result (λ more. (rows : List Row) (x : List ℕ) (attr : ℕ) → ArePartsOf rows x parts.proper.items parts.whole
-        → Tells rows (attr ∷ []) column.now → ArePartsOf rows (attr ∷ x) more.proper.items more.whole) }
+// The parts from one place back: those from this one, then those with the attribute there, then all behind it.
+fn with_attr(
+    alloc: Global,
+    parts: &[List<usize>],
+    x: &[usize],
+    place: usize,
+) -> Result<List<List<usize>>, AllocError>
+    requires place { place < length x.now }
+    requires parts { parts.now ≡ proper_parts (drop (place + 1) x.now) }
+    ensures { IfOk result (λ more. more ≡ proper_parts (drop place x.now)) }
 {
-    let mut more = refined(alloc, column, parts.proper.as_slice())?;
-    let whole = first_pairs(alloc, column, parts.whole.as_slice())?;
-    let mut proper = parts.proper;
-    proper.append(&mut more)?;
-    proper.push(parts.whole)?;
-    Ok(Parts { proper, whole })
+    let mut more = List::new(alloc);
+    push_copies(alloc, &mut more, parts)?;
+    push_longer(alloc, &mut more, x[place], parts)?;
+    more.push(List::from(Vec::from_slice(alloc, &x[place + 1..])?))?;
+    Ok(more)
 }
 
-#[tactic(auto, using(crate::proofs::Listed::all_zip_step, std::proofs::lemmas::List::take_all))]
-fn refined(
+fn push_copies(
     alloc: Global,
-    column: &[usize],
-    proper: &[List<usize>],
-) -> Result<Vec<List<usize>>, AllocError>
-    requires { All (λ (leaders : List ℕ). length leaders ≡ length column.now) proper.now }
-    ensures { IfOk result (λ more. AllZip (AreFirstPairs column.now) proper.now more.items) }
+    more: &mut List<List<usize>>,
+    parts: &[List<usize>],
+) -> Result<(), AllocError>
+    ensures { OnOk result (more.new ≡ more.old ++ parts.now) }
 {
-    let mut more = Vec::new(alloc);
-    for leaders in proper {
-        more.push(first_pairs(alloc, column, leaders.as_slice())?)?;
+    for part in parts {
+        more.push(List::from(Vec::from_slice(alloc, part.as_slice())?))?;
     }
-    Ok(more)
+    Ok(())
+}
+
+fn push_longer(
+    alloc: Global,
+    more: &mut List<List<usize>>,
+    attr: usize,
+    parts: &[List<usize>],
+) -> Result<(), AllocError>
+    ensures { OnOk result (more.new ≡ more.old ++ map (λ (part : List ℕ). attr ∷ part) parts.now) }
+{
+    for part in parts {
+        let mut longer = List::new(alloc);
+        longer.push(attr)?;
+        push_all(&mut longer, part.as_slice())?;
+        more.push(longer)?;
+    }
+    Ok(())
+}
+
+fn push_all(list: &mut List<usize>, items: &[usize]) -> Result<(), AllocError>
+    ensures { OnOk result (list.new ≡ list.old ++ items.now) }
+{
+    for item in items {
+        list.push(*item)?;
+    }
+    Ok(())
 }

@@ -1,31 +1,89 @@
-//! Which rows have one text at an attribute, and how many agree, by the leaders of the rows that agree.
-ghost use Rattle.std.specs.Prelude.{◌≡◌, ◌&&◌, ℕ, ◌<◌, length, IfOk, slice_index, nat_eq};
+//! Which rows settle an attribute, by the classes of rows that agree.
+ghost use Rattle.std.specs.Prelude.{◌≡◌, ◌⊎◌, ℕ, ◌<◌, false, [], ◌∷◌, All, length, take, IfOk, slice_index, slice_index_or, nat_eq};
 ghost use Rattle.dep_search.specs.Counting.{tally};
-ghost use Rattle.dep_search.specs.Leaders.{AreAlike, AreWithin};
+ghost use Rattle.dep_search.specs.Leaders.{AreWithin};
+ghost use Rattle.dep_search.specs.Classes.{AreClasses};
+ghost use Rattle.dep_search.specs.Settled.{AreFlags, IsLeader, IsToldBy, large, says};
 
+use crate::classes::{Classes, are_alike, is_alike, mark};
 use std::alloc::{AllocError, Global};
 use text_lists::List;
 
-/// For each leader, whether all places that it leads have one id.
-#[tactic(auto, using(crate::proofs::Counted::every_more))]
-pub fn alike(alloc: Global, leaders: &[usize], ids: &[usize]) -> Result<List<bool>, AllocError>
-    requires long { length ids.now ≡ length leaders.now }
-    requires within { AreWithin leaders.now }
-    ensures { IfOk result (AreAlike leaders.now ids.now) }
+/// Which rows settle an attribute: all of them, or those that are flagged. There are no flags where no row has one.
+#[derive(Drop)]
+pub struct Settled {
+    pub all: bool,
+    pub flags: List<bool>,
+}
+
+impl Settled {
+    pub fn says(&self, r: usize) -> bool
+        ensures { result ≡ says self.now r }
+    {
+        if self.all {
+            return true;
+        }
+        match self.flags.as_slice().get(r) {
+            None => false,
+            Some(flag) => *flag,
+        }
+    }
+}
+
+/// Of the rows that some leaders lead, those that settle the attribute with these ids.
+pub fn settled_by(
+    alloc: Global,
+    classes: &Classes,
+    leads: &[usize],
+    ids: &[usize],
+) -> Result<Settled, AllocError>
+    requires classes { AreClasses classes.now.leaders classes.now.nexts }
+    requires long { length ids.now ≡ length classes.now.leaders }
+    requires leads { All (IsLeader classes.now.leaders) leads.now }
+    ensures { IfOk result (IsToldBy classes.now.leaders leads.now ids.now) }
 {
-    let mut flags = vec![in alloc; true; leaders.len()]?;
-    for r in 0..leaders.len() {
-        let first = leaders[r];
-        let still = both(flags[first], ids[r] == ids[first]);
-        flags[first] = still;
+    if are_alike(classes.leaders.as_slice(), ids) {
+        return Ok(Settled {
+            all: true,
+            flags: List::new(alloc),
+        });
+    }
+    let flags = flags(alloc, classes, leads, ids)?;
+    Ok(Settled { all: false, flags })
+}
+
+fn flags(
+    alloc: Global,
+    classes: &Classes,
+    leads: &[usize],
+    ids: &[usize],
+) -> Result<List<bool>, AllocError>
+    requires classes { AreClasses classes.now.leaders classes.now.nexts }
+    requires long { length ids.now ≡ length classes.now.leaders }
+    requires leads { All (IsLeader classes.now.leaders) leads.now }
+    ensures { IfOk result (AreFlags classes.now.leaders leads.now ids.now) }
+{
+    let mut flags = Vec::new(alloc);
+    for k in 0..leads.len() {
+        let first = leads[k];
+        if is_alike(classes, ids, first) {
+            flags = with_room(alloc, flags, ids.len())?;
+            mark(classes, flags.as_mut_slice(), first);
+        }
     }
     Ok(List::from(flags))
 }
 
-fn both(one: bool, other: bool) -> bool
-    ensures { result ≡ (one && other) }
+// A flag for each row, none of them set, where there were none.
+fn with_room(alloc: Global, flags: Vec<bool>, rows: usize) -> Result<Vec<bool>, AllocError>
+    requires { (length flags.items ≡ 0) ⊎ (length flags.items ≡ rows) }
+    ensures long { IfOk result (λ room. length room.items ≡ rows) }
+    ensures same { IfOk result (λ room. (r : ℕ) → slice_index_or room.items r false ≡ slice_index_or flags.items r false) }
 {
-    one && other
+    if flags.is_empty() {
+        return Ok(vec![in alloc; false; rows]?);
+    }
+    Ok(flags)
 }
 
 /// For each leader, how many places it leads.
@@ -43,4 +101,24 @@ pub fn sizes(alloc: Global, leaders: &[usize]) -> Result<List<usize>, AllocError
         sizes[first] = size + 1;
     }
     Ok(List::from(sizes))
+}
+
+/// The leaders of so many places.
+#[tactic(auto, using(crate::proofs::Counted::gathered_more))]
+pub fn large(
+    alloc: Global,
+    leaders: &[usize],
+    sizes: &[usize],
+    support: usize,
+) -> Result<List<usize>, AllocError>
+    requires { length sizes.now ≡ length leaders.now }
+    ensures { IfOk result (λ list. list ≡ large leaders.now sizes.now support) }
+{
+    let mut list = List::new(alloc);
+    for r in 0..leaders.len() {
+        if leaders[r] == r && support <= sizes[r] {
+            list.push(r)?;
+        }
+    }
+    Ok(list)
 }

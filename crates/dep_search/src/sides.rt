@@ -54,7 +54,7 @@ fn push_longer(
 {
     for attr in 0..attrs {
         if is_behind(x, attr) {
-            more.push(with_attr(alloc, x, attr)?)?;
+            more.push(extended(alloc, x, attr)?)?;
         }
     }
     Ok(())
@@ -66,7 +66,8 @@ fn is_behind(x: &[usize], attr: usize) -> bool
     x.iter().all(|before| *before < attr)
 }
 
-fn with_attr(alloc: Global, x: &[usize], attr: usize) -> Result<List<usize>, AllocError>
+/// A left side with one attribute more behind.
+pub fn extended(alloc: Global, x: &[usize], attr: usize) -> Result<List<usize>, AllocError>
     ensures { IfOk result (λ more. more ≡ x.now ++ attr ∷ []) }
 {
     let mut more = List::from(Vec::from_slice(alloc, x)?);

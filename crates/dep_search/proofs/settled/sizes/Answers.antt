@@ -1,7 +1,6 @@
-use Rattle.std.proofs.Common.{◌≡◌, arith, eqb, get_or, sym, ◌∙◌}
+use Rattle.std.proofs.Common.{arith, eqb}
 use Rattle.std.specs.Prelude.{slice_index}
 use Rattle.std.proofs.lemmas.List.{get_or_read}
-use Rattle.dep_search.specs.Counting.{tally}
 use Rattle.dep_search.proofs.Counted.{tally_le}
 use Rattle.dep_search.proofs.settled.sizes.Goals as goal
 

@@ -1,7 +1,6 @@
-use Rattle.std.proofs.Common.{◌≡◌, List, map, subst, sym, ap, ◌∙◌}
+use Rattle.std.proofs.Common.{map, subst, sym, ap, ◌∙◌}
 use Rattle.dep_search.specs.Found.{IsInOrder}
 use Rattle.dep_search.specs.Keys.{candidate_of}
-use Rattle.dep_search.specs.declared.candidate.Candidate.{Candidate}
 use Rattle.dep_search.proofs.InOrder.{in_order}
 use Rattle.dep_search.proofs.Listed.{if_ok}
 use Rattle.dep_search.proofs.sorting.sorted.Goals as goal
