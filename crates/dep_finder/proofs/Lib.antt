@@ -1,3 +1,4 @@
+pub mod Comment
 pub mod FoundLists
 pub mod KeptParts
 pub mod Laws
@@ -6,4 +7,5 @@ pub mod LeastParts
 pub mod Meaning
 pub mod Numbered
 pub mod Over
+pub mod ReadAgain
 pub mod SameTexts

@@ -1,3 +1,4 @@
 pub mod Deps
 pub mod FoundText
 pub mod Minimal
+pub mod ReadAgain

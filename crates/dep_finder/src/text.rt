@@ -7,6 +7,7 @@ ghost use Rattle.rule_model.specs.declared.dep.Dep.{Dep};
 ghost use Rattle.rule_parser.specs.RuleText.{attr_name, canonical, cfd_line, cfd_row_line, decl_lines};
 ghost use Rattle.dep_finder.specs.Deps.{IsOver};
 ghost use Rattle.dep_finder.specs.FoundText.{decl_of, found_text, head_of, row_decl};
+ghost use Rattle.dep_finder.specs.ReadAgain.{IsReadAs};
 
 use rule_model::{Cell, Dep, DepRow};
 use rule_parser::{Cells, push_row, push_sides};
@@ -14,16 +15,25 @@ use schema_core::{Attr, List, Table, Text, Texts, push_number};
 use std::alloc::{AllocError, Global};
 use std::slice;
 
-/// The rule file of dependencies of a table, with a comment that tells how many there are.
-#[tactic(auto, unfolding(rule_parser::specs::RuleText::canonical))]
+/// The rule file of dependencies of a table, with a comment that tells how many there are. Where a rule book may have them,
+/// it is read as them.
 pub fn found_text(alloc: Global, table: &Table, found: &List<Dep>) -> Result<Vec<u8>, AllocError>
+    requires { All (IsOver table.now.attrs) found.now }
+    ensures text { IfOk result (λ text. text.items ≡ found_text table.now found.now) }
+    ensures again { IfOk result (λ text. IsReadAs table.now found.now text.items) }
+{
+    text_of(alloc, table, found.as_slice())
+}
+
+#[tactic(auto, unfolding(rule_parser::specs::RuleText::canonical))]
+fn text_of(alloc: Global, table: &Table, found: &[Dep]) -> Result<Vec<u8>, AllocError>
     requires { All (IsOver table.now.attrs) found.now }
     ensures { IfOk result (λ text. text.items ≡ found_text table.now found.now) }
 {
     let mut text = Vec::new(alloc);
-    push_found(alloc, &mut text, table, found.as_slice())?;
+    push_found(alloc, &mut text, table, found)?;
     text.extend_from_slice(b"# found ")?;
-    push_number(&mut text, found.as_slice().len() as u64)?;
+    push_number(&mut text, found.len() as u64)?;
     text.push(b'\n')?;
     Ok(text)
 }
