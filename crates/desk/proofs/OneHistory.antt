@@ -73,10 +73,10 @@ taken_back desk editor number (Some entry) = unless_overtaken desk editor number
 
 acted : (desk : DeskModel) (editor : List ℕ) (a : Act) → AreOneHistory desk (act_answer desk editor a).1
 acted desk editor (act.Insert table values) = edit_made desk editor None (edit.Insert table values)
-acted desk editor (act.Set table row seen attr value) = seen_made desk editor row seen (edit.Set table row attr value) (row_named desk table row)
-acted desk editor (act.Delete table row seen) = seen_made desk editor row seen (edit.Delete table row) (row_named desk table row)
+acted desk editor (act.Set table row seen attr value) = seen_made desk editor row seen (edit.Set table row attr value) (row_named desk.rules desk.history.present table row)
+acted desk editor (act.Delete table row seen) = seen_made desk editor row seen (edit.Delete table row) (row_named desk.rules desk.history.present table row)
 acted desk editor act.TakeBack = let number = last_live desk.entries editor in taken_back desk editor number (entry_at desk.entries number)
-acted desk editor (act.Look table row) = looked desk row (row_named desk table row)
+acted desk editor (act.Look table row) = looked desk row (row_named desk.rules desk.history.present table row)
 acted desk editor act.List = none_made desk
 
 pub answer_made : (desk : DeskModel) (event : Event) (told : Reply) (after : DeskModel) → IsAnswer desk event told after → AreOneHistory desk after
