@@ -1,5 +1,5 @@
 -- A row by the name of its table, by what is known of the table and of the row.
-use Rattle.std.proofs.Common.{◌≡◌, ℕ, ◌<◌, List, length, Some, None, Ok, Err, refl, ap, ◌∙◌}
+use Rattle.std.proofs.Common.{◌≡◌, ℕ, zero, suc, ◌<◌, ◌≤◌, List, [], ◌∷◌, length, arith, Some, None, Ok, Err, refl, ap, ◌∙◌}
 use Rattle.std.specs.Prelude.{option_and_then, slice_get}
 use Rattle.schema_core.specs.Schemas.{table_place}
 use Rattle.schema_core.specs.declared.schema.Table.{Table}
@@ -24,3 +24,9 @@ module _ (rules : Book) (state : State) (name : List ℕ) (row : ℕ) where
 -- the texts of a row of a table that is there
 pub texts-at : (state : State) (table row : ℕ) (rows : TableState) → slice_get state table ≡ Some rows → row_texts state table row ≡ texts_of rows row
 texts-at state table row rows there = ap (option_and_then (λ (t : TableState). texts_of t row)) there
+
+-- a table beyond the last one has no row
+pub none-beyond : (state : State) (table row : ℕ) → length state ≤ table → None ≡ row_texts state table row
+none-beyond [] table row beyond = refl
+none-beyond (rows ∷ state) zero row beyond = absurd (omega arith)
+none-beyond (rows ∷ state) (suc table) row beyond = none-beyond state table row (omega arith)
