@@ -21,7 +21,11 @@ pub(crate) struct RowAt<'a> {
 }
 
 /// The row by the name of its table and its id.
-pub(crate) fn find_row<'a>(bench: &'a Bench, table: &Text, row: RowId) -> Result<RowAt<'a>, EditFault>
+pub(crate) fn find_row<'a>(
+    bench: &'a Bench,
+    table: &Text,
+    row: RowId,
+) -> Result<RowAt<'a>, EditFault>
     ensures there { IfOk result (λ at. row_named bench.now.rules bench.now.history.present table.now row ≡ Ok (at.table, map (text_of bench.now.texts) (ids_of at.tuple.now))) }
     ensures named { IfOk result (λ at. HaveTexts bench.now.texts (ids_of at.tuple.now)) }
     ensures refused { IfErr result (λ fault. (row_named bench.now.rules bench.now.history.present table.now row ≡ Err fault) × (fault ≢ edit_fault.Memory)) }

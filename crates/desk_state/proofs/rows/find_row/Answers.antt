@@ -1,4 +1,4 @@
-use Rattle.std.proofs.Common.{refl, sym}
+use Rattle.std.proofs.Common.{sym}
 use Rattle.std.proofs.lemmas.Slice.Zip.{AllZip-long}
 use Rattle.row_store.specs.Tuple.{ids_of}
 use Rattle.bench_core.specs.Stored.{stored, table_state}
@@ -24,3 +24,13 @@ pub returns-in-Some-get-clause-named : goal.returns-in-Some-get-clause-named
 returns-in-Some-get-clause-named c =
     let bench = c.args.bench.now in
     have-texts bench.texts (stored c.store.result.now) c.args.row (ids_of c.in-Some-get.tuple.now) c.store.ensures.texts (sym c.in-Some-get.ensures)
+
+pub returns-in-None-clause-refused : goal.returns-in-None-clause-refused
+returns-in-None-clause-refused c =
+    let bench = c.args.bench.now in
+    let within = rw (c.schema.ensures.schema, c.rules.ensures.value) at c.in-Some.ensures.found.0 in
+    let place = rw (c.schema.ensures.schema, c.rules.ensures.value, c.as_str.ensures.bytes) at (sym c.in-Some.ensures.place) in
+    let store = stored c.store.result.now in (
+      row-unknown bench.rules bench.history.present c.args.table.now c.args.row c.in-Some.number (table_state bench.texts store) place within c.store.ensures.state (texts-absent bench.texts store c.args.row (sym c.in-None.ensures)),
+      λ same. let e = same in cc,
+    )

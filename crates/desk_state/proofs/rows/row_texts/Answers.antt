@@ -1,0 +1,38 @@
+use Rattle.std.proofs.Common.{◌<◌, length, map, Some, ap, arith, subst, sym, ◌∙◌}
+use Rattle.std.proofs.lemmas.Slice.Zip.{AllZip-long}
+use Rattle.row_store.specs.Tuple.{ids_of}
+use Rattle.bench_core.specs.Stored.{HaveTexts, stored, table_state, text_of}
+use Rattle.bench_core.proofs.Planned.{have-texts, texts-absent, texts-there}
+use Rattle.desk_state.proofs.RowFound.{none-beyond, texts-at}
+use Rattle.desk_state.proofs.rows.row_texts.Goals as goal
+
+pub returns-then-table-as_slice : goal.returns-then-table-as_slice
+returns-then-table-as_slice c =
+    let beyond = rw (c.as_slice.ensures, c.schema.ensures.schema, c.rules.ensures.value) at c.if-table-as_slice.true in
+    none-beyond c.args.bench.now.history.present c.args.table c.args.row (rw (AllZip-long _ _ _ c.rules.ensures.valid.present.tables) beyond)
+
+pub store-requires : goal.store-requires
+store-requires c =
+    let short : c.args.table < length c.as_slice.result.now = omega (arith, c.if-table-as_slice.false) in
+    let within = rw (c.as_slice.ensures, c.schema.ensures.schema, c.rules.ensures.value) at short in
+    rw (AllZip-long _ _ _ c.rules.ensures.valid.present.tables) within
+
+pub texts_of-requires : goal.texts_of-requires
+texts_of-requires c =
+    let bench = c.args.bench.now in
+    let ids = ids_of c.in-Some.tuple.now in
+    subst (λ texts. HaveTexts texts ids) (sym c.pool.ensures) (have-texts bench.texts (stored c.store.result.now) c.args.row ids c.store.ensures.texts (sym c.in-Some.ensures))
+
+pub returns-in_ok-texts_of-in-Some : goal.returns-in_ok-texts_of-in-Some
+returns-in_ok-texts_of-in-Some c =
+    let bench = c.args.bench.now in
+    let store = stored c.store.result.now in
+    let ids = ids_of c.in-Some.tuple.now in
+    ap Some (c.in_ok-texts_of-in-Some.ensures ∙ ap (λ texts. map (text_of texts) ids) c.pool.ensures)
+    ∙ sym (texts-at bench.history.present c.args.table c.args.row (table_state bench.texts store) c.store.ensures.state ∙ texts-there bench.texts store c.args.row ids (sym c.in-Some.ensures))
+
+pub returns-in-None : goal.returns-in-None
+returns-in-None c =
+    let bench = c.args.bench.now in
+    let store = stored c.store.result.now in
+    sym (texts-at bench.history.present c.args.table c.args.row (table_state bench.texts store) c.store.ensures.state ∙ texts-absent bench.texts store c.args.row (sym c.in-None.ensures))
