@@ -1,1 +1,2 @@
 pub mod RowFound
+pub mod TakenBack
