@@ -117,8 +117,8 @@ passed_comment : (n : ℕ) → n < 2 ^ 64 → line_tokens (comment n) ≡ Passed
 unfolding line_tokens
 passed_comment n fits =
     let utf8 = is_utf8-from_IsUtf8 (comment n) (
-        IsUtf8-cons 35 _ (lit< tt) (IsUtf8-cons 32 _ (lit< tt) (IsUtf8-cons 102 _ (lit< tt) (IsUtf8-cons 111 _ (lit< tt) (IsUtf8-cons 117 _ (lit< tt)
-        (IsUtf8-cons 110 _ (lit< tt) (IsUtf8-cons 100 _ (lit< tt) (IsUtf8-cons 32 _ (lit< tt) (IsUtf8-from_ascii (decimal n) (IsAscii-decimal n fits)))))))))) in
+    IsUtf8-cons 35 _ (lit< tt) (IsUtf8-cons 32 _ (lit< tt) (IsUtf8-cons 102 _ (lit< tt) (IsUtf8-cons 111 _ (lit< tt) (IsUtf8-cons 117 _ (lit< tt)
+    (IsUtf8-cons 110 _ (lit< tt) (IsUtf8-cons 100 _ (lit< tt) (IsUtf8-cons 32 _ (lit< tt) (IsUtf8-from_ascii (decimal n) (IsAscii-decimal n fits)))))))))) in
     ap (λ (u : Bool). cond (not u) NotUtf8 (cond (is_passed (comment n)) Passed (tokens_from (length (comment n)) false (comment n)))) utf8
 
 -- a file with the comment has the lines of the file

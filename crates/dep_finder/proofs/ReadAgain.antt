@@ -73,7 +73,7 @@ dep_again schema table dep valid there over =
     let distinct = attrs_at-distinct schema dep.table valid inside in
     let right = attr_number-name (attrs_at schema dep.table) dep.rule.a distinct (subst (λ (these : List Attr). dep.rule.a < length these) (sym attrs) over.a) in
     let a = ap (λ (these : List Attr). attr_number these (attr_name table.attrs dep.rule.a)) its
-        ∙ ap (λ (these : List Attr). attr_number these (attr_name these dep.rule.a)) (sym attrs) ∙ right in
+    ∙ ap (λ (these : List Attr). attr_number these (attr_name these dep.rule.a)) (sym attrs) ∙ right in
     λ i. dep_with dep.name (number i) (x i) (a i) (rows_again dep.rule.rows i) ∷ []
 
 deps_again : (schema : Schema) (table : Table) (found : List Dep) → IsValidSchema schema → AreOfTable schema table found → All (IsOver table.attrs) found
