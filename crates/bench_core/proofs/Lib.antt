@@ -28,3 +28,4 @@ pub mod ProbesOfChange
 pub mod DirtyByIds
 pub mod DirtyRenamed
 pub mod Walked
+pub mod ProbesOfLoad

@@ -1,5 +1,6 @@
 -- Indexes that are in step with stored tables, and what it costs to keep them so.
-use Rattle.std.specs.Prelude.{◌≡◌, ℕ, ◌+◌, ◌≤◌, List, Option, None, Some, slice_get, option_and_then}
+use Rattle.std.specs.Prelude.{◌≡◌, ℕ, ◌+◌, ◌*◌, ◌≤◌, List, length, sum_by, Option, None, Some, slice_get, option_and_then}
+use Rattle.std.specs.List.{enumerate_from}
 use Rattle.std.specs.Option.{ForSome, option_map_or}
 use Rattle.std.specs.FinMap as finmap
 use Rattle.schema_core.specs.Schemas.{table_place}
@@ -7,7 +8,7 @@ use Rattle.rule_model.specs.Books.{Book, IsBook}
 use Rattle.edit_log.specs.declared.edit.Edit.{Edit}
 use Rattle.bench_index.specs.AllIndexes.{AreInStepWith, HaveRow, IsAsWide, most_probes}
 use Rattle.bench_index.specs.declared.all_indexes.AllIndexes.{AllIndexes}
-use Rattle.bench_core.specs.State.{State}
+use Rattle.bench_core.specs.State.{State, TableState}
 use Rattle.bench_core.specs.Stored.{Stored}
 use Rattle.bench_core.specs.Edited.{name_of_table}
 use Rattle.bench_core.specs.Bench.{tables_of}
@@ -52,3 +53,7 @@ DifferOnlyAt table one other = (t : ℕ) → (t ≡ table → ⊥) → slice_get
 abbrev pub AreOfTheChange : Book → State → Option State → ℕ → ℕ → Type 0
 AreOfTheChange rules state None before after = after ≤ before
 AreOfTheChange rules state (Some other) before after = (table : ℕ) × DifferOnlyAt table state other × (after ≤ before + most_probes rules table)
+
+-- the most probes of loading tables: for each of their rows as many as a change of one row of its table takes
+abbrev pub load_probes : Book → State → ℕ
+load_probes rules state = sum_by (λ (at : ℕ × TableState). length at.1.rows * most_probes rules at.0) (enumerate_from 0 state)

@@ -12,7 +12,7 @@ ghost use Rattle.rule_model.specs.Books.{book_cinds, book_deps};
 ghost use Rattle.bench_core.specs.Answers.{AreMastersOf, IsRowOfCind, IsRowOfDep, orphans_at, orphans_of_row, violations_at, violations_of_row};
 ghost use Rattle.bench_core.specs.Bench.{IsHistory};
 ghost use Rattle.bench_core.specs.DirtyCounts.{cind_rows, cind_walk_at, dep_rows, dep_walk_at};
-ghost use Rattle.bench_core.specs.Indexed.{AreOfTheChange, edit_probes};
+ghost use Rattle.bench_core.specs.Indexed.{AreOfTheChange, edit_probes, load_probes};
 ghost use Rattle.bench_core.specs.declared.edit.RedoFault.TheVariants as redo_fault;
 ghost use Rattle.bench_core.specs.declared.edit.UndoFault.TheVariants as undo_fault;
 
@@ -66,6 +66,7 @@ impl Bench {
         ensures fresh { IfOk result (λ bench. HasNoPast bench.history × HasNothingUndone bench.history) }
         ensures made_with { IfOk result (λ bench. (bench.rules ≡ rules) × (bench.limits ≡ limits)) }
         ensures valid { IfOk result (λ bench. IsHistory bench.rules bench.limits bench.history) }
+        ensures probes { IfOk result (λ bench. steps.new ≤ steps.old + load_probes rules bench.history.present) }
     {
         let (project, index) = Project::load(alloc, rules, tables, limits, steps)?;
         Ok(Bench { project, index })

@@ -1,6 +1,6 @@
 //! Loading tables, one after another.
 
-ghost use Rattle.std.specs.Prelude.{◌≡◌, ◌+◌, ◌-◌, ◌^◌, ◌<◌, ◌++◌, ◌∷◌, [], length, map, All, IfOk, OnOk};
+ghost use Rattle.std.specs.Prelude.{◌≡◌, ◌+◌, ◌-◌, ◌*◌, ◌^◌, ◌<◌, ◌≤◌, ◌++◌, ◌∷◌, [], length, map, All, IfOk, OnOk};
 ghost use Rattle.text_lists.specs.Limits.{AreLimits};
 ghost use Rattle.schema_core.specs.Lookups.{attrs_at};
 ghost use Rattle.line_grammar.specs.Faults.{GivesUnlessMemory};
@@ -8,7 +8,8 @@ ghost use Rattle.value_pool.specs.Pool.{KeepsIds};
 ghost use Rattle.bench_core.specs.Loading.{AreTables, full_table, loaded, loaded_table};
 ghost use Rattle.bench_core.specs.Stored.{RowsHaveTexts, state_of, stored, table_state};
 ghost use Rattle.bench_core.specs.Bench.{AreCounts, IsHeld, history, present_of};
-ghost use Rattle.bench_core.specs.Indexed.{IsIndexed, IsInStepWith, tuples_of};
+ghost use Rattle.bench_core.specs.Indexed.{IsIndexed, IsInStepWith, load_probes, tuples_of};
+ghost use Rattle.bench_index.specs.AllIndexes.{most_probes};
 ghost use Rattle.bench_core.specs.History.{HasNoPast, HasNothingUndone};
 
 use crate::edit::LoadFault;
@@ -41,6 +42,7 @@ impl Project {
         ensures held { IfOk result (λ all. IsHeld all.0) }
         ensures indexed { IfOk result (λ all. IsInStepWith all.0 all.1) }
         ensures made_with { IfOk result (λ all. (all.0.rules ≡ rules) × (all.0.limits ≡ limits)) }
+        ensures probes { IfOk result (λ all. steps.new ≤ steps.old + load_probes rules (present_of all.0)) }
     {
         let mut pool = Pool::new(alloc);
         let mut index = AllIndexes::new(alloc, &rules, &mut pool)?;
@@ -79,6 +81,7 @@ fn load_tables<L: Ledger>(
     ensures counts { IfOk result (λ all. AreCounts rules.now (state_of pool.new (map stored all.0.items)) all.1.weights.items all.1.rows all.1.cells) }
     ensures named { IfOk result (λ all. All (λ store. RowsHaveTexts pool.new store.rows) all.0.items) }
     ensures indexed { IfOk result (λ all. IsIndexed rules.now pool.new (tuples_of (map stored all.0.items)) index.new) }
+    ensures probes { IfOk result (λ all. steps.new ≤ steps.old + load_probes rules.now (state_of pool.new (map stored all.0.items))) }
 {
     let mut all = Vec::new(alloc);
     let mut counts = Counts::new(alloc, rules)?;
@@ -112,6 +115,7 @@ fn add_table<L: Ledger>(
     ensures named { OnOk result (All (λ store. RowsHaveTexts pool.new store.rows) all.new.items) }
     ensures length { OnOk result (length all.new.items ≡ length all.old.items + 1) }
     ensures indexed { OnOk result (IsIndexed rules.now pool.new (tuples_of (map stored all.new.items)) index.new) }
+    ensures probes { OnOk result (steps.new ≤ steps.old + length tuples * most_probes rules.now (length all.old.items)) }
 {
     let before = all.as_slice();
     let store = load_table(alloc, pool, index, rules, before, tuples, steps)?;
@@ -136,6 +140,7 @@ fn load_table<L: Ledger>(
     ensures named { IfOk result (λ store. RowsHaveTexts pool.new store.rows) }
     ensures kept { KeepsIds pool.old pool.new }
     ensures indexed { IfOk result (λ store. IsIndexed rules.now pool.new (tuples_of (map stored before.now ++ stored store ∷ [])) index.new) }
+    ensures probes { OnOk result (steps.new ≤ steps.old + length tuples * most_probes rules.now (length before.now)) }
 {
     let mut store = RowStore::new(alloc);
     for texts in tuples.into_vec() {

@@ -10,7 +10,7 @@ use Rattle.find_form.specs.FindForm.{find_task}
 use Rattle.project_forms.specs.DeskForm.{desk_task}
 use Rattle.project_forms.specs.GenerateForm.{generate_task}
 use Rattle.project_forms.specs.ReportForm.{report_task}
-use Rattle.project_forms.specs.RunForm.{run_task}
+use Rattle.project_forms.specs.RunForm.{counted_run_task, run_task}
 use Rattle.rule_forms.specs.CheckForm.{check_task}
 use Rattle.rule_forms.specs.ConsistentForm.{consistent_task}
 use Rattle.rule_forms.specs.CoverForm.{cover_task}
@@ -45,3 +45,13 @@ form_task limits (Some (Generate seed)) = generate_task seed
 -- what the words ask for
 abbrev pub task_of : Limits → List (List ℕ) → Task
 task_of limits words = form_task limits (form_of words)
+
+-- the same with the probes of indexes, of which there were so many before the call and so many after it, where a form has a
+-- bound for them
+abbrev pub counted_form_task : ℕ → ℕ → Limits → Option Form → Task
+counted_form_task before after limits None = usage_task
+counted_form_task before after limits (Some (Run project)) = counted_run_task before after limits project
+counted_form_task before after limits (Some form) = form_task limits (Some form)
+
+abbrev pub counted_task_of : ℕ → ℕ → Limits → List (List ℕ) → Task
+counted_task_of before after limits words = counted_form_task before after limits (form_of words)

@@ -1,8 +1,8 @@
 //! The top call.
 ghost use Rattle.std.specs.Prelude.{◌≡◌, ◌<◌, ◌⊎◌, Some};
 ghost use Rattle.text_lists.specs.Limits.{AreLimits, standard};
-ghost use Rattle.cfd_cli.specs.Forms.{form_task, task_of, usage_line};
-ghost use Rattle.cli_output.specs.Output.{Output, UsesDevices, Writes};
+ghost use Rattle.cfd_cli.specs.Forms.{counted_form_task, counted_task_of, form_task, task_of, usage_line};
+ghost use Rattle.cli_output.specs.Output.{IsWhole, Output, UsesDevices, Writes};
 ghost use Rattle.call_words.specs.Words.{HasForm, IsFit};
 
 use call_words::{Form, form_of};
@@ -48,11 +48,11 @@ pub fn run_with<S: Shelf, O: Sink>(
     // Nothing is fetched that isn't asked for, and a fault is told only where a device counted one.
     ensures devices { UsesDevices limits (task_of limits words.now) result (S.told shelf.old) (S.told shelf.new) (O.told out.old) (O.told out.new) }
 {
-    run_counted::<S, O, Brand>(alloc, words, shelf, out, &limits, Blank::new(1))
+    run_opened::<S, O, Brand>(alloc, words, shelf, out, &limits, Blank::new(1))
 }
 
-/// The same, with the ledger in which the probes of indexes are counted. It takes no bytes, and nothing reads it.
-fn run_counted<S: Shelf, O: Sink, L: Ledger>(
+/// The same, with a counter that is opened for this call. It takes no bytes, and nothing reads it.
+fn run_opened<S: Shelf, O: Sink, L: Ledger>(
     alloc: Global,
     words: &Texts,
     shelf: &mut S,
@@ -69,9 +69,30 @@ fn run_counted<S: Shelf, O: Sink, L: Ledger>(
     ensures devices { UsesDevices limits.now (task_of limits.now words.now) result (S.told shelf.old) (S.told shelf.new) (O.told out.old) (O.told out.new) }
 {
     let mut steps = Steps::<L>::open(blank);
+    run_counted(alloc, words, shelf, out, limits, &mut steps)
+}
+
+/// The same, with the counter of index probes of the caller.
+pub fn run_counted<S: Shelf, O: Sink, L: Ledger>(
+    alloc: Global,
+    words: &Texts,
+    shelf: &mut S,
+    out: &mut O,
+    limits: &Limits,
+    steps: &mut Steps<L>,
+) -> Status
+    requires { AreLimits limits.now }
+    ensures written { Writes (Output limits.now (task_of limits.now words.now) (S.told shelf.old).holding) result (O.told out.old).written (O.told out.new).written }
+    ensures usage { (HasForm words.now → ⊥) → (result ≡ Status.Usage) ⊎ (result ≡ Status.WriteFault) }
+    ensures devices { UsesDevices limits.now (task_of limits.now words.now) result (S.told shelf.old) (S.told shelf.new) (O.told out.old) (O.told out.new) }
+
+    // Where a script was answered to its end, the output goes with counts of probes: each row that is loaded and each
+    // command took no more of them than it may.
+    ensures probes { IsWhole result → Writes (Output limits.now (counted_task_of steps.old steps.new limits.now words.now) (S.told shelf.old).holding) result (O.told out.old).written (O.told out.new).written }
+{
     match form_of(alloc, words.as_slice()) {
         Ok(None) => end_with(out, USAGE.as_bytes(), Status::Usage),
-        Ok(Some(form)) => answer(alloc, &form, shelf, out, limits, &mut steps),
+        Ok(Some(form)) => answer(alloc, &form, shelf, out, limits, steps),
         Err(AllocError) => Status::Memory,
     }
 }
@@ -89,6 +110,7 @@ fn answer<S: Shelf, O: Sink, L: Ledger>(
     requires form { IsFit form.now }
     ensures written { Writes (Output limits.now (form_task limits.now (Some form.now)) (S.told shelf.old).holding) result (O.told out.old).written (O.told out.new).written }
     ensures devices { UsesDevices limits.now (form_task limits.now (Some form.now)) result (S.told shelf.old) (S.told shelf.new) (O.told out.old) (O.told out.new) }
+    ensures probes { IsWhole result → Writes (Output limits.now (counted_form_task steps.old steps.new limits.now (Some form.now)) (S.told shelf.old).holding) result (O.told out.old).written (O.told out.new).written }
 {
     match form {
         Form::Run { project } => run_project(alloc, project, shelf, out, limits, steps),

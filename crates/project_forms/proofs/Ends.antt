@@ -6,7 +6,7 @@ use Rattle.shelf_io.specs.Transcript.{Replies, IsTranscript, Answers, AnswersFro
 use Rattle.shelf_io.proofs.Transcripts.{Appends-wider, FrontOf-all, FrontOf-wider, front-of_all}
 use Rattle.cli_output.specs.declared.status.Status.{Status}
 use Rattle.cli_output.specs.declared.status.Status.TheVariants.{Clean, Findings, ReadFault, WriteFault, Memory}
-use Rattle.cli_output.specs.Output.{Ends, Writes, with_any_status}
+use Rattle.cli_output.specs.Output.{Ends, IsWhole, Outputs, Writes, with_any_status}
 use Rattle.project_forms.specs.Transcripts.{HasStatus, found_status, transcripts}
 
 module _ {State Command Line : Type 0} (IsReply : Replies State Command) (listing : State → List Line) (start : State) (commands : List Command) where
@@ -29,6 +29,22 @@ module _ {State Command Line : Type 0} (IsReply : Replies State Command) (listin
   not_write_fault : (listed : List Line) → found_status listed ≢ WriteFault
   not_write_fault [] e = cc
   not_write_fault (line ∷ lines) e = cc
+
+  -- the transcript that ends in this state, with its status
+  ends_at : State → Outputs
+  ends_at last bytes status = IsTranscript IsReply start commands bytes last × (status ≡ found_status (listing last))
+
+  at_the_end : (last : State) (listed : List Line) (before after : Option (List ℕ)) → listing last ≡ listed → Answers IsReply start commands last before after → Writes (ends_at last) (found_status listed) before after
+  unfolding ends_at
+  at_the_end last [] before after is all = Appends-wider before after (λ bytes t. (t, subst (λ l. Clean ≡ found_status l) (sym is) refl)) all
+  at_the_end last (line ∷ lines) before after is all = Appends-wider before after (λ bytes t. (t, subst (λ l. Findings ≡ found_status l) (sym is) refl)) all
+
+  -- all commands were answered, and the state in which they end was looked at
+  pub whole-answered : (last : State) (status : Status) (before after : Option (List ℕ)) → Answers IsReply start commands last before after → HasStatus (listing last) status → IsWhole status
+      → Writes (λ bytes s. IsTranscript IsReply start commands bytes last × (s ≡ found_status (listing last))) status before after
+  unfolding ends_at
+  whole-answered last status before after all (inl is) whole = subst (λ s. Writes (ends_at last) s before after) (sym is) (at_the_end last (listing last) before after refl all)
+  whole-answered last status before after all (inr is) whole = absurd (subst IsWhole is whole)
 
   -- all commands were answered
   pub ends-answered : (last : State) (status : Status) (sink sink_after : SinkTold) → Answers IsReply start commands last sink.written sink_after.written → HasStatus (listing last) status → Ends (transcripts IsReply listing start commands) status sink sink_after

@@ -1,7 +1,8 @@
 //! A project's files, in the order in which they are fetched and read: schema, rules, tables, script. `left` is
 //! everywhere how many bytes the files that are still to come may have together.
-ghost use Rattle.std.specs.Prelude.{◌≡◌};
+ghost use Rattle.std.specs.Prelude.{◌≡◌, ◌+◌, ◌≤◌, IfOk};
 ghost use Rattle.text_lists.specs.Limits.{AreLimits};
+ghost use Rattle.bench_core.specs.Indexed.{load_probes};
 ghost use Rattle.session.specs.Scripts.{script_of};
 ghost use Rattle.cli_output.specs.Fetching.{Fetches, Reads, about};
 ghost use Rattle.cli_output.specs.RuleFiles.{spelled};
@@ -36,7 +37,8 @@ pub fn fetch_project<S: Shelf, L: Ledger>(
     steps: &mut Steps<L>,
 ) -> Result<Project, Stop>
     requires { AreLimits limits.now }
-    ensures { Fetches (fetch_project limits.now name.now) read_of 67 result (S.told shelf.old) (S.told shelf.new) left.old left.new }
+    ensures fetches { Fetches (fetch_project limits.now name.now) read_of 67 result (S.told shelf.old) (S.told shelf.new) left.old left.new }
+    ensures probes { IfOk result (λ project. steps.new ≤ steps.old + load_probes project.bench.rules project.bench.history.present) }
 {
     let schema = fetch_schema(alloc, shelf, name, limits, left)?;
     let rules = fetch_rules(alloc, shelf, schema, limits, left)?;
@@ -55,7 +57,8 @@ pub fn fetch_bench<S: Shelf, L: Ledger>(
     steps: &mut Steps<L>,
 ) -> Result<Bench, Stop>
     requires { AreLimits limits.now }
-    ensures { Fetches (fetch_bench limits.now rules) tables_of 64 result (S.told shelf.old) (S.told shelf.new) left.old left.new }
+    ensures fetches { Fetches (fetch_bench limits.now rules) tables_of 64 result (S.told shelf.old) (S.told shelf.new) left.old left.new }
+    ensures probes { IfOk result (λ bench. steps.new ≤ steps.old + load_probes bench.rules bench.history.present) }
 {
     let tables = fetch_tables(alloc, shelf, rules.schema().tables.as_slice(), limits, left)?;
     load(alloc, rules, tables, limits, steps)

@@ -1,9 +1,11 @@
 //! The form `run PROJECT`: answers the project's script.
+ghost use Rattle.std.specs.Prelude.{◌+◌, ◌≤◌};
 ghost use Rattle.text_lists.specs.Limits.{AreLimits};
 ghost use Rattle.violation_report.specs.Listing.{listing};
-ghost use Rattle.cli_output.specs.Output.{Ends, Output, UsesDevices, Writes};
+ghost use Rattle.violation_report.specs.Probes.{list_probes};
+ghost use Rattle.cli_output.specs.Output.{Ends, IsWhole, Output, UsesDevices, Writes};
 ghost use Rattle.project_forms.specs.Project.{read_of};
-ghost use Rattle.project_forms.specs.RunForm.{run_outputs, run_task};
+ghost use Rattle.project_forms.specs.RunForm.{counted_from, counted_run_task, run_outputs, run_task};
 ghost use Rattle.project_forms.specs.Transcripts.{HasStatus};
 
 use crate::project::{Project, fetch_project};
@@ -29,6 +31,9 @@ pub fn run_project<S: Shelf, O: Sink, L: Ledger>(
     requires { AreLimits limits.now }
     ensures written { Writes (Output limits.now (run_task limits.now project.now) (S.told shelf.old).holding) result (O.told out.old).written (O.told out.new).written }
     ensures devices { UsesDevices limits.now (run_task limits.now project.now) result (S.told shelf.old) (S.told shelf.new) (O.told out.old) (O.told out.new) }
+
+    // Where the script was answered, no command took more probes than it may.
+    ensures probes { IsWhole result → Writes (Output limits.now (counted_run_task steps.old steps.new limits.now project.now) (S.told shelf.old).holding) result (O.told out.old).written (O.told out.new).written }
 {
     let mut left = limits.all_bytes;
     match fetch_project(alloc, shelf, project, limits, &mut left, steps) {
@@ -44,7 +49,8 @@ fn answer<O: Sink, L: Ledger>(
     out: &mut O,
     steps: &mut Steps<L>,
 ) -> Status
-    ensures { Ends (run_outputs (read_of project)) result (O.told out.old) (O.told out.new) }
+    ensures ends { Ends (run_outputs (read_of project)) result (O.told out.old) (O.told out.new) }
+    ensures probes { IsWhole result → Writes (counted_from steps.old steps.new (read_of project)) result (O.told out.old).written (O.told out.new).written }
 {
     let Project {
         mut bench,
@@ -60,7 +66,8 @@ fn answer<O: Sink, L: Ledger>(
 // The lines are counted, and not listed.
 #[tactic(auto, using(crate::proofs::Reports::none_counted, crate::proofs::Reports::some_counted))]
 pub fn status_of<L: Ledger>(bench: &Bench, steps: &mut Steps<L>) -> Status
-    ensures { HasStatus (listing bench.now.rules bench.now.history.present) result }
+    ensures status { HasStatus (listing bench.now.rules bench.now.history.present) result }
+    ensures probes { steps.new ≤ steps.old + list_probes bench.now.rules bench.now.history.present }
 {
     match count(bench, steps) {
         Ok(lines) if lines == 0 => Status::Clean,

@@ -1,8 +1,9 @@
 //! The files of the tables, and the bench of what they hold.
-ghost use Rattle.std.specs.Prelude.{◌≡◌, length, map, All, IfOk};
+ghost use Rattle.std.specs.Prelude.{◌≡◌, ◌+◌, ◌≤◌, length, map, All, IfOk};
 ghost use Rattle.std.specs.List.{AllZip};
 ghost use Rattle.text_lists.specs.Limits.{AreLimits};
 ghost use Rattle.schema_core.specs.Rows.{IsRowOf};
+ghost use Rattle.bench_core.specs.Indexed.{load_probes};
 ghost use Rattle.bench_core.specs.Loading.{AreTables, loaded};
 ghost use Rattle.cli_output.specs.Fetching.{Fetches, Reads};
 ghost use Rattle.project_forms.specs.Project.{bench_of, fetch_tables, tables_of};
@@ -46,7 +47,8 @@ pub fn load<L: Ledger>(
 ) -> Result<Bench, Stop>
     requires limits { AreLimits limits.now }
     requires tables { AreTables rules.schema limits.now.cell_bytes tables }
-    ensures { Reads (bench_of rules limits.now (loaded rules limits.now tables)) tables_of result }
+    ensures reads { Reads (bench_of rules limits.now (loaded rules limits.now tables)) tables_of result }
+    ensures probes { IfOk result (λ bench. steps.new ≤ steps.old + load_probes bench.rules bench.history.present) }
 {
     let names = file_names(alloc, rules.schema())?;
     match Bench::load(alloc, rules, tables, *limits, steps) {

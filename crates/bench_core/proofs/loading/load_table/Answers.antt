@@ -8,10 +8,12 @@ use Rattle.bench_core.specs.Stored.{stored, text_of}
 use Rattle.bench_core.proofs.InStepWith.{indexed-kept}
 use Rattle.bench_core.proofs.RowJoins.{empty-joins, joins-can, row-joined, tuple-full}
 use Rattle.bench_core.proofs.Filled.{filled-none, filled-more}
+use Rattle.bench_index.specs.AllIndexes.{most_probes}
+use Rattle.bench_core.proofs.ProbesOfLoad.{probes-none, probes-row}
 use Rattle.bench_core.proofs.loading.load_table.Goals as goal
 
 pub loop-texts-init : goal.loop-texts-init
-loop-texts-init g c = (filled-none c.args.pool.now c.new-store.result.rows c.new-store.result.next c.new-store.ensures.empty c.new-store.ensures.first, λ text id has. has, empty-joins c.args.before.now c.new-store.result c.new-store.ensures.empty c.requires.indexed)
+loop-texts-init g c = (filled-none c.args.pool.now c.new-store.result.rows c.new-store.result.next c.new-store.ensures.empty c.new-store.ensures.first, λ text id has. has, empty-joins c.args.before.now c.new-store.result c.new-store.ensures.empty c.requires.indexed, probes-none c.args.steps.now (most_probes c.args.rules.now (length c.args.before.now)))
 
 pub loop-texts-preserved : goal.loop-texts-preserved
 loop-texts-preserved g c =
@@ -29,6 +31,7 @@ loop-texts-preserved g c =
       filled-more c.loop-texts.pool c.intern_all.new.pool c.loop-texts.store.rows c.loop-texts.store.next c.loop-texts.yielded ids c.in-Some.texts c.put.new.self.rows c.put.new.self.next c.loop-texts.invariant.0 c.intern_all.ensures.kept are more after,
       kept-twice c.args.pool.now c.loop-texts.pool c.intern_all.new.pool c.loop-texts.invariant.1 c.intern_all.ensures.kept,
       row-joined c.args.before.now (stored c.loop-texts.store) held (length c.args.before.now) c.next_id.result ids refl absent full (stored c.put.new.self) (more ∙ ap (λ id. finmap.insert c.loop-texts.store.rows id ids) (sym place)) c.follow.new.self c.in_ok-follow.ensures.ok,
+      probes-row c.args.steps.now c.loop-texts.steps c.follow.new.steps (most_probes c.args.rules.now (length c.args.before.now)) c.loop-texts.yielded c.in-Some.texts c.loop-texts.invariant.3 c.follow.ensures.probes,
     )
 
 pub follow-requires-clause-there : goal.follow-requires-clause-there

@@ -36,7 +36,7 @@ returns-in_err-events g c =
     let same : c.from_residual-in_err-events.result ≡ Err c.in_err-events.field-0.0 = rw (p.1, p.2) refl in
     fetches-next (fetch_schema limits c.args.name.now) (with_rules limits events) (λ x. x) read_of 1 66 c.in_ok-schema.schema c.from_residual-in_err-events.result _ _ _ _ _ _ c.in_ok-schema.ensures.schema
     (fetches-next (fetch_rules limits c.in_ok-schema.schema) (with_bench limits events) (λ x. x) read_of 1 65 c.in_ok-rules.rules c.from_residual-in_err-events.result _ _ _ _ _ _ c.in_ok-rules.ensures
-    (fetches-next (fetch_bench limits c.in_ok-rules.rules) (with_events limits events) tables_of read_of 64 1 c.in_ok-bench.bench c.from_residual-in_err-events.result _ _ _ _ _ _ c.in_ok-bench.ensures
+    (fetches-next (fetch_bench limits c.in_ok-rules.rules) (with_events limits events) tables_of read_of 64 1 c.in_ok-bench.bench c.from_residual-in_err-events.result _ _ _ _ _ _ c.in_ok-bench.ensures.fetches
     (fetches-stopped (fetch_events limits events) (desk_with (tables_of c.in_ok-bench.bench)) (λ x. x) read_of 1 0 c.in_err-events.field-0.0 c.from_residual-in_err-events.result _ _ _ _ same c.in_err-events.ensures)))
 
 pub returns : goal.returns
@@ -48,6 +48,6 @@ returns g c =
     let files : DeskFiles = record { bench = bench; events = c.in_ok-events.events } in
     fetches-next (fetch_schema limits c.args.name.now) (with_rules limits events) (λ x. x) read_of 1 66 c.in_ok-schema.schema (Ok files) _ _ _ _ _ _ c.in_ok-schema.ensures.schema
     (fetches-next (fetch_rules limits c.in_ok-schema.schema) (with_bench limits events) (λ x. x) read_of 1 65 c.in_ok-rules.rules (Ok files) _ _ _ _ _ _ c.in_ok-rules.ensures
-    (fetches-next (fetch_bench limits c.in_ok-rules.rules) (with_events limits events) tables_of read_of 64 1 bench (Ok files) _ _ _ _ _ _ c.in_ok-bench.ensures
+    (fetches-next (fetch_bench limits c.in_ok-rules.rules) (with_events limits events) tables_of read_of 64 1 bench (Ok files) _ _ _ _ _ _ c.in_ok-bench.ensures.fetches
     (fetches-next (fetch_events limits events) (desk_with (tables_of bench)) (λ x. x) read_of 1 0 c.in_ok-events.events (Ok files) _ _ _ _ _ _ c.in_ok-events.ensures
     (fetches-given (Ok (read_of files)) read_of (Ok files) _ _ (record { gives = refl; no_fault = λ fault. absurd fault })))))

@@ -26,9 +26,9 @@ with_rules : Limits → Schema → Fetching ProjectRead
 with_rules limits schema =
     fetch_rules limits schema >>= λ rules. fetch_bench limits rules >>= λ tables. fetch_commands limits tables.rules.schema >>= λ commands. given (Ok (record { tables = tables; commands = commands }))
 
-pub returns-in_err-commands : goal.returns-in_err-commands
+pub returns-in_err-commands-clause-fetches : goal.returns-in_err-commands-clause-fetches
 unfolding fetch_project with_commands with_bench with_rules project_with
-returns-in_err-commands g c =
+returns-in_err-commands-clause-fetches g c =
     let limits = c.args.limits.now in
     let p = err_from_is_err_and c.from_residual-in_err-commands.result c.from_residual-in_err-commands.ensures.1 in
     let same : c.from_residual-in_err-commands.result ≡ Err c.in_err-commands.field-0.0 = rw (p.1, p.2) refl in
@@ -36,12 +36,12 @@ returns-in_err-commands g c =
     let commands = fetches-same (ap (fetch_commands limits) schema) c.in_err-commands.ensures in
     fetches-next (fetch_schema limits c.args.name.now) (with_rules limits) (λ x. x) read_of 1 66 c.in_ok-schema.schema c.from_residual-in_err-commands.result _ _ _ _ _ _ c.in_ok-schema.ensures.schema
     (fetches-next (fetch_rules limits c.in_ok-schema.schema) (with_bench limits) (λ x. x) read_of 1 65 c.in_ok-rules.rules c.from_residual-in_err-commands.result _ _ _ _ _ _ c.in_ok-rules.ensures
-    (fetches-next (fetch_bench limits c.in_ok-rules.rules) (with_commands limits) tables_of read_of 64 1 c.in_ok-bench.bench c.from_residual-in_err-commands.result _ _ _ _ _ _ c.in_ok-bench.ensures
+    (fetches-next (fetch_bench limits c.in_ok-rules.rules) (with_commands limits) tables_of read_of 64 1 c.in_ok-bench.bench c.from_residual-in_err-commands.result _ _ _ _ _ _ c.in_ok-bench.ensures.fetches
     (fetches-stopped (fetch_commands limits c.in_ok-bench.bench.rules.schema) (project_with (tables_of c.in_ok-bench.bench)) (λ x. x) read_of 1 0 c.in_err-commands.field-0.0 c.from_residual-in_err-commands.result _ _ _ _ same commands)))
 
-pub returns : goal.returns
+pub returns-clause-fetches : goal.returns-clause-fetches
 unfolding fetch_project with_commands with_bench with_rules project_with
-returns g c =
+returns-clause-fetches g c =
     let limits = c.args.limits.now in
     let bench = c.in_ok-bench.bench in
     let project : Project = record { bench = bench; commands = c.in_ok-commands.commands } in
@@ -49,6 +49,6 @@ returns g c =
     let commands = fetches-same (ap (fetch_commands limits) schema) c.in_ok-commands.ensures in
     fetches-next (fetch_schema limits c.args.name.now) (with_rules limits) (λ x. x) read_of 1 66 c.in_ok-schema.schema (Ok project) _ _ _ _ _ _ c.in_ok-schema.ensures.schema
     (fetches-next (fetch_rules limits c.in_ok-schema.schema) (with_bench limits) (λ x. x) read_of 1 65 c.in_ok-rules.rules (Ok project) _ _ _ _ _ _ c.in_ok-rules.ensures
-    (fetches-next (fetch_bench limits c.in_ok-rules.rules) (with_commands limits) tables_of read_of 64 1 bench (Ok project) _ _ _ _ _ _ c.in_ok-bench.ensures
+    (fetches-next (fetch_bench limits c.in_ok-rules.rules) (with_commands limits) tables_of read_of 64 1 bench (Ok project) _ _ _ _ _ _ c.in_ok-bench.ensures.fetches
     (fetches-next (fetch_commands limits bench.rules.schema) (project_with (tables_of bench)) (λ x. x) read_of 1 0 c.in_ok-commands.commands (Ok project) _ _ _ _ _ _ commands
     (fetches-given (Ok (read_of project)) read_of (Ok project) _ _ (record { gives = refl; no_fault = λ fault. absurd fault })))))

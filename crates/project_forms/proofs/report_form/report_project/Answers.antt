@@ -6,11 +6,11 @@ use Rattle.project_forms.proofs.report_form.report_project.Goals as goal
 pub returns-in-Ok-clause-written : goal.returns-in-Ok-clause-written
 returns-in-Ok-clause-written g c =
     let limits = c.args.limits.now in
-    output-found limits (report_task limits c.args.project.now) (g.S.Shelf.told c.args.shelf.now).holding (read_of c.in-Ok.project) c.in-Ok.ensures.gives
+    output-found limits (report_task limits c.args.project.now) (g.S.Shelf.told c.args.shelf.now).holding (read_of c.in-Ok.project) c.in-Ok.ensures.fetches.gives
     c.report.result (g.O.Sink.told c.args.out.now).written (g.O.Sink.told c.report.new.out).written c.report.ensures.writes
 
 pub returns-in-Err-clause-written : goal.returns-in-Err-clause-written
 returns-in-Err-clause-written g c =
     let limits = c.args.limits.now in
-    output-stopped limits (report_task limits c.args.project.now) (g.S.Shelf.told c.args.shelf.now).holding c.in-Err.stop c.in-Err.ensures.gives
+    output-stopped limits (report_task limits c.args.project.now) (g.S.Shelf.told c.args.shelf.now).holding c.in-Err.stop c.in-Err.ensures.fetches.gives
     c.end_by.result (g.O.Sink.told c.args.out.now) (g.O.Sink.told c.end_by.new.out) c.end_by.ensures

@@ -1,17 +1,19 @@
-use Rattle.std.proofs.Common.{Err, ap, subst}
+use Rattle.std.proofs.Common.{◌+◌, ◌≤◌, Err, ap, subst}
 use Rattle.rule_model.specs.Books.{Book}
 use Rattle.bench_core.specs.History.{History}
 use Rattle.violation_report.specs.Listing.{listing}
 use Rattle.shelf_io.specs.Sink.{SinkTold}
+use Rattle.session.specs.Probes.{Counted, IsCountedReply}
 use Rattle.session.specs.Replies.{IsReply}
+use Rattle.violation_report.specs.Probes.{list_probes}
 use Rattle.session.proofs.EachHasReply.{reply_of}
 use Rattle.cli_output.specs.declared.status.Status.{Status}
 use Rattle.cli_output.specs.Output.{Ends}
-use Rattle.cli_output.proofs.Outputs.{Ends-wider}
+use Rattle.cli_output.proofs.Outputs.{Ends-wider, Writes-wider}
 use Rattle.project_forms.specs.Project.{ProjectRead, read_of}
-use Rattle.project_forms.specs.RunForm.{run_outputs}
+use Rattle.project_forms.specs.RunForm.{counted_from, run_outputs}
 use Rattle.project_forms.specs.Transcripts.{HasStatus, transcripts}
-use Rattle.project_forms.proofs.Ends.{ends-answered, ends-memory, ends-write_fault}
+use Rattle.project_forms.proofs.Ends.{ends-answered, ends-memory, ends-write_fault, whole-answered}
 use Rattle.project_forms.proofs.Reports.{clean_where_satisfied}
 use Rattle.project_forms.proofs.run_form.answer.Goals as goal
 
@@ -23,23 +25,37 @@ told project status sink sink_after ends =
     Ends-wider (transcripts (IsReply start.rules start.limits) (λ (history : History). listing start.rules history.present) start.history project.commands) (run_outputs project)
     (λ bytes status is. (is.0, is.1, is.2, clean_where_satisfied start.rules is.0.present status is.2)) status sink sink_after ends
 
-pub returns-in-Ok : goal.returns-in-Ok
-returns-in-Ok g c =
+pub returns-in-Ok-clause-ends : goal.returns-in-Ok-clause-ends
+returns-in-Ok-clause-ends g c =
     let bench = c.args.project.bench in
     let last = c.serve.new.bench in
-    let status = subst (λ (rules : Book). HasStatus (listing rules last.history.present) c.status_of.result) c.serve.ensures.made_with.0 c.status_of.ensures in
+    let status = subst (λ (rules : Book). HasStatus (listing rules last.history.present) c.status_of.result) c.serve.ensures.made_with.0 c.status_of.ensures.status in
     told (read_of c.args.project) c.status_of.result (g.O.Sink.told c.args.out.now) (g.O.Sink.told c.serve.new.out)
     (ends-answered (IsReply bench.rules bench.limits) (λ (history : History). listing bench.rules history.present) bench.history c.args.project.commands last.history c.status_of.result (g.O.Sink.told c.args.out.now) (g.O.Sink.told c.serve.new.out) c.in-Ok.ensures.ok status)
 
-pub returns-in-Err-WriteFault : goal.returns-in-Err-WriteFault
-returns-in-Err-WriteFault g c =
+pub returns-in-Err-WriteFault-clause-ends : goal.returns-in-Err-WriteFault-clause-ends
+returns-in-Err-WriteFault-clause-ends g c =
     let bench = c.args.project.bench in
     told (read_of c.args.project) _ (g.O.Sink.told c.args.out.now) (g.O.Sink.told c.serve.new.out)
     (ends-write_fault (IsReply bench.rules bench.limits) (λ (history : History). listing bench.rules history.present) bench.history c.args.project.commands (reply_of bench.rules bench.limits) c.serve.new.bench.history (g.O.Sink.told c.args.out.now) (g.O.Sink.told c.serve.new.out)
     c.in-Err-WriteFault.ensures.fault (c.in-Err-WriteFault.ensures.write_fault (ap Err c.in-Err-WriteFault.field-0-is)))
 
-pub returns : goal.returns
-returns g c =
+pub returns-clause-ends : goal.returns-clause-ends
+returns-clause-ends g c =
     let bench = c.args.project.bench in
     told (read_of c.args.project) _ (g.O.Sink.told c.args.out.now) (g.O.Sink.told c.serve.new.out)
     (ends-memory (IsReply bench.rules bench.limits) (λ (history : History). listing bench.rules history.present) bench.history c.args.project.commands (reply_of bench.rules bench.limits) c.serve.new.bench.history (g.O.Sink.told c.args.out.now) (g.O.Sink.told c.serve.new.out) c.in-Err-Memory.ensures.fault)
+
+pub returns-in-Ok-clause-probes : goal.returns-in-Ok-clause-probes
+returns-in-Ok-clause-probes g c = λ whole.
+    let bench = c.args.project.bench in
+    let last = c.serve.new.bench in
+    let project = read_of c.args.project in
+    let before = (g.O.Sink.told c.args.out.now).written in
+    let after = (g.O.Sink.told c.serve.new.out).written in
+    let counted : Counted = (last.history, c.serve.new.steps) in
+    let listed = λ (h : Counted). listing bench.rules h.0.present in
+    let status = subst (λ (rules : Book). HasStatus (listing rules last.history.present) c.status_of.result) c.serve.ensures.made_with.0 c.status_of.ensures.status in
+    let few = subst (λ (rules : Book). c.status_of.new.steps ≤ c.serve.new.steps + list_probes rules last.history.present) c.serve.ensures.made_with.0 c.status_of.ensures.probes in
+    Writes-wider _ (counted_from c.args.steps.now c.status_of.new.steps project) (λ bytes s o. (counted, o.0, few, o.1)) c.status_of.result before after
+    (whole-answered (IsCountedReply bench.rules bench.limits) listed (bench.history, c.args.steps.now) project.commands counted c.status_of.result before after c.in-Ok.ensures.probes status whole)

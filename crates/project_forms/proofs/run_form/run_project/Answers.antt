@@ -1,16 +1,32 @@
-use Rattle.project_forms.specs.RunForm.{run_task}
+use Rattle.project_forms.specs.RunForm.{counted_from, counted_outputs, counted_run_task, run_task}
 use Rattle.project_forms.specs.Project.{read_of}
-use Rattle.cli_output.proofs.Outputs.{output-found, output-stopped}
+use Rattle.cli_output.proofs.Outputs.{Writes-wider, output-found, output-stopped}
 use Rattle.project_forms.proofs.run_form.run_project.Goals as goal
 
 pub returns-in-Ok-clause-written : goal.returns-in-Ok-clause-written
 returns-in-Ok-clause-written g c =
     let limits = c.args.limits.now in
-    output-found limits (run_task limits c.args.project.now) (g.S.Shelf.told c.args.shelf.now).holding (read_of c.in-Ok.project) c.in-Ok.ensures.gives
-    c.answer.result (g.O.Sink.told c.args.out.now).written (g.O.Sink.told c.answer.new.out).written c.answer.ensures.writes
+    output-found limits (run_task limits c.args.project.now) (g.S.Shelf.told c.args.shelf.now).holding (read_of c.in-Ok.project) c.in-Ok.ensures.fetches.gives
+    c.answer.result (g.O.Sink.told c.args.out.now).written (g.O.Sink.told c.answer.new.out).written c.answer.ensures.ends.writes
 
 pub returns-in-Err-clause-written : goal.returns-in-Err-clause-written
 returns-in-Err-clause-written g c =
     let limits = c.args.limits.now in
-    output-stopped limits (run_task limits c.args.project.now) (g.S.Shelf.told c.args.shelf.now).holding c.in-Err.stop c.in-Err.ensures.gives
+    output-stopped limits (run_task limits c.args.project.now) (g.S.Shelf.told c.args.shelf.now).holding c.in-Err.stop c.in-Err.ensures.fetches.gives
+    c.end_by.result (g.O.Sink.told c.args.out.now) (g.O.Sink.told c.end_by.new.out) c.end_by.ensures
+
+pub returns-in-Ok-clause-probes : goal.returns-in-Ok-clause-probes
+returns-in-Ok-clause-probes g c = λ whole.
+    let limits = c.args.limits.now in
+    let project = read_of c.in-Ok.project in
+    let before = (g.O.Sink.told c.args.out.now).written in
+    let after = (g.O.Sink.told c.answer.new.out).written in
+    output-found limits (counted_run_task c.args.steps.now c.answer.new.steps limits c.args.project.now) (g.S.Shelf.told c.args.shelf.now).holding project c.in-Ok.ensures.fetches.gives
+    c.answer.result before after
+    (Writes-wider (counted_from c.fetch_project.new.steps c.answer.new.steps project) (counted_outputs c.args.steps.now c.answer.new.steps project) (λ bytes status o. (c.fetch_project.new.steps, c.in-Ok.ensures.probes, o)) c.answer.result before after (c.answer.ensures.probes whole))
+
+pub returns-in-Err-clause-probes : goal.returns-in-Err-clause-probes
+returns-in-Err-clause-probes g c = λ whole.
+    let limits = c.args.limits.now in
+    output-stopped limits (counted_run_task c.args.steps.now c.fetch_project.new.steps limits c.args.project.now) (g.S.Shelf.told c.args.shelf.now).holding c.in-Err.stop c.in-Err.ensures.fetches.gives
     c.end_by.result (g.O.Sink.told c.args.out.now) (g.O.Sink.told c.end_by.new.out) c.end_by.ensures
