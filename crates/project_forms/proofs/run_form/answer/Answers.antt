@@ -1,18 +1,19 @@
-use Rattle.std.proofs.Common.{◌+◌, ◌≤◌, Err, ap, subst}
+use Rattle.std.proofs.Common.{◌≡◌, ℕ, ◌+◌, ◌≤◌, Err, ap, subst}
 use Rattle.rule_model.specs.Books.{Book}
 use Rattle.bench_core.specs.History.{History}
 use Rattle.violation_report.specs.Listing.{listing}
 use Rattle.shelf_io.specs.Sink.{SinkTold}
+use Rattle.shelf_io.specs.Transcript.{IsTranscript}
 use Rattle.session.specs.Probes.{Counted, IsCountedReply}
 use Rattle.session.specs.Replies.{IsReply}
 use Rattle.violation_report.specs.Probes.{list_probes}
 use Rattle.session.proofs.EachHasReply.{reply_of}
 use Rattle.cli_output.specs.declared.status.Status.{Status}
-use Rattle.cli_output.specs.Output.{Ends}
+use Rattle.cli_output.specs.Output.{Ends, Outputs}
 use Rattle.cli_output.proofs.Outputs.{Ends-wider, Writes-wider}
 use Rattle.project_forms.specs.Project.{ProjectRead, read_of}
 use Rattle.project_forms.specs.RunForm.{counted_from, run_outputs}
-use Rattle.project_forms.specs.Transcripts.{HasStatus, transcripts}
+use Rattle.project_forms.specs.Transcripts.{HasStatus, found_status, transcripts}
 use Rattle.project_forms.proofs.Ends.{ends-answered, ends-memory, ends-write_fault, whole-answered}
 use Rattle.project_forms.proofs.Reports.{clean_where_satisfied}
 use Rattle.project_forms.proofs.run_form.answer.Goals as goal
@@ -46,6 +47,11 @@ returns-clause-ends g c =
     told (read_of c.args.project) _ (g.O.Sink.told c.args.out.now) (g.O.Sink.told c.serve.new.out)
     (ends-memory (IsReply bench.rules bench.limits) (λ (history : History). listing bench.rules history.present) bench.history c.args.project.commands (reply_of bench.rules bench.limits) c.serve.new.bench.history (g.O.Sink.told c.args.out.now) (g.O.Sink.told c.serve.new.out) c.in-Err-Memory.ensures.fault)
 
+-- the transcripts that end in this state with so many probes, each with its status
+abbrev counted_at : ProjectRead → ℕ → Counted → Outputs
+counted_at project begun last bytes status =
+    let start = project.tables in IsTranscript (IsCountedReply start.rules start.limits) (start.history, begun) project.commands bytes last × (status ≡ found_status (listing start.rules last.0.present))
+
 pub returns-in-Ok-clause-probes : goal.returns-in-Ok-clause-probes
 returns-in-Ok-clause-probes g c = λ whole.
     let bench = c.args.project.bench in
@@ -57,5 +63,5 @@ returns-in-Ok-clause-probes g c = λ whole.
     let listed = λ (h : Counted). listing bench.rules h.0.present in
     let status = subst (λ (rules : Book). HasStatus (listing rules last.history.present) c.status_of.result) c.serve.ensures.made_with.0 c.status_of.ensures.status in
     let few = subst (λ (rules : Book). c.status_of.new.steps ≤ c.serve.new.steps + list_probes rules last.history.present) c.serve.ensures.made_with.0 c.status_of.ensures.probes in
-    Writes-wider _ (counted_from c.args.steps.now c.status_of.new.steps project) (λ bytes s o. (counted, o.0, few, o.1)) c.status_of.result before after
+    Writes-wider (counted_at project c.args.steps.now counted) (counted_from c.args.steps.now c.status_of.new.steps project) (λ bytes s o. (counted, o.0, few, o.1)) c.status_of.result before after
     (whole-answered (IsCountedReply bench.rules bench.limits) listed (bench.history, c.args.steps.now) project.commands counted c.status_of.result before after c.in-Ok.ensures.probes status whole)
