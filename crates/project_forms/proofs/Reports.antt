@@ -1,5 +1,6 @@
 -- How telling a list ends.
-use Rattle.std.proofs.Common.{◌≡◌, ◌≢◌, ◌↔◌, ℕ, List, [], ◌∷◌, length, inl, refl, sym, ap, ◌∙◌}
+use Rattle.std.proofs.Common.{◌≡◌, ◌↔◌, Bool, true, false, List, [], ◌∷◌, inl, refl, sym, ap, ◌∙◌}
+use Rattle.std.specs.Prelude.{IsTrue}
 use Rattle.rule_model.specs.Books.{Book}
 use Rattle.bench_core.specs.State.{State}
 use Rattle.violation_report.specs.Listing.{IsSatisfied, listing}
@@ -15,15 +16,14 @@ pub found_is_whole : {X : Type 0} (listed : List X) → IsWhole (found_status li
 found_is_whole [] = tt
 found_is_whole (x ∷ xs) = tt
 
--- ---- the status by how many there are
+-- ---- the status by whether nothing is listed
 
-pub none_counted : {X : Type 0} (listed : List X) (lines : ℕ) → lines ≡ length listed → lines ≡ 0 → HasStatus listed Clean
-none_counted [] lines is none = inl refl
-none_counted (x ∷ xs) lines is none = absurd (cc)
+pub clean_told : {X : Type 0} (listed : List X) (is_clean : Bool) → (IsTrue is_clean ↔ (listed ≡ [])) → is_clean ≡ true → HasStatus listed Clean
+clean_told listed is_clean told is = inl (ap found_status (sym (told.0 is)))
 
-pub some_counted : {X : Type 0} (listed : List X) (lines : ℕ) → lines ≡ length listed → lines ≢ 0 → HasStatus listed Findings
-some_counted [] lines is some = absurd (some is)
-some_counted (x ∷ xs) lines is some = inl refl
+pub found_told : {X : Type 0} (listed : List X) (is_clean : Bool) → (IsTrue is_clean ↔ (listed ≡ [])) → is_clean ≡ false → HasStatus listed Findings
+found_told [] is_clean told is = absurd (let yes : is_clean ≡ true = told.1 refl in cc)
+found_told (x ∷ xs) is_clean told is = inl refl
 
 -- ---- the status by whether the rules are satisfied
 

@@ -4,7 +4,6 @@ use Rattle.text_lists.specs.declared.limits.Limits.{Limits}
 use Rattle.bench_core.specs.History.{History}
 use Rattle.bench_core.specs.Indexed.{load_probes}
 use Rattle.violation_report.specs.Listing.{IsSatisfied, listing}
-use Rattle.violation_report.specs.Probes.{list_probes}
 use Rattle.session.specs.Probes.{Counted, IsCountedReply}
 use Rattle.session.specs.Replies.{IsReply}
 use Rattle.cli_output.specs.Output.{Outputs, Task}
@@ -29,12 +28,11 @@ run_task limits project = record {
 }
 
 -- The same with the probes of indexes, of which there were so many when the script was begun and so many at the end: each
--- command takes no more than it may in the history in which it is answered, and the status no more than the list of the last
--- state.
+-- command takes no more than it may in the history in which it is answered, and the status takes none.
 abbrev pub counted_from : ℕ → ℕ → ProjectRead → Outputs
 counted_from begun after project bytes status =
     let start = project.tables in
-    (last : Counted) × IsTranscript (IsCountedReply start.rules start.limits) (start.history, begun) project.commands bytes last × (after ≤ last.1 + list_probes start.rules last.0.present) × (status ≡ found_status (listing start.rules last.0.present))
+    (last : Counted) × IsTranscript (IsCountedReply start.rules start.limits) (start.history, begun) project.commands bytes last × (after ≤ last.1) × (status ≡ found_status (listing start.rules last.0.present))
 
 -- And before that each row of the tables took no more than one change of a row of its table.
 abbrev pub counted_outputs : ℕ → ℕ → ProjectRead → Outputs

@@ -122,7 +122,7 @@ fn answer<O: Sink, L: Ledger>(
     let DeskFiles { bench, events } = files;
     let mut desk = Desk::open(alloc, bench, last);
     match serve_desk(alloc, &mut desk, &events, out, steps) {
-        Ok(()) => status_of(desk.bench(), steps),
+        Ok(()) => status_of(desk.bench()),
         Err(DeskFault::WriteFault) => Status::WriteFault,
         Err(DeskFault::Memory) => Status::Memory,
     }

@@ -1,8 +1,6 @@
 //! The form `run PROJECT`: answers the project's script.
-ghost use Rattle.std.specs.Prelude.{◌+◌, ◌≤◌};
 ghost use Rattle.text_lists.specs.Limits.{AreLimits};
 ghost use Rattle.violation_report.specs.Listing.{listing};
-ghost use Rattle.violation_report.specs.Probes.{list_probes};
 ghost use Rattle.cli_output.specs.Output.{Ends, IsWhole, Output, UsesDevices, Writes};
 ghost use Rattle.project_forms.specs.Project.{read_of};
 ghost use Rattle.project_forms.specs.RunForm.{counted_from, counted_run_task, run_outputs, run_task};
@@ -15,9 +13,9 @@ use probe_steps::Steps;
 use schema_core::{Limits, Text};
 use session::{ServeFault, serve};
 use shelf_io::{Shelf, Sink};
-use std::alloc::{AllocError, Global};
+use std::alloc::Global;
 use std::sync::ledger::Ledger;
-use violation_report::count;
+use violation_report::is_clean;
 
 /// Answers the script of a project.
 pub fn run_project<S: Shelf, O: Sink, L: Ledger>(
@@ -57,21 +55,20 @@ fn answer<O: Sink, L: Ledger>(
         commands,
     } = project;
     match serve(alloc, &mut bench, &commands, out, steps) {
-        Ok(()) => status_of(&bench, steps),
+        Ok(()) => status_of(&bench),
         Err(ServeFault::WriteFault) => Status::WriteFault,
         Err(ServeFault::Memory) => Status::Memory,
     }
 }
 
-// The lines are counted, and not listed.
-#[tactic(auto, using(crate::proofs::Reports::none_counted, crate::proofs::Reports::some_counted))]
-pub fn status_of<L: Ledger>(bench: &Bench, steps: &mut Steps<L>) -> Status
-    ensures status { HasStatus (listing bench.now.rules bench.now.history.present) result }
-    ensures probes { steps.new ≤ steps.old + list_probes bench.now.rules bench.now.history.present }
+// Nothing is counted or listed for it.
+#[tactic(auto, using(crate::proofs::Reports::clean_told, crate::proofs::Reports::found_told))]
+pub fn status_of(bench: &Bench) -> Status
+    ensures { HasStatus (listing bench.now.rules bench.now.history.present) result }
 {
-    match count(bench, steps) {
-        Ok(lines) if lines == 0 => Status::Clean,
-        Ok(_) => Status::Findings,
-        Err(AllocError) => Status::Memory,
+    if is_clean(bench) {
+        Status::Clean
+    } else {
+        Status::Findings
     }
 }

@@ -1,4 +1,4 @@
-use Rattle.std.proofs.Common.{◌≡◌, ℕ, ◌+◌, ◌≤◌, Err, ap, subst}
+use Rattle.std.proofs.Common.{◌≡◌, ℕ, Err, ap, arith, subst}
 use Rattle.rule_model.specs.Books.{Book}
 use Rattle.bench_core.specs.History.{History}
 use Rattle.violation_report.specs.Listing.{listing}
@@ -6,7 +6,6 @@ use Rattle.shelf_io.specs.Sink.{SinkTold}
 use Rattle.shelf_io.specs.Transcript.{IsTranscript}
 use Rattle.session.specs.Probes.{Counted, IsCountedReply}
 use Rattle.session.specs.Replies.{IsReply}
-use Rattle.violation_report.specs.Probes.{list_probes}
 use Rattle.session.proofs.EachHasReply.{reply_of}
 use Rattle.cli_output.specs.declared.status.Status.{Status}
 use Rattle.cli_output.specs.Output.{Ends, Outputs}
@@ -30,7 +29,7 @@ pub returns-in-Ok-clause-ends : goal.returns-in-Ok-clause-ends
 returns-in-Ok-clause-ends g c =
     let bench = c.args.project.bench in
     let last = c.serve.new.bench in
-    let status = subst (λ (rules : Book). HasStatus (listing rules last.history.present) c.status_of.result) c.serve.ensures.made_with.0 c.status_of.ensures.status in
+    let status = subst (λ (rules : Book). HasStatus (listing rules last.history.present) c.status_of.result) c.serve.ensures.made_with.0 c.status_of.ensures in
     told (read_of c.args.project) c.status_of.result (g.O.Sink.told c.args.out.now) (g.O.Sink.told c.serve.new.out)
     (ends-answered (IsReply bench.rules bench.limits) (λ (history : History). listing bench.rules history.present) bench.history c.args.project.commands last.history c.status_of.result (g.O.Sink.told c.args.out.now) (g.O.Sink.told c.serve.new.out) c.in-Ok.ensures.ok status)
 
@@ -61,7 +60,6 @@ returns-in-Ok-clause-probes g c = λ whole.
     let after = (g.O.Sink.told c.serve.new.out).written in
     let counted : Counted = (last.history, c.serve.new.steps) in
     let listed = λ (h : Counted). listing bench.rules h.0.present in
-    let status = subst (λ (rules : Book). HasStatus (listing rules last.history.present) c.status_of.result) c.serve.ensures.made_with.0 c.status_of.ensures.status in
-    let few = subst (λ (rules : Book). c.status_of.new.steps ≤ c.serve.new.steps + list_probes rules last.history.present) c.serve.ensures.made_with.0 c.status_of.ensures.probes in
-    Writes-wider (counted_at project c.args.steps.now counted) (counted_from c.args.steps.now c.status_of.new.steps project) (λ bytes s o. (counted, o.0, few, o.1)) c.status_of.result before after
+    let status = subst (λ (rules : Book). HasStatus (listing rules last.history.present) c.status_of.result) c.serve.ensures.made_with.0 c.status_of.ensures in
+    Writes-wider (counted_at project c.args.steps.now counted) (counted_from c.args.steps.now c.serve.new.steps project) (λ bytes s o. (counted, o.0, omega arith, o.1)) c.status_of.result before after
     (whole-answered (IsCountedReply bench.rules bench.limits) listed (bench.history, c.args.steps.now) project.commands counted c.status_of.result before after c.in-Ok.ensures.probes status whole)
