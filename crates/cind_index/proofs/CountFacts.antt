@@ -1,6 +1,6 @@
 -- How many orphans a row of the tableau has, told without a list of them.
-use Rattle.std.proofs.Common.{◌≡◌, ℕ, ◌+◌, ◌<◌, ◌≤◌, ◌↔◌, ◌⊎◌, Bool, true, false, not, ◌&&◌, List, [], ◌∷◌, ◌++◌, length, get_or, slice_get, Option, Some, None, refl, sym, ap, ◌∙◌, subst, inl, inr, arith}
-use Rattle.std.specs.Prelude.{◌==◌, nat_eq, IsTrue, Contains, AllPairs}
+use Rattle.std.proofs.Common.{◌≡◌, ℕ, ◌+◌, ◌<◌, ◌↔◌, ◌⊎◌, Bool, true, false, not, ◌&&◌, List, [], ◌∷◌, ◌++◌, length, get_or, slice_get, Option, Some, refl, sym, ap, ◌∙◌, subst, inl, inr, arith}
+use Rattle.std.specs.Prelude.{◌==◌, nat_eq, Contains}
 use Rattle.std.specs.Option.{option_map_or}
 use Rattle.std.specs.List.{list_any, IsDistinct, AllByRecursion}
 use Rattle.std.specs.List.Sorted.{IsStrictlySortedBy}
@@ -17,14 +17,14 @@ use Rattle.std.proofs.lemmas.Map.Made.{length-from_same_keys}
 use Rattle.marked_map.specs.MarkedMap.{HaveDistinctKeys}
 use Rattle.cfd_semantics.specs.declared.inclusion.InclusionRow.{InclusionRow}
 use Rattle.cfd_semantics.specs.Orphan.{SideEntry, orphaned}
-use Rattle.cfd_semantics.specs.EntrySets.{HasOneARow, IsRising, IsOrphan, IsSideList}
+use Rattle.cfd_semantics.specs.EntrySets.{HasOneARow}
 use Rattle.cfd_semantics.proofs.Members.{contains-here, contains-there, contains_nothing, contains_cases}
 use Rattle.cfd_semantics.proofs.InclusionLaw.{found_by_any, any_from_found, both_true}
 use Rattle.cfd_semantics.proofs.Sets.{one_a_row}
 use Rattle.cfd_semantics.proofs.SetFacts.{orphans_of_sets, orphaned_rise}
 use Rattle.cind_index.specs.declared.side.Side.TheVariants.{Left, Right}
 use Rattle.cind_index.specs.declared.row_set.RowSet.{RowSet}
-use Rattle.cind_index.specs.declared.row_set.RowSet.TheVariants.{One, More}
+use Rattle.cind_index.specs.declared.row_set.RowSet.TheVariants.{More}
 use Rattle.cind_index.specs.declared.key_rows.KeyRows.{KeyRows}
 use Rattle.cind_index.specs.RowsHeld.{is_in, has, has_some, rows_on, is_orphaned, HoldsSoMany}
 use Rattle.cind_index.specs.KeysHeld.{KeyedRows, lefts, rights, AreMarkedRight}

@@ -1,5 +1,4 @@
-use Rattle.std.proofs.Common.{◌≡◌, ◌+◌, ℕ, ap, ◌∙◌, sym, subst, arith, get_or, refl}
-use Rattle.cfd_semantics.specs.declared.inclusion.InclusionRow.{InclusionRow}
+use Rattle.std.proofs.Common.{◌≡◌, ◌+◌, ap, ◌∙◌, sym, subst, arith, get_or, refl}
 use Rattle.cind_index.specs.KeysHeld.{lefts, rights}
 use Rattle.cind_index.specs.Orphans.{IsOrphanCount}
 use Rattle.cind_index.proofs.OrphanFacts.{row_at}

@@ -1,4 +1,4 @@
-use Rattle.std.proofs.Common.{◌≡◌, sym, ◌∙◌, subst}
+use Rattle.std.proofs.Common.{sym, subst}
 use Rattle.cind_index.specs.declared.side.Side.TheVariants.{Left}
 use Rattle.cind_index.specs.RowsHeld.{has, rows_on, HoldsSoMany}
 use Rattle.cind_index.proofs.CountFacts.{orphans_none, orphans_all}
