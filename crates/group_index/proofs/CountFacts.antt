@@ -1,6 +1,6 @@
 -- How many violations a tableau row has, told without a list of them.
 use Rattle.std.proofs.Common.{◌≡◌, ◌≢◌, ℕ, ◌+◌, ◌<◌, ◌≤◌, Bool, true, false, cond, not, ◌&&◌, List, [], ◌∷◌, ◌++◌, map, length, get_or, slice_get, Option, Some, None, refl, sym, ap, ◌∙◌, subst, inl, inr, arith}
-use Rattle.std.specs.Prelude.{nat_eq, count_by, filter_map, is_some, AllPairs, Contains}
+use Rattle.std.specs.Prelude.{nat_eq, count_by, filter_map, is_some, Contains}
 use Rattle.std.specs.Option.{option_map}
 use Rattle.std.specs.List.{list_any, IsDistinct}
 use Rattle.std.proofs.lemmas.Bool.{cases_lt}
@@ -26,7 +26,7 @@ use Rattle.group_index.specs.declared.spread.Spread.{Spread}
 use Rattle.group_index.specs.declared.spread.Spread.TheVariants.{Nothing, Alike, Mixed}
 use Rattle.group_index.specs.Pairs.{Pair, pairs_of, is_mixed, IsSpread}
 use Rattle.group_index.specs.Groups.{KeyedGroups, is_in, AreMarked}
-use Rattle.group_index.specs.Leads.{AreLeads, IsAmong, IsLeastOther, CountsListed, CountsMatching, AreCollected, AreSoMany, listed_by, partner_by}
+use Rattle.group_index.specs.Leads.{AreLeads, IsAmong, IsLeastOther, CountsListed, CountsMatching, AreSoMany, listed_by, partner_by}
 use Rattle.group_index.proofs.GroupFacts.{same_key, clash}
 use Rattle.group_index.proofs.PairFacts.{none_pass}
 use Rattle.group_index.proofs.SpreadFacts.{unmixed}

@@ -1,5 +1,5 @@
 -- How many items of a list pass a test.
-use Rattle.std.proofs.Common.{◌≡◌, ℕ, suc, ◌+◌, Bool, true, false, cond, not, ◌&&◌, List, [], ◌∷◌, length, Option, Some, None, refl, sym, ap, ◌∙◌, arith}
+use Rattle.std.proofs.Common.{◌≡◌, ℕ, ◌+◌, Bool, true, false, cond, not, ◌&&◌, List, [], ◌∷◌, length, Option, Some, None, refl, sym, ap, ◌∙◌, arith}
 use Rattle.std.specs.Prelude.{nat_eq, nat_lt, count_by, filter, filter_map, is_some, Contains}
 use Rattle.std.specs.List.{cons_option}
 use Rattle.std.specs.declared.ops.Bound.TheVariants.{Excluded, Unbounded}

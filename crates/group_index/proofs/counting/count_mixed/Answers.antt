@@ -1,5 +1,5 @@
 use Rattle.std.proofs.Common.{sym, ap, ◌∙◌, cond, length}
-use Rattle.group_index.specs.Pairs.{pairs_of, is_mixed}
+use Rattle.group_index.specs.Pairs.{pairs_of}
 use Rattle.group_index.proofs.counting.count_mixed.Goals as goal
 
 pub returns-then-is_mixed : goal.returns-then-is_mixed

@@ -1,4 +1,4 @@
-use Rattle.std.proofs.Common.{◌∙◌, rules}
+use Rattle.std.proofs.Common.{◌∙◌}
 use Rattle.std.proofs.lemmas.Iterator.Consumers.{YieldsList-from_rest, count_from_yields_List}
 use Rattle.group_index.proofs.TestCounts.{counted_below}
 use Rattle.group_index.proofs.group.count_before.Goals as goal

@@ -1,4 +1,4 @@
-use Rattle.std.proofs.Common.{not, ◌≡◌, ◌+◌, sym, ap, ◌∙◌, subst, arith}
+use Rattle.std.proofs.Common.{not, ◌≡◌, ◌+◌, sym, ap, ◌∙◌, arith}
 use Rattle.std.specs.Prelude.{nat_eq, count_by}
 use Rattle.group_index.specs.declared.group.Group.{Group}
 use Rattle.group_index.specs.Pairs.{pairs_of}
