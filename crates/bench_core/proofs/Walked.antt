@@ -25,7 +25,7 @@ use Rattle.bench_index.specs.Indexes.{AreRowsInTexts, IsIndexOfCind, IsIndexOfDe
 use Rattle.bench_index.specs.declared.all_indexes.AllIndexes.{AllIndexes}
 use Rattle.bench_index.proofs.InTexts.{dependency-texts, inclusion-texts, kept_apart, row-known}
 use Rattle.bench_index.proofs.Reading.{of_cind, of_dep}
-use Rattle.bench_core.specs.DirtyCounts.{cind_rows, cind_walk, cind_walk_at, dep_rows, dep_walk, dep_walk_at, dirty_groups, dirty_keys}
+use Rattle.bench_core.specs.DirtyCounts.{cind_dirty, cind_rows, cind_walk, cind_walk_at, dep_dirty, dep_rows, dep_walk, dep_walk_at, dirty_groups, dirty_groups_at, dirty_keys, dirty_keys_at}
 use Rattle.bench_core.specs.Indexed.{IsIndexed, tuples_of}
 use Rattle.bench_core.specs.State.{State, rows_at}
 use Rattle.bench_core.specs.Stored.{RowsHaveTexts, Stored, state_of, text_of}
@@ -56,36 +56,55 @@ module _ (rules : Book) (texts : List (List ℕ)) (tables : List Stored) (index 
   -- ---- by dirty groups and keys
 
   module _ (distinct : HaveOneId texts) where
-    groups-are : (dep : Dep) (s : GroupSet) (count : ℕ) → slice_get (book_deps rules) number ≡ Some dep → slice_get index.index.groups.items number ≡ Some s → AreDirty s count → length s.made.dependency.rows * count ≡ dep_walk state dep
-    groups-are dep s count at here dirty =
+    groups-among : (dep : Dep) (s : GroupSet) (count : ℕ) → slice_get (book_deps rules) number ≡ Some dep → slice_get index.index.groups.items number ≡ Some s → AreDirty s count → count ≡ dep_dirty state dep
+    groups-among dep s count at here dirty =
         let own = stored_rows tables dep.table in
         let d = s.made.dependency in
         let of = of_dep index.index number s here rules texts (tuples_of tables) dep own indexed.in_step.indexes indexed.in_step.groups at (rows dep.table) in
         let cells = second-known (IsRowByIds texts) (HasKnownCells (HasText texts)) (row-known texts) dep.rule.rows d.rows of.rule.rows in
-        let among : count ≡ dirty_groups bytes_eq dep.rule (entries dep.rule (rows_at state dep.table)) =
         groups_counted s count (entries d own) of.list dirty
         ∙ sym (dirty_groups-renamed (kept_apart texts distinct) d own cells (rows dep.table).named)
         ∙ sym (ap (λ e. dirty_groups bytes_eq e (entries e (renamed_rows (text_of texts) own))) (dependency-texts texts dep.rule d of.rule))
-        ∙ ap (λ rs. dirty_groups bytes_eq dep.rule (entries dep.rule rs)) (renamed-is texts tables dep.table) in
-        let long = AllZip-long (IsRowByIds texts) dep.rule.rows d.rows of.rule.rows in
+        ∙ ap (λ rs. dirty_groups bytes_eq dep.rule (entries dep.rule rs)) (renamed-is texts tables dep.table)
+
+    groups-are : (dep : Dep) (s : GroupSet) (count : ℕ) → slice_get (book_deps rules) number ≡ Some dep → slice_get index.index.groups.items number ≡ Some s → AreDirty s count → length s.made.dependency.rows * count ≡ dep_walk state dep
+    groups-are dep s count at here dirty =
+        let is = zip-at (IsIndexOfDep texts) (book_deps rules) index.index.groups.items number dep s indexed.in_step.indexes.groups at here in
+        let long = AllZip-long (IsRowByIds texts) dep.rule.rows s.made.dependency.rows is.rule.rows in
+        let among = groups-among dep s count at here dirty in
         λ i. long i * among i
 
-    keys-are : (cind : Cind) (s : CindIndex) (count : ℕ) → slice_get (book_cinds rules) number ≡ Some cind → slice_get index.index.cinds.items number ≡ Some s → IsDirtyCount s.rule (lefts s.keys) (rights s.keys) count → length s.rule.rows * count ≡ cind_walk state cind
-    keys-are cind s count at here dirty =
+    keys-among : (cind : Cind) (s : CindIndex) (count : ℕ) → slice_get (book_cinds rules) number ≡ Some cind → slice_get index.index.cinds.items number ≡ Some s → IsDirtyCount s.rule (lefts s.keys) (rights s.keys) count → count ≡ cind_dirty state cind
+    keys-among cind s count at here dirty =
         let left_rows = stored_rows tables cind.left in
         let right_rows = stored_rows tables cind.right in
         let rule = s.rule in
         let name = text_of texts in
         let of = of_cind index.index number s here rules texts (tuples_of tables) cind left_rows right_rows indexed.in_step.indexes indexed.in_step.cinds at (rows cind.left) (rows cind.right) in
         let constants = second-known (IsInclusionRowByIds texts) (HasKnownConstants (HasText texts)) (constants-known texts) cind.rule.rows rule.rows of.rule.rows in
-        let among : count ≡ dirty_keys bytes_eq cind.rule (left_entries cind.rule (rows_at state cind.left)) (right_entries cind.rule (rows_at state cind.right)) =
         keys_counted rule (lefts s.keys) (rights s.keys) (left_entries rule left_rows) (right_entries rule right_rows) of.left of.right count dirty
         ∙ sym (dirty_keys-renamed (kept_apart texts distinct) rule left_rows right_rows constants (rows cind.left).named (rows cind.right).named)
         ∙ sym (ap (λ e. dirty_keys bytes_eq e (left_entries e (renamed_rows name left_rows)) (right_entries e (renamed_rows name right_rows))) (inclusion-texts texts cind.rule rule of.rule))
         ∙ ap (λ rs. dirty_keys bytes_eq cind.rule (left_entries cind.rule rs) (right_entries cind.rule (renamed_rows name right_rows))) (renamed-is texts tables cind.left)
-        ∙ ap (λ rs. dirty_keys bytes_eq cind.rule (left_entries cind.rule (rows_at state cind.left)) (right_entries cind.rule rs)) (renamed-is texts tables cind.right) in
-        let long = AllZip-long (IsInclusionRowByIds texts) cind.rule.rows rule.rows of.rule.rows in
+        ∙ ap (λ rs. dirty_keys bytes_eq cind.rule (left_entries cind.rule (rows_at state cind.left)) (right_entries cind.rule rs)) (renamed-is texts tables cind.right)
+
+    keys-are : (cind : Cind) (s : CindIndex) (count : ℕ) → slice_get (book_cinds rules) number ≡ Some cind → slice_get index.index.cinds.items number ≡ Some s → IsDirtyCount s.rule (lefts s.keys) (rights s.keys) count → length s.rule.rows * count ≡ cind_walk state cind
+    keys-are cind s count at here dirty =
+        let is = zip-at (IsIndexOfCind texts) (book_cinds rules) index.index.cinds.items number cind s indexed.in_step.indexes.cinds at here in
+        let long = AllZip-long (IsInclusionRowByIds texts) cind.rule.rows s.rule.rows is.rule.rows in
+        let among = keys-among cind s count at here dirty in
         λ i. long i * among i
+
+    -- how many are dirty, by the number of the rule
+    pub groups-dirty : (s : GroupSet) (count : ℕ) → number < length (book_deps rules) → slice_get index.index.groups.items number ≡ Some s → AreDirty s count → count ≡ dirty_groups_at rules state number
+    groups-dirty s count within here dirty =
+        let (dep, at) = item-there (book_deps rules) number within in
+        groups-among dep s count at here dirty ∙ sym (ap (λ o. option_map_or (dep_dirty state) o 0) at)
+
+    pub keys-dirty : (s : CindIndex) (count : ℕ) → number < length (book_cinds rules) → slice_get index.index.cinds.items number ≡ Some s → IsDirtyCount s.rule (lefts s.keys) (rights s.keys) count → count ≡ dirty_keys_at rules state number
+    keys-dirty s count within here dirty =
+        let (cind, at) = item-there (book_cinds rules) number within in
+        keys-among cind s count at here dirty ∙ sym (ap (λ o. option_map_or (cind_dirty state) o 0) at)
 
     -- a walk over the dirty groups for each tableau row, and over the dirty keys
     pub groups-walked : (s : GroupSet) (count before after : ℕ) → number < length (book_deps rules) → slice_get index.index.groups.items number ≡ Some s → AreDirty s count → count ≡ s.dirty

@@ -33,14 +33,28 @@ module _ {V : Type 0} (eq : V → V → Bool) where
   abbrev pub dirty_keys : Inclusion V → List (SideEntry V) → List (SideEntry V) → ℕ
   dirty_keys i lefts rights = distinct_count (same_values eq) (map (λ (left : SideEntry V). left.key) (filter (lacks_answer i rights) lefts))
 
+-- the same of a rule in a state
+abbrev pub dep_dirty : State → Dep → ℕ
+dep_dirty state dep = dirty_groups bytes_eq dep.rule (entries dep.rule (rows_at state dep.table))
+
+abbrev pub cind_dirty : State → Cind → ℕ
+cind_dirty state cind = dirty_keys bytes_eq cind.rule (left_entries cind.rule (rows_at state cind.left)) (right_entries cind.rule (rows_at state cind.right))
+
+-- and by the number of the rule
+abbrev pub dirty_groups_at : Book → State → ℕ → ℕ
+dirty_groups_at rules state number = option_map_or (dep_dirty state) (slice_get (book_deps rules) number) 0
+
+abbrev pub dirty_keys_at : Book → State → ℕ → ℕ
+dirty_keys_at rules state number = option_map_or (cind_dirty state) (slice_get (book_cinds rules) number) 0
+
 -- ---- what goes over them for each tableau row
 
 -- each dirty group of a dependency for each of its tableau rows, and each dirty key of an inclusion for each of its own
 abbrev pub dep_walk : State → Dep → ℕ
-dep_walk state dep = length dep.rule.rows * dirty_groups bytes_eq dep.rule (entries dep.rule (rows_at state dep.table))
+dep_walk state dep = length dep.rule.rows * dep_dirty state dep
 
 abbrev pub cind_walk : State → Cind → ℕ
-cind_walk state cind = length cind.rule.rows * dirty_keys bytes_eq cind.rule (left_entries cind.rule (rows_at state cind.left)) (right_entries cind.rule (rows_at state cind.right))
+cind_walk state cind = length cind.rule.rows * cind_dirty state cind
 
 -- the same by the number of the rule
 abbrev pub dep_walk_at : Book → State → ℕ → ℕ

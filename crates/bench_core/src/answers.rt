@@ -4,7 +4,7 @@ ghost use Rattle.std.specs.Prelude.{◌≡◌, ◌+◌, ◌<◌, ◌≤◌, leng
 ghost use Rattle.rule_model.specs.Books.{book_cinds, book_deps};
 ghost use Rattle.bench_core.specs.Answers.{AreMastersOf, IsRowOfCind, IsRowOfDep, orphans_at, orphans_of_row, violations_at, violations_of_row};
 ghost use Rattle.bench_core.specs.Bench.{IsHeld, present_of};
-ghost use Rattle.bench_core.specs.DirtyCounts.{cind_rows, cind_walk_at, dep_rows, dep_walk_at};
+ghost use Rattle.bench_core.specs.DirtyCounts.{cind_rows, cind_walk_at, dep_rows, dep_walk_at, dirty_groups_at, dirty_keys_at};
 ghost use Rattle.bench_core.specs.Indexed.{IsInStepWith};
 
 use crate::project::Project;
@@ -18,6 +18,30 @@ use std::alloc::AllocError;
 use std::sync::ledger::Ledger;
 
 impl Project {
+    /// How many groups of a dependency are dirty. No group is looked at.
+    pub(crate) fn dirty_groups(&self, index: &AllIndexes, dep: usize) -> usize
+        requires held { IsHeld self.now }
+        requires in_step { IsInStepWith self.now index.now }
+        requires dep { dep < length (book_deps self.now.rules) }
+        ensures { result ≡ dirty_groups_at self.now.rules (present_of self.now) dep }
+    {
+        // The length is what says that no text has two ids.
+        let _len = self.pool.len();
+        index.index.groups[dep].dirty()
+    }
+
+    /// How many keys of an inclusion are dirty. No key is looked at.
+    pub(crate) fn dirty_keys(&self, index: &AllIndexes, cind: usize) -> usize
+        requires held { IsHeld self.now }
+        requires in_step { IsInStepWith self.now index.now }
+        requires cind { cind < length (book_cinds self.now.rules) }
+        ensures { result ≡ dirty_keys_at self.now.rules (present_of self.now) cind }
+    {
+        // The length is what says that no text has two ids.
+        let _len = self.pool.len();
+        index.index.cinds[cind].dirty()
+    }
+
     /// The violations of a dependency.
     pub(crate) fn violations<L: Ledger>(
         &self,

@@ -11,7 +11,7 @@ ghost use Rattle.bench_core.specs.Stored.{RowsHaveTexts, stored, table_state};
 ghost use Rattle.rule_model.specs.Books.{book_cinds, book_deps};
 ghost use Rattle.bench_core.specs.Answers.{AreMastersOf, IsRowOfCind, IsRowOfDep, orphans_at, orphans_of_row, violations_at, violations_of_row};
 ghost use Rattle.bench_core.specs.Bench.{IsHistory};
-ghost use Rattle.bench_core.specs.DirtyCounts.{cind_rows, cind_walk_at, dep_rows, dep_walk_at};
+ghost use Rattle.bench_core.specs.DirtyCounts.{cind_rows, cind_walk_at, dep_rows, dep_walk_at, dirty_groups_at, dirty_keys_at};
 ghost use Rattle.bench_core.specs.Indexed.{AreOfTheChange, edit_probes, load_probes};
 ghost use Rattle.bench_core.specs.declared.edit.RedoFault.TheVariants as redo_fault;
 ghost use Rattle.bench_core.specs.declared.edit.UndoFault.TheVariants as undo_fault;
@@ -143,6 +143,24 @@ impl Bench {
         ensures valid { IsHistory self.now.rules self.now.limits self.now.history }
     {
         self.project.rows(table)
+    }
+
+    /// How many groups of a numbered dependency are dirty, which is 0 exactly where it has no violation. The index knows it
+    /// without a look at any of them.
+    pub fn dirty_groups(&self, dep: usize) -> usize
+        requires { dep < length (book_deps self.now.rules) }
+        ensures { result ≡ dirty_groups_at self.now.rules self.now.history.present dep }
+    {
+        self.project.dirty_groups(&self.index, dep)
+    }
+
+    /// How many keys of a numbered inclusion are dirty, which is 0 exactly where it has no orphan. The index knows it without a
+    /// look at any of them.
+    pub fn dirty_keys(&self, cind: usize) -> usize
+        requires { cind < length (book_cinds self.now.rules) }
+        ensures { result ≡ dirty_keys_at self.now.rules self.now.history.present cind }
+    {
+        self.project.dirty_keys(&self.index, cind)
     }
 
     /// The violations of a numbered dependency, each with the number of its tableau row: by tableau row, and for each by

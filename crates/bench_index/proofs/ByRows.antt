@@ -1,5 +1,5 @@
 -- Walks over the tableau rows of an index: what one more of them adds.
-use Rattle.std.proofs.Common.{◌≡◌, ℕ, ◌+◌, ◌*◌, ◌<◌, ◌≤◌, List, [], ◌∷◌, ◌++◌, map, take, length, get_or, Some, sym, ap, ◌∙◌, arith, length-append}
+use Rattle.std.proofs.Common.{◌≡◌, ℕ, ◌+◌, ◌*◌, ◌<◌, ◌≤◌, List, [], ◌∷◌, ◌++◌, map, take, length, get_or, Some, refl, sym, ap, ◌∙◌, arith, length-append}
 use Rattle.std.specs.Prelude.{slice_get}
 use Rattle.std.proofs.lemmas.List.{take_all, length-map}
 use Rattle.std.proofs.lemmas.Option.{slice_get-get_or, get_or_from_slice_get}
@@ -20,14 +20,15 @@ module _ {T X : Type 0} (gives : T → List X) where
       joined ∙ ap (λ list. list ++ map (λ x. (k, x)) found) is ∙ row_more (r ∷ rs) k (get_or (r ∷ rs) k r) found within at (own (get_or (r ∷ rs) k r) at)
 
   -- as many more
-  pub count_more : (rows : List T) (k so_far : ℕ) (found : List X) → k < length rows → so_far ≡ length (numbered gives (take k rows)) → ((t : T) → slice_get rows k ≡ Some t → found ≡ gives t)
-      → so_far + length found ≡ length (numbered gives (take (k + 1) rows))
-  count_more [] k so_far found within is own = absurd (omega (arith, within))
-  count_more (r ∷ rs) k so_far found within is own =
+  pub count_more : (rows : List T) (k so_far more : ℕ) → k < length rows → so_far ≡ length (numbered gives (take k rows)) → ((t : T) → slice_get rows k ≡ Some t → more ≡ length (gives t))
+      → so_far + more ≡ length (numbered gives (take (k + 1) rows))
+  count_more [] k so_far more within is own = absurd (omega (arith, within))
+  count_more (r ∷ rs) k so_far more within is own =
       let at = slice_get-get_or (r ∷ rs) k r within in
+      let row = get_or (r ∷ rs) k r in
       let list = numbered gives (take k (r ∷ rs)) in
-      ap (λ n. n + length found) is ∙ ap (λ n. length list + n) (sym (length-map found (λ x. (k, x)))) ∙ sym (length-append list (map (λ x. (k, x)) found))
-      ∙ ap length (row_more (r ∷ rs) k (get_or (r ∷ rs) k r) found within at (own (get_or (r ∷ rs) k r) at))
+      ap (λ n. n + more) is ∙ ap (λ n. length list + n) (own row at ∙ sym (length-map (gives row) (λ x. (k, x)))) ∙ sym (length-append list (map (λ x. (k, x)) (gives row)))
+      ∙ ap length (row_more (r ∷ rs) k row (gives row) within at refl)
 
   -- after all rows
   pub rows_passed : (rows : List T) (k : ℕ) → length rows ≤ k → numbered gives (take k rows) ≡ numbered gives rows

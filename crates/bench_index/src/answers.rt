@@ -36,7 +36,7 @@ impl BenchIndex {
         all_violations(*self.groups.allocator(), &self.groups[dep], steps)
     }
 
-    /// How many violations a dependency has. No more than those of one tableau row are in memory at a time.
+    /// How many violations a dependency has, told from its dirty groups without a list.
     pub fn violation_count<L: Ledger>(
         &self,
         dep: usize,
@@ -88,7 +88,7 @@ impl BenchIndex {
         all_orphans(*self.cinds.allocator(), &self.cinds[cind], steps)
     }
 
-    /// How many orphans an inclusion has. No more than those of one tableau row are in memory at a time.
+    /// How many orphans an inclusion has, told from its dirty keys without a list.
     pub fn orphan_count<L: Ledger>(
         &self,
         cind: usize,

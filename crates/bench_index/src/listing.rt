@@ -44,7 +44,7 @@ fn push_violations(
     Ok(())
 }
 
-/// How many violations a dependency has. The lists of its tableau rows are made one after the other.
+/// How many violations a dependency has, without the lists of its tableau rows.
 pub(crate) fn count_violations<L: Ledger>(
     group: &GroupIndex,
     steps: &mut Steps<L>,
@@ -55,8 +55,8 @@ pub(crate) fn count_violations<L: Ledger>(
 {
     let mut count = 0usize;
     for k in 0..group.tableau_rows() {
-        let found = group.violating(k, steps)?;
-        count = sum_of(count, found.as_slice().len())?;
+        let more = group.violation_count(k, steps)?;
+        count = sum_of(count, more)?;
     }
     Ok(count)
 }
@@ -94,7 +94,7 @@ fn push_orphans(all: &mut List<(usize, RowId)>, k: usize, found: &[RowId]) -> Re
     Ok(())
 }
 
-/// How many orphans an inclusion has.
+/// How many orphans an inclusion has, without the lists of its tableau rows.
 pub(crate) fn count_orphans<L: Ledger>(
     index: &CindIndex,
     steps: &mut Steps<L>,
@@ -104,8 +104,8 @@ pub(crate) fn count_orphans<L: Ledger>(
 {
     let mut count = 0usize;
     for k in 0..index.tableau_rows() {
-        let found = index.orphans(k, steps)?;
-        count = sum_of(count, found.as_slice().len())?;
+        let more = index.orphan_count(k, steps)?;
+        count = sum_of(count, more)?;
     }
     Ok(count)
 }

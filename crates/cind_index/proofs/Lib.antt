@@ -7,3 +7,4 @@ pub mod SideFacts
 pub mod WatchFacts
 pub mod OrphanFacts
 pub mod OwnEntries
+pub mod CountFacts

@@ -75,6 +75,21 @@ module _ (m : KeyedRows) where
     ]),
   )
 
+-- a list of them that was sorted and rid of what stands twice
+pub orphans_listed : (m : KeyedRows) (t : InclusionRow ℕ) (found sorted final : List ℕ) → ((row : ℕ) → Contains found row ↔ IsOrphan nat_eq t (lefts m) (rights m) row) → IsPermutation found sorted → IsPermutation sorted found → IsSorted nat_cmp sorted
+    → IsFiltered (DiffersFromLast nat_eq) [] sorted final → AreOrphans (lefts m) (rights m) final t
+orphans_listed m t found sorted final members to from order filtered =
+    let same : final ≡ dedup nat_eq sorted = dedup_is nat_eq sorted final filtered in
+    record {
+      rising = subst (λ xs. AllPairs (λ row other. row < other) xs) (sym same) (AllPairs-from_increasing (dedup nat_eq sorted) (IsStrictlyIncreasing-dedup sorted order));
+      exactly = λ row. (
+        (λ there.
+            let kept = Contains-from_dedup nat_eq sorted row (subst (λ xs. Contains xs row) same there) in
+            (members row).0 (Contains-permutation sorted found row from kept)),
+        (λ orphan. subst (λ xs. Contains xs row) (sym same) (Contains-dedup_nat sorted row (Contains-permutation found sorted row to ((members row).1 orphan)))),
+      );
+    }
+
 module _ (m : KeyedRows) (distinct : HaveDistinctKeys same_key m) where
   -- ---- the answers to a left entry stand under its key
 
@@ -103,7 +118,7 @@ module _ (m : KeyedRows) (distinct : HaveDistinctKeys same_key m) where
 
   -- ---- orphans stand under marked keys
 
-  entry_at : (t : InclusionRow ℕ) (row i : ℕ) (x : Pair) → OrphanAt m t row i x → (left : SideEntry ℕ) × IsTrue (lefts m left) × (left.row ≡ row) × (left.key ≡ x.0.items) × IsUnanswered nat_eq t (rights m) left
+  pub entry_at : (t : InclusionRow ℕ) (row i : ℕ) (x : Pair) → OrphanAt m t row i x → (left : SideEntry ℕ) × IsTrue (lefts m left) × (left.row ≡ row) × (left.key ≡ x.0.items) × IsUnanswered nat_eq t (rights m) left
   entry_at t row i x it = (
     record { key = x.0.items; pattern = t.xp; row = row },
     any_at (is_under Left (record { key = x.0.items; pattern = t.xp; row = row })) m.pairs x i it.at (ap (λ b. b && has (rows_on x.1 Left) t.xp row) (same_list x.0.items) ∙ it.left),
@@ -143,25 +158,16 @@ module _ (m : KeyedRows) (distinct : HaveDistinctKeys same_key m) where
           (it.0, is_marked t row it.0 it.1 inside moved, it.1, moved)),
     )
 
-    -- a list of them that was sorted and rid of what stands twice
-    pub orphans_listed : (k n : ℕ) (t x : InclusionRow ℕ) (found sorted final : List ℕ) → k < length tableau → t ≡ get_or tableau k t → slice_get tableau k ≡ Some x → n ≡ m.marked
-        → ((row : ℕ) → Contains found row ↔ FoundBelow m t n row) → IsPermutation found sorted → IsPermutation sorted found → IsSorted nat_cmp sorted → IsFiltered (DiffersFromLast nat_eq) [] sorted final
-        → AreOrphans (lefts m) (rights m) final x
-    orphans_listed k n t x found sorted final within is at all members to from order filtered =
-        let same : final ≡ dedup nat_eq sorted = dedup_is nat_eq sorted final filtered in
+    -- those under the marked keys
+    pub orphans_collected : (k n : ℕ) (t x : InclusionRow ℕ) (found : List ℕ) → k < length tableau → t ≡ get_or tableau k t → slice_get tableau k ≡ Some x → n ≡ m.marked
+        → ((row : ℕ) → Contains found row ↔ FoundBelow m t n row) → (row : ℕ) → Contains found row ↔ IsOrphan nat_eq x (lefts m) (rights m) row
+    orphans_collected k n t x found within is at all members row =
         let inside : Contains tableau t = (k, within, sym is ∙ refl) in
         let one : t ≡ x = same_Some t x (ap (λ (r : InclusionRow ℕ). Some r) is ∙ sym (slice_get-get_or tableau k t within) ∙ at) in
-        subst (AreOrphans (lefts m) (rights m) final) one (record {
-          rising = subst (λ xs. AllPairs (λ row other. row < other) xs) (sym same) (AllPairs-from_increasing (dedup nat_eq sorted) (IsStrictlyIncreasing-dedup sorted order));
-          exactly = λ row. (
-            (λ there.
-                let kept = Contains-from_dedup nat_eq sorted row (subst (λ xs. Contains xs row) same there) in
-                (orphans_below t row inside).0 (subst (λ b. FoundBelow m t b row) all ((members row).0 (Contains-permutation sorted found row from kept)))),
-            (λ orphan.
-                let first = (members row).1 (subst (λ b. FoundBelow m t b row) (sym all) ((orphans_below t row inside).1 orphan)) in
-                subst (λ xs. Contains xs row) (sym same) (Contains-dedup_nat sorted row (Contains-permutation found sorted row to first))),
-          );
-        })
+        subst (λ (r : InclusionRow ℕ). Contains found row ↔ IsOrphan nat_eq r (lefts m) (rights m) row) one (
+          (λ there. (orphans_below t row inside).0 (subst (λ b. FoundBelow m t b row) all ((members row).0 there))),
+          (λ orphan. (members row).1 (subst (λ b. FoundBelow m t b row) (sym all) ((orphans_below t row inside).1 orphan))),
+        )
 
     -- ---- dirty keys
 

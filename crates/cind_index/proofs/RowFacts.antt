@@ -48,10 +48,10 @@ ties m n is = grind (arith, nat_tests)
 tied : (m n : ℕ) → m ≡ n → is_eq (nat_cmp m n) ≡ true
 tied m n is = grind (arith, nat_tests)
 
-same_number : (m n : ℕ) → (m == n) ≡ true → m ≡ n
+pub same_number : (m n : ℕ) → (m == n) ≡ true → m ≡ n
 same_number m n is = grind (arith, nat_tests)
 
-number_itself : (n : ℕ) → (n == n) ≡ true
+pub number_itself : (n : ℕ) → (n == n) ≡ true
 number_itself n = grind (arith, nat_tests)
 
 pub set_members : (keys : List ℕ) (row : ℕ) → (list_any (λ k. is_eq (nat_cmp row k)) keys ≡ true) ↔ Contains keys row

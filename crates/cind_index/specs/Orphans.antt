@@ -2,14 +2,18 @@
 use Rattle.std.specs.Prelude.{◌≡◌, ◌≢◌, ℕ, ◌↔◌, nat_eq, Bool, List, length, AllPairs, Contains}
 use Rattle.cfd_semantics.specs.declared.inclusion.Inclusion.{Inclusion}
 use Rattle.cfd_semantics.specs.declared.inclusion.InclusionRow.{InclusionRow}
-use Rattle.cfd_semantics.specs.Orphan.{SideEntry}
-use Rattle.cfd_semantics.specs.EntrySets.{IsRising, IsOrphan}
+use Rattle.cfd_semantics.specs.Orphan.{SideEntry, orphaned}
+use Rattle.cfd_semantics.specs.EntrySets.{IsRising, IsOrphan, IsSideList}
 use Rattle.cfd_semantics.specs.Dirty.{IsDirtyKey}
 
 -- the rows are those of the orphans, by rising ids
 pub record AreOrphans (lefts rights : SideEntry ℕ → Bool) (rows : List ℕ) (t : InclusionRow ℕ) : Type 0 where
   pub rising : IsRising (λ (row : ℕ). row) rows
   pub exactly : (row : ℕ) → Contains rows row ↔ IsOrphan nat_eq t lefts rights row
+
+-- so many are in the list of those, whatever lists both sides have
+abbrev pub IsOrphanCount : (lefts rights : SideEntry ℕ → Bool) → ℕ → InclusionRow ℕ → Type 0
+IsOrphanCount lefts rights count t = (left_list right_list : List (SideEntry ℕ)) → IsSideList lefts left_list → IsSideList rights right_list → count ≡ length (orphaned nat_eq t left_list right_list)
 
 -- the keys are the dirty ones, each once
 pub record AreDirtyKeys (rule : Inclusion ℕ) (lefts rights : SideEntry ℕ → Bool) (keys : List (List ℕ)) : Type 0 where

@@ -1,6 +1,6 @@
 -- The rows of one side with one key, by their pattern values; and the rows of both sides with one key.
-use Rattle.std.specs.Prelude.{◌≡◌, ◌⊎◌, ℕ, ◌==◌, ◌&&◌, ◌||◌, not, nat_lt, Bool, true, false, List, [], ◌∷◌, Option, length}
-use Rattle.std.specs.List.{list_any}
+use Rattle.std.specs.Prelude.{◌≡◌, ◌⊎◌, ◌↔◌, ℕ, ◌==◌, ◌&&◌, ◌||◌, not, nat_eq, nat_lt, Bool, true, false, IsTrue, List, [], ◌∷◌, Contains, Option, length}
+use Rattle.std.specs.List.{list_any, IsDistinct}
 use Rattle.std.specs.Option.{option_map_or}
 use Rattle.std.specs.Ordering.{nat_cmp}
 use Rattle.std.specs.Cmp.Lexicographic.{slice_cmp}
@@ -70,6 +70,13 @@ has_some (Rows rows) pattern = has_some_by rows.value pattern
 abbrev pub is_few : SideRows → Bool
 is_few (Rows rows) = false
 is_few rows = true
+
+-- so many rows are held: a list has each of them once
+pub record HoldsSoMany (held : ℕ → Bool) (count : ℕ) : Type 0 where
+  pub rows : List ℕ
+  pub once : IsDistinct nat_eq rows
+  pub exactly : (row : ℕ) → Contains rows row ↔ IsTrue (held row)
+  pub as_many : length rows ≡ count
 
 -- ---- changes
 
@@ -152,3 +159,7 @@ lacks_answer rows t = has_some (rows_on rows Left) t.xp && not (has_some (rows_o
 -- for some row of the tableau
 abbrev pub is_dirty : List (InclusionRow ℕ) → KeyRows → Bool
 is_dirty tableau rows = list_any (lacks_answer rows) tableau
+
+-- the left row has the constants of Xp, and no right row those of Yp
+abbrev pub is_orphaned : KeyRows → InclusionRow ℕ → ℕ → Bool
+is_orphaned rows t row = has (rows_on rows Left) t.xp row && not (has_some (rows_on rows Right) t.yp)

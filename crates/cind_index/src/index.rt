@@ -1,12 +1,12 @@
 //! The index of one inclusion: what it was made with, the rows under all keys, and the orphans.
-ghost use Rattle.std.specs.Prelude.{◌≡◌, ◌+◌, ◌<◌, ◌≤◌, ◌++◌, ◌↔◌, ℕ, Some, false, nat_eq, length, slice_get, IsTrue, IfOk};
+ghost use Rattle.std.specs.Prelude.{◌≡◌, ◌+◌, ◌<◌, ◌≤◌, ◌++◌, ◌↔◌, ℕ, Some, false, nat_eq, length, slice_get, Contains, IsTrue, IfOk};
 ghost use Rattle.std.specs.Option.{ForSome};
 ghost use Rattle.row_store.specs.Tuple.{ids_of};
 ghost use Rattle.row_store.specs.Watch.{IsWide};
 ghost use Rattle.cfd_semantics.specs.Orphan.{SideEntry, left_entry_of};
-ghost use Rattle.cfd_semantics.specs.EntrySets.{IsUnanswered};
+ghost use Rattle.cfd_semantics.specs.EntrySets.{IsOrphan, IsUnanswered};
 ghost use Rattle.cind_index.specs.KeysHeld.{lefts, rights, AreMarkedRight, HaveRoom};
-ghost use Rattle.cind_index.specs.Orphans.{AreOrphans, IsDirtyCount};
+ghost use Rattle.cind_index.specs.Orphans.{AreOrphans, IsDirtyCount, IsOrphanCount};
 
 use crate::ids::{Ids, has_ids, write_ids};
 use crate::keys::Keys;
@@ -72,7 +72,7 @@ impl CindIndex {
     }
 
     /// The orphans of a row of the tableau, by rising ids: the left rows with the constants of Xp whose key no right row with
-    /// the constants of Yp has. Only dirty keys are gone over.
+    /// the constants of Yp has. Only dirty keys are gone over, and each counts as a probe.
     pub fn orphans<L: Ledger>(
         &self,
         k: usize,
@@ -82,18 +82,49 @@ impl CindIndex {
         ensures orphans { IfOk result (λ found. ForSome (slice_get self.now.rule.rows k) (AreOrphans (lefts self.now.keys) (rights self.now.keys) found.items)) }
         ensures probes { steps.new ≤ steps.old + self.now.keys.marked }
     {
+        let mut found = self.collect(k, steps)?;
+        found.sort()?;
+        found.dedup();
+        Ok(found)
+    }
+
+    // The orphans of a row of the tableau, key by key.
+    fn collect<L: Ledger>(&self, k: usize, steps: &mut Steps<L>) -> Result<Vec<RowId>, AllocError>
+        requires { k < length self.now.rule.rows }
+        ensures orphans { IfOk result (λ found. ForSome (slice_get self.now.rule.rows k) (λ t. (row : ℕ) → Contains found.items row ↔ IsOrphan nat_eq t (lefts self.now.keys) (rights self.now.keys) row)) }
+        ensures probes { steps.new ≤ steps.old + self.now.keys.marked }
+    {
         let tableau_row = &self.rule.rows.as_slice()[k];
         // The length is what says that no key stands twice.
         let _len = self.keys.len();
         let mut found = Vec::new(*self.key.allocator());
         for place in 0..self.keys.marked() {
-            self.keys
-                .value_at(place)
-                .push_orphans(tableau_row, &mut found)?;
+            let (_, rows) = self.keys.marked_at(place, steps);
+            rows.push_orphans(tableau_row, &mut found)?;
         }
-        found.sort()?;
-        found.dedup();
         Ok(found)
+    }
+
+    /// How many orphans a row of the tableau has, without the list of them. Each dirty key counts as a probe, and its rows
+    /// aren't gone over. A number beyond the last of its type is told as want of memory.
+    pub fn orphan_count<L: Ledger>(
+        &self,
+        k: usize,
+        steps: &mut Steps<L>,
+    ) -> Result<usize, AllocError>
+        requires { k < length self.now.rule.rows }
+        ensures count { IfOk result (λ count. ForSome (slice_get self.now.rule.rows k) (IsOrphanCount (lefts self.now.keys) (rights self.now.keys) count)) }
+        ensures probes { steps.new ≤ steps.old + self.now.keys.marked }
+    {
+        let tableau_row = &self.rule.rows.as_slice()[k];
+        // The length is what says that no key stands twice.
+        let _len = self.keys.len();
+        let mut count: usize = 0;
+        for place in 0..self.keys.marked() {
+            let (_, rows) = self.keys.marked_at(place, steps);
+            count = sum_of(count, rows.count_orphans(tableau_row))?;
+        }
+        Ok(count)
     }
 
     /// Whether a left row with this tuple is an orphan of a row of the tableau. Memory is for its key alone.
@@ -121,4 +152,11 @@ impl CindIndex {
             None => Ok(true),
         }
     }
+}
+
+// No memory has room for a list whose length can't be told.
+fn sum_of(count: usize, more: usize) -> Result<usize, AllocError>
+    ensures { IfOk result (λ sum. sum ≡ count + more) }
+{
+    count.checked_add(more).ok_or(AllocError)
 }

@@ -2,13 +2,13 @@
 //! stands in place, without memory; others stand in a box of their own.
 ghost use Rattle.std.specs.Prelude.{◌≡◌, ◌⊎◌, false, ◌==◌, ◌&&◌, ℕ, List, not, ◌↔◌, IsTrue, IfOk, IfSome, IfNone, OnOk, OnErr, Contains};
 ghost use Rattle.std.specs.Str.{bytes_eq};
-ghost use Rattle.cind_index.specs.RowsHeld.{has, has_some, both_sides, is_boxed, rows_on, across, lacks_answer, is_dirty, HasRowMore, HasRowLess, HaveTheSame, HasNothing, ChangesOn};
+ghost use Rattle.cind_index.specs.RowsHeld.{has, has_some, both_sides, is_boxed, rows_on, across, lacks_answer, is_dirty, is_orphaned, HoldsSoMany, HasRowMore, HasRowLess, HaveTheSame, HasNothing, ChangesOn};
 ghost use Rattle.cind_index.specs.declared.side.Side.TheVariants.{Left, Right};
 ghost use Rattle.cind_index.specs.declared.key_rows.KeyRows.{KeyRows};
 
 use crate::both_sides::BothSides;
 use crate::side::Side;
-use crate::side_rows::{SideRows, is_one, push_lone};
+use crate::side_rows::{SideRows, count_lone, is_one, push_lone};
 use cfd_semantics::InclusionRow;
 use row_store::RowId;
 use std::alloc::{AllocError, Global};
@@ -158,6 +158,31 @@ impl KeyRows {
         ensures { result ≡ has_some (rows_on self.now Right) tableau_row.now.yp }
     {
         self.has_some(Side::Right, tableau_row.yp.as_slice())
+    }
+
+    /// How many left rows are orphans for a row of the tableau. None of them is gone over.
+    pub(crate) fn count_orphans(&self, tableau_row: &InclusionRow<ValueId>) -> usize
+        ensures { HoldsSoMany (is_orphaned self.now tableau_row.now) result }
+    {
+        if self.has_answer(tableau_row) {
+            return 0;
+        }
+        self.count_lefts(tableau_row.xp.as_slice())
+    }
+
+    // How many left rows have these pattern values.
+    fn count_lefts(&self, pattern: &[ValueId]) -> usize
+        ensures { HoldsSoMany (has (rows_on self.now Left) pattern.now) result }
+    {
+        match self {
+            KeyRows::LoneLeft(_) => count_lone(&[], pattern),
+            KeyRows::OneEach(_, _) => count_lone(&[], pattern),
+            KeyRows::LeftWith(value, _) => count_lone(&[*value], pattern),
+            KeyRows::Boxed(sides) => sides.lefts.count_rows(pattern),
+            KeyRows::NoRows => 0,
+            KeyRows::LoneRight(_) => 0,
+            KeyRows::RightWith(_, _) => 0,
+        }
     }
 
     /// Appends the left rows that are orphans for a row of the tableau.

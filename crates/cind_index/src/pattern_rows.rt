@@ -3,7 +3,7 @@
 ghost use Rattle.std.specs.Prelude.{◌≡◌, ◌⊎◌, true, false, option_copied, ◌==◌, ◌&&◌, ◌||◌, [], ℕ, List, not, ◌↔◌, IsTrue, IfSome, IfOk, OnOk, OnErr, Contains};
 ghost use Rattle.std.specs.Option.{option_map_or};
 ghost use Rattle.std.specs.Str.{bytes_eq};
-ghost use Rattle.cind_index.specs.RowsHeld.{is_in, is_filled, rows_for, in_map, has_by, has_some_by, IsMore, IsLess, IsSame, IsOnly};
+ghost use Rattle.cind_index.specs.RowsHeld.{is_in, is_filled, rows_for, in_map, has_by, has_some_by, IsMore, IsLess, IsSame, IsOnly, HoldsSoMany};
 
 use crate::row_set::RowSet;
 use row_store::RowId;
@@ -39,6 +39,16 @@ impl PatternRows {
         match self.rows_with(pattern) {
             Some(rows) => rows.is_filled(),
             None => false,
+        }
+    }
+
+    /// How many rows have these pattern values.
+    pub(crate) fn count_rows(&self, pattern: &[ValueId]) -> usize
+        ensures { HoldsSoMany (has_by self.now pattern.now) result }
+    {
+        match self.rows_with(pattern) {
+            Some(rows) => rows.len(),
+            None => 0,
         }
     }
 

@@ -1,6 +1,6 @@
 //! The ids of the rows that have the same key and the same pattern values. A lone row stands in place, without memory.
 ghost use Rattle.std.specs.Prelude.{◌≡◌, ◌⊎◌, ◌==◌, ◌&&◌, ◌||◌, ◌++◌, [], ◌∷◌, ℕ, not, false, ◌↔◌, IsTrue, IfOk, IfSome, OnOk, OnErr, Contains};
-ghost use Rattle.cind_index.specs.RowsHeld.{is_in, is_filled};
+ghost use Rattle.cind_index.specs.RowsHeld.{is_in, is_filled, HoldsSoMany};
 
 use row_store::RowId;
 use std::alloc::{AllocError, Global};
@@ -57,6 +57,16 @@ impl RowSet {
                 *self = RowSet::One(only);
                 false
             }
+        }
+    }
+
+    /// How many rows there are.
+    pub(crate) fn len(&self) -> usize
+        ensures { HoldsSoMany (is_in self.now) result }
+    {
+        match self {
+            RowSet::One(_) => 1,
+            RowSet::More(rows) => rows.len(),
         }
     }
 

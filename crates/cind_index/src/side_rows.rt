@@ -2,7 +2,7 @@
 //! stand by their pattern values, in a box of their own.
 ghost use Rattle.std.specs.Prelude.{◌≡◌, true, ◌⊎◌, ◌==◌, ◌&&◌, [], ◌∷◌, ℕ, List, not, ◌↔◌, IsTrue, IfOk, IfSome, OnOk, OnErr, Contains};
 ghost use Rattle.std.specs.Str.{bytes_eq};
-ghost use Rattle.cind_index.specs.RowsHeld.{has, has_by, has_some, HasRowMore, HasRowLess, HaveTheSame, HasNothing, IsLeftOf, is_few, IsOnly, IsMore, IsSame};
+ghost use Rattle.cind_index.specs.RowsHeld.{has, has_by, has_some, HasRowMore, HasRowLess, HaveTheSame, HasNothing, IsLeftOf, is_few, IsOnly, IsMore, IsSame, HoldsSoMany};
 
 use crate::pattern_rows::PatternRows;
 use crate::row_set::RowSet;
@@ -40,6 +40,18 @@ impl SideRows {
             SideRows::Lone(_) => pattern.is_empty(),
             SideRows::LoneWith(value, _) => is_one(pattern, *value),
             SideRows::Rows(rows) => rows.has_some(pattern),
+        }
+    }
+
+    /// How many rows have these pattern values.
+    pub(crate) fn count_rows(&self, pattern: &[ValueId]) -> usize
+        ensures { HoldsSoMany (has self.now pattern.now) result }
+    {
+        match self {
+            SideRows::Empty => 0,
+            SideRows::Lone(_) => count_lone(&[], pattern),
+            SideRows::LoneWith(value, _) => count_lone(&[*value], pattern),
+            SideRows::Rows(rows) => rows.count_rows(pattern),
         }
     }
 
@@ -137,6 +149,19 @@ pub(crate) fn push_lone(
         found.push(own)?;
     }
     Ok(())
+}
+
+/// How many rows there are with these pattern values where a lone one has those: it, whichever it is, or none.
+pub(crate) fn count_lone(held: &[ValueId], pattern: &[ValueId]) -> usize
+    ensures { (own : ℕ) → HoldsSoMany (λ row. bytes_eq pattern.now held.now && row == own) result }
+{
+    if are_same(pattern, held) { 1 } else { 0 }
+}
+
+fn are_same(pattern: &[ValueId], held: &[ValueId]) -> bool
+    ensures { result ≡ bytes_eq pattern.now held.now }
+{
+    pattern == held
 }
 
 /// Whether the pattern values are this one.

@@ -246,12 +246,12 @@ module _ (groups : KeyedGroups) (distinct : HaveDistinctKeys same_key groups) (t
 
 -- ---- in order
 
-get_row : (vs : List Violation) (i : ℕ) (d : Violation) → get_or (map (λ (v : Violation). v.row) vs) i d.row ≡ (get_or vs i d).row
+pub get_row : (vs : List Violation) (i : ℕ) (d : Violation) → get_or (map (λ (v : Violation). v.row) vs) i d.row ≡ (get_or vs i d).row
 get_row [] i d = refl
 get_row (v ∷ vs) zero d = refl
 get_row (v ∷ vs) (suc i) d = get_row vs i d
 
-as_many_rows : (vs : List Violation) → length (map (λ (v : Violation). v.row) vs) ≡ length vs
+pub as_many_rows : (vs : List Violation) → length (map (λ (v : Violation). v.row) vs) ≡ length vs
 as_many_rows [] = refl
 as_many_rows (v ∷ vs) = ap suc (as_many_rows vs)
 

@@ -11,4 +11,6 @@ pub mod PartnerFacts
 pub mod ListedFacts
 pub mod DirtyPlaces
 pub mod CollectFacts
+pub mod CountFacts
+pub mod TestCounts
 pub mod OwnEntries

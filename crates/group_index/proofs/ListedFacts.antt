@@ -29,7 +29,7 @@ use Rattle.group_index.proofs.LeadFacts.{partner_of_leads}
 use Rattle.group_index.proofs.PartnerFacts.{entry_in, partner_from}
 
 -- no pair stands twice in an ordered set
-once_in_order : (pairs : List Pair) → IsStrictlySortedBy pair_cmp pairs → AllPairs (λ p q. p ≢ q) pairs
+pub once_in_order : (pairs : List Pair) → IsStrictlySortedBy pair_cmp pairs → AllPairs (λ p q. p ≢ q) pairs
 once_in_order pairs sorted i j d before within same =
     let less = Less-from_sorted pair_cmp pairs i j d sorted before within in
     let itself : pair_cmp (get_or pairs j d) (get_or pairs j d) ≡ Less = ap (λ p. pair_cmp p (get_or pairs j d)) (sym same) ∙ less in
@@ -48,7 +48,7 @@ adds_listed cell group pairs first second old new is leads ordered added = recor
   is = added ∙ ap (λ g. old ++ filter_map (listed_by cell first second) (pairs_of g)) (sym is);
 }
 
-abbrev with_partner : Pair → ℕ → Violation
+abbrev pub with_partner : Pair → ℕ → Violation
 with_partner p partner = record { row = p.1; partner = Some partner }
 
 module _ (made : GroupsMade) (groups : KeyedGroups) (distinct : HaveDistinctKeys same_key groups) (t : TableauRow ℕ) (place : ℕ) (key : SmallVec ℕ) (v : Group) (at : slice_get groups.pairs place ≡ Some (key, v))

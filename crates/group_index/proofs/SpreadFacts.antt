@@ -81,7 +81,7 @@ never : (b : Bool) → (b && false) ≡ false
 never true = refl
 never false = refl
 
-unmixed : (pairs : List Pair) (a : ℕ) → ((q : Pair) → Contains pairs q → q.0 ≡ a) → is_mixed pairs ≡ false
+pub unmixed : (pairs : List Pair) (a : ℕ) → ((q : Pair) → Contains pairs q → q.0 ≡ a) → is_mixed pairs ≡ false
 unmixed pairs a same =
     none_pass (λ p. list_any (λ q. not (nat_eq p.0 q.0)) pairs) pairs (λ p inside. none_pass (λ q. not (nat_eq p.0 q.0)) pairs (λ q beside. let one = same p inside in let other = same q beside in grind (arith, nat_tests)))
 

@@ -34,6 +34,11 @@ abbrev pub AreThoseOfTheList : GroupSet → ℕ → List Violation → Type 0
 AreThoseOfTheList s k found =
     (t : TableauRow ℕ) (all : List (Entry ℕ)) → slice_get s.made.dependency.rows k ≡ Some t → IsEntryList (holds_entry s) all → found ≡ violating nat_eq t all
 
+-- that list is so long
+abbrev pub IsCountOfTheList : GroupSet → ℕ → ℕ → Type 0
+IsCountOfTheList s k count =
+    (t : TableauRow ℕ) (all : List (Entry ℕ)) → slice_get s.made.dependency.rows k ≡ Some t → IsEntryList (holds_entry s) all → count ≡ length (violating nat_eq t all)
+
 -- The least row with which the entry makes a pair violation of the tableau row, or that there is none.
 abbrev pub IsPartnerOf : GroupSet → TableauRow ℕ → Entry ℕ → Option ℕ → Type 0
 IsPartnerOf s t e None = (other : Entry ℕ) → IsPartner nat_eq t (holds_entry s) e other → ⊥

@@ -1,5 +1,5 @@
 -- The partners of the rows of a group, told from the least rows of two of its A ids.
-use Rattle.std.specs.Prelude.{◌≡◌, ◌≢◌, ℕ, ◌≤◌, ◌↔◌, ◌⊎◌, false, map, cond, min, nat_eq, nat_lt, List, ◌++◌, AllPairs, Contains, Option, Some, None, filter_map, IsTrue}
+use Rattle.std.specs.Prelude.{◌≡◌, ◌≢◌, ℕ, ◌≤◌, ◌↔◌, ◌⊎◌, false, map, cond, min, nat_eq, nat_lt, List, ◌++◌, length, count_by, is_some, AllPairs, Contains, Option, Some, None, filter_map, IsTrue}
 use Rattle.std.specs.Option.{option_map, option_map_or}
 use Rattle.cfd_semantics.specs.declared.pattern.Pattern.{Pattern}
 use Rattle.cfd_semantics.specs.declared.violation.Violation.{Violation}
@@ -62,7 +62,28 @@ pub record AddsListed (cell : Pattern ℕ) (pairs : List Pair) (old new : List V
 abbrev pub AddsMatching : TableauRow ℕ → List ℕ → List Pair → List Violation → List Violation → Type 0
 AddsMatching t x pairs old new = (IsTrue (all_match nat_eq t.x x) × AddsListed t.a pairs old new) ⊎ ((all_match nat_eq t.x x ≡ false) × (new ≡ old))
 
+-- ---- how many
+
+-- so many pairs of a group are listed
+pub record CountsListed (cell : Pattern ℕ) (pairs : List Pair) (count : ℕ) : Type 0 where
+  pub first : Option (ℕ × ℕ)
+  pub second : Option ℕ
+  pub leads : AreLeads cell (IsAmong pairs) first second
+  pub is : count ≡ count_by (λ p. is_some (listed_by cell first second p)) pairs
+
+-- the same where the key of the group matches the tableau row, and none where it doesn't; no pair stands there twice
+abbrev pub CountsMatching : TableauRow ℕ → List ℕ → List Pair → ℕ → Type 0
+CountsMatching t x pairs count = (IsTrue (all_match nat_eq t.x x) × AllPairs (λ p q. p ≢ q) pairs × CountsListed t.a pairs count) ⊎ ((all_match nat_eq t.x x ≡ false) × (count ≡ 0))
+
+-- ---- in all groups
+
 -- the violations of the tableau row in the groups, in any order, and no row twice
 pub record AreCollected (t : TableauRow ℕ) (groups : KeyedGroups) (found : List Violation) : Type 0 where
   pub exactly : (v : Violation) → Contains found v ↔ IsViolation nat_eq t (is_in groups.pairs) v
   pub once : IsDistinct nat_eq (map (λ (v : Violation). v.row) found)
+
+-- so many violations the tableau row has in the groups
+pub record AreSoMany (t : TableauRow ℕ) (groups : KeyedGroups) (count : ℕ) : Type 0 where
+  pub found : List Violation
+  pub collected : AreCollected t groups found
+  pub as_many : count ≡ length found

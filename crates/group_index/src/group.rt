@@ -1,6 +1,6 @@
 //! One group: the A ids of its rows. A lone row takes no memory beyond the group's key; two and more are an ordered set, in
 //! which a row is put, found and taken in logarithmic time.
-ghost use Rattle.std.specs.Prelude.{◌≡◌, ◌≤◌, ◌==◌, ◌&&◌, [], ◌∷◌, false, ◌||◌, IfOk, IfSome, OnOk, OnErr, IsTrue};
+ghost use Rattle.std.specs.Prelude.{◌≡◌, ◌≢◌, ◌^◌, ◌<◌, ◌≤◌, ◌==◌, ◌&&◌, [], ◌∷◌, false, ◌||◌, not, nat_eq, nat_lt, length, count_by, AllPairs, IfOk, IfSome, OnOk, OnErr, IsTrue};
 ghost use Rattle.std.specs.Bool.{OnFalse};
 ghost use Rattle.group_index.specs.Pairs.{Pair, pairs_of, has_pair, is_pair, IsPut, IsTaken, IsAlone, HaveTheSame, IsNextHead};
 
@@ -59,6 +59,27 @@ impl Group {
         }
     }
 
+    /// How many rows there are.
+    pub(crate) fn len(&self) -> usize
+        ensures len { result ≡ length (pairs_of self.now) }
+        ensures once { AllPairs (λ p q. p ≢ q) (pairs_of self.now) }
+    {
+        match self {
+            Group::One(_, _) => 1,
+            Group::Many(pairs) => pairs.len(),
+        }
+    }
+
+    /// How many rows have another A id than this one. The rows that have it aren't gone over.
+    pub(crate) fn count_others(&self, a: ValueId) -> usize
+        ensures { result ≡ count_by (λ p. not (nat_eq a p.0)) (pairs_of self.now) }
+    {
+        match self {
+            Group::One(own, _) => { if a == *own { 0 } else { 1 } }
+            Group::Many(pairs) => count_before(pairs, a) + count_behind(pairs, a),
+        }
+    }
+
     /// The first row with the next A id after that one, or with the first of all.
     pub(crate) fn next_head(&self, after: Option<ValueId>) -> Option<(ValueId, RowId)>
         ensures { IsNextHead (pairs_of self.now) after result }
@@ -83,6 +104,24 @@ fn head_after(
     let from = Bound::Excluded((low, RowId::MAX));
     let (a, row) = pairs.range((from, Bound::Unbounded)).next().copied()?;
     Some(within_ids(a, row))
+}
+
+// How many pairs have a lower A id.
+fn count_before(pairs: &BTreeSet<(ValueId, RowId)>, a: ValueId) -> usize
+    ensures count { result ≡ count_by (λ p. nat_lt p.0 a) pairs.now.keys }
+    ensures small { result < 2 ^ 63 }
+{
+    let before = (Bound::Unbounded, Bound::Excluded((a, 0)));
+    pairs.range(before).count()
+}
+
+// How many pairs have a higher A id. None with this one lies in the range, for no row is above the last id.
+fn count_behind(pairs: &BTreeSet<(ValueId, RowId)>, a: ValueId) -> usize
+    ensures count { result ≡ count_by (λ p. nat_lt a p.0) pairs.now.keys }
+    ensures small { result < 2 ^ 63 }
+{
+    let behind = (Bound::Excluded((a, RowId::MAX)), Bound::Unbounded);
+    pairs.range(behind).filter(|pair| pair.0 != a).count()
 }
 
 // The pair itself. That its row is no number above the last id is known of what is passed by value.

@@ -5,8 +5,9 @@ ghost use Rattle.row_store.specs.Watch.{IsWide};
 ghost use Rattle.cfd_semantics.specs.Violation.{Entry};
 ghost use Rattle.group_index.specs.GroupSet.{GroupSet, GroupsMade, holds_entry, gives_entry, attributes_of};
 ghost use Rattle.group_index.specs.Laws.{gives_names_row, unneeded_gives_none};
-ghost use Rattle.group_index.specs.Answers.{AreDirty, IsSettled, AreViolationsOf, AreThoseOfTheList, IsPartnerOfRow};
+ghost use Rattle.group_index.specs.Answers.{AreDirty, IsSettled, AreViolationsOf, AreThoseOfTheList, IsCountOfTheList, IsPartnerOfRow};
 
+use crate::counting::count;
 use crate::groups::{Groups, least_partner, put_entry, take_entry};
 use crate::key::{Key, make_room, same_entry, write_key};
 use crate::violations::collect;
@@ -100,6 +101,22 @@ impl GroupIndex {
         let mut found = collect(*self.key.allocator(), &self.groups, rows, k, steps)?;
         found.sort_unstable_by_key(|violation| violation.row);
         Ok(List::from(found))
+    }
+
+    /// How many violations a tableau row has, without the list of them. Each dirty group counts as a probe. Its rows are
+    /// gone over only where the right cell is a set; where it is a constant, those with another A id are, and where it is
+    /// `_`, none is. A number beyond the last of its type is told as want of memory.
+    pub fn violation_count<L: Ledger>(
+        &self,
+        k: usize,
+        steps: &mut Steps<L>,
+    ) -> Result<usize, AllocError>
+        requires row { k < length self.now.made.dependency.rows }
+        requires settled { IsSettled self.now }
+        ensures count { IfOk result (IsCountOfTheList self.now k) }
+        ensures probes { steps.new ≤ steps.old + self.now.dirty }
+    {
+        count(&self.groups, self.dependency.rows.as_slice(), k, steps)
     }
 
     /// The least row with which a row makes a pair violation of a tableau row.

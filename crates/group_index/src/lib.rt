@@ -7,6 +7,7 @@
 //! marked, and only they are gone through for the violations.
 #![tactic(auto)]
 
+mod counting;
 mod group;
 mod groups;
 mod index;

@@ -2,7 +2,7 @@
 ghost use Rattle.std.specs.Prelude.{◌≡◌, ◌&&◌, not, nat_eq, List};
 ghost use Rattle.std.specs.List.{list_any};
 ghost use Rattle.cfd_semantics.specs.Pattern.{matches, all_match};
-ghost use Rattle.group_index.specs.Pairs.{Pair, pairs_of, IsSpread, is_dirty};
+ghost use Rattle.group_index.specs.Pairs.{Pair, pairs_of, IsSpread, is_mixed, is_dirty};
 
 use crate::group::Group;
 use crate::index::IdRow;
@@ -27,6 +27,17 @@ impl Spread {
         match group {
             Group::One(a, _) => Spread::Alike(*a),
             Group::Many(pairs) => spread_of(pairs),
+        }
+    }
+
+    /// Whether there are several.
+    pub(crate) fn is_mixed(self) -> bool
+        ensures { (pairs : List Pair) → IsSpread pairs self → result ≡ is_mixed pairs }
+    {
+        match self {
+            Spread::Nothing => false,
+            Spread::Alike(_) => false,
+            Spread::Mixed => true,
         }
     }
 

@@ -39,9 +39,8 @@ pub(crate) fn collect<L: Ledger>(
     let row = &rows[k];
     let mut found = Vec::new(alloc);
     for place in 0..groups.marked() {
-        steps.tick();
-        let x = groups.key_at(place).as_slice();
-        push_matching(&mut found, row, x, groups.value_at(place))?;
+        let (x, group) = groups.marked_at(place, steps);
+        push_matching(&mut found, row, x.as_slice(), group)?;
     }
     Ok(found)
 }
@@ -110,7 +109,8 @@ fn push_listed(
     Ok(())
 }
 
-fn listed(cell: &IdCell, leads: &Leads, a: ValueId, row: RowId) -> Option<Violation>
+/// What is listed of a row of a group.
+pub(crate) fn listed(cell: &IdCell, leads: &Leads, a: ValueId, row: RowId) -> Option<Violation>
     ensures { result ≡ listed_by cell.now leads.now.first leads.now.second (a, row) }
 {
     if !cell.matches(&a) {

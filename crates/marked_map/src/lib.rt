@@ -3,7 +3,7 @@
 //! Order: a new key goes last, unmarked. Marking a pair swaps it with the first unmarked one, unmarking it with the last
 //! marked one, and a pair that is removed is filled by the last; all other pairs stay where they are.
 //! Cost: a key is looked up in one counted probe, which hashes it once. All other calls go by place, in constant time and
-//! without memory; no call goes over the pairs.
+//! without memory; no call goes over the pairs. A marked pair is lent to a walk in one counted probe.
 //!
 //! Contracts see a list of pairs with distinct keys, and how many of them are marked.
 #![tactic(auto)]
@@ -121,6 +121,17 @@ impl<K: Eq + Hash, V> MarkedMap<K, V> {
         ensures { slice_get (values_of self.now.pairs) place ≡ Some result.now }
     {
         &self.map[place]
+    }
+
+    /// The marked pair at a place, for who goes over the marked pairs: each one that is lent counts as a probe, so that a
+    /// walk shows in the counter.
+    pub fn marked_at<L: Ledger>(&self, place: usize, steps: &mut Steps<L>) -> (&K, &V)
+        requires { place < self.now.marked }
+        ensures pair { slice_get self.now.pairs place ≡ Some (result.0.now, result.1.now) }
+        ensures probes { steps.new ≡ steps.old + 1 }
+    {
+        steps.tick();
+        self.map.get_index(place).unwrap()
     }
 
     /// The value at a place, to write.

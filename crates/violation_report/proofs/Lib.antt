@@ -3,3 +3,4 @@ pub mod Loops
 pub mod Reports
 pub mod RowLines
 pub mod Probed
+pub mod CleanFacts

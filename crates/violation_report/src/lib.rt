@@ -2,12 +2,14 @@
 //! definition `listing`, and it is empty exactly where the rows satisfy all dependencies and inclusion dependencies.
 #![tactic(auto)]
 
+mod clean;
 mod counting;
 mod explaining;
 mod json;
 mod line;
 mod listing;
 
+pub use clean::is_clean;
 pub use counting::count;
 pub use explaining::{ExplainFault, explain};
 pub use json::json_report;

@@ -3,7 +3,6 @@ use Rattle.std.proofs.lemmas.Option.{slice_get-get_or, same_Some}
 use Rattle.cfd_semantics.specs.declared.dependency.TableauRow.{TableauRow}
 use Rattle.group_index.specs.Pairs.{pairs_of}
 use Rattle.group_index.specs.Leads.{AddsMatching}
-use Rattle.group_index.proofs.GroupFacts.{pair_at}
 use Rattle.group_index.proofs.CollectFacts.{ListedSoFar, nothing_listed, listed_more, collected}
 use Rattle.group_index.proofs.violations.collect.Goals as goal
 
@@ -15,11 +14,10 @@ loop-place-init g c = record {
 
 pub loop-place-preserved : goal.loop-place-preserved
 loop-place-preserved g c =
-    let at = pair_at c.args.groups.now.pairs c.loop-place.place c.key_at.result.now c.value_at.result.now c.key_at.ensures c.value_at.ensures in
-    let adds = subst (λ x. AddsMatching c.index-rows-k.result x (pairs_of c.value_at.result.now) c.loop-place.found.items c.push_matching.new.found.items) c.as_slice-x.ensures c.in_ok-push_matching.ensures in
+    let adds = subst (λ x. AddsMatching c.index-rows-k.result x (pairs_of c.marked_at.result.1.now) c.loop-place.found.items c.push_matching.new.found.items) c.as_slice.ensures c.in_ok-push_matching.ensures in
     record {
-      listed = listed_more c.args.groups.now c.len-len.ensures.distinct c.index-rows-k.result c.requires.settled c.loop-place.place c.key_at.result.now c.value_at.result.now at c.loop-place.found.items c.push_matching.new.found.items c.loop-place.invariant.listed adds;
-      probes = omega (arith, c.tick.ensures, c.loop-place.invariant.probes);
+      listed = listed_more c.args.groups.now c.len-len.ensures.distinct c.index-rows-k.result c.requires.settled c.loop-place.place c.marked_at.result.0.now c.marked_at.result.1.now c.marked_at.ensures.pair c.loop-place.found.items c.push_matching.new.found.items c.loop-place.invariant.listed adds;
+      probes = omega (arith, c.marked_at.ensures.probes, c.loop-place.invariant.probes);
     }
 
 pub returns-clause-exactly : goal.returns-clause-exactly

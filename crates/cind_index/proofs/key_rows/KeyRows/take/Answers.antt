@@ -1,5 +1,5 @@
-use Rattle.std.proofs.Common.{◌≡◌, false, true, sym, ap, subst, ◌∙◌}
-use Rattle.cind_index.specs.RowsHeld.{is_boxed, both_sides, side_of, across, is_few, rows_on, IsLeftOf}
+use Rattle.std.proofs.Common.{◌≡◌, false, true, ap, subst, ◌∙◌}
+use Rattle.cind_index.specs.RowsHeld.{is_boxed, side_of, across, is_few, rows_on, IsLeftOf}
 use Rattle.cind_index.specs.declared.both_sides.BothSides.{BothSides}
 use Rattle.cind_index.proofs.RowFacts.{placed_unless, left_in_place, found_in_place}
 use Rattle.cind_index.proofs.key_rows.KeyRows.take.Goals as goal

@@ -1,8 +1,0 @@
-use Rattle.std.proofs.Common.{ℕ, ◌↔◌}
-use Rattle.std.specs.List.{Contains}
-use Rattle.cind_index.proofs.OrphanFacts.{FoundBelow}
-use Rattle.cind_index.proofs.index.CindIndex.orphans.Given as goal
-
--- the orphans under the keys that were passed
-abbrev pub invariant-loop-place : goal.invariant-loop-place
-invariant-loop-place g l = (row : ℕ) → Contains l.found.items row ↔ FoundBelow l.self.keys l.tableau_row l.place row
