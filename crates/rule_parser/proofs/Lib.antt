@@ -9,3 +9,4 @@ pub mod RulesAgain
 pub mod Numbered
 pub mod Judging
 pub mod DepsAgain
+pub mod LeftOut
