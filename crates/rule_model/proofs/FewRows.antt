@@ -145,9 +145,9 @@ module _ (attrs : List Attr) (most : ℕ) (cfd : CfdDecl) (few : FewRows) (all :
       elim (cases_Bool wanted) [
         | inl yes ↦ subst (λ (rows : List CfdRow). StandsFor attrs most cfd (with_rows rows) (all ++ row ∷ [])) (sym (cond-true wanted (few.rows ++ row ∷ []) few.rows yes)) (held stands)
         | inr no ↦ (
-          let parts = or_parts (nat_le (length few.rows) most) (brings_new few.flaws flaws) no in
-          subst (λ (rows : List CfdRow). StandsFor attrs most cfd (with_rows rows) (all ++ row ∷ [])) (sym (cond-false wanted (few.rows ++ row ∷ []) few.rows no)) (left stands (more_than (length few.rows) parts.0) parts.1)
-        )
+            let parts = or_parts (nat_le (length few.rows) most) (brings_new few.flaws flaws) no in
+            subst (λ (rows : List CfdRow). StandsFor attrs most cfd (with_rows rows) (all ++ row ∷ [])) (sym (cond-false wanted (few.rows ++ row ∷ []) few.rows no)) (left stands (more_than (length few.rows) parts.0) parts.1)
+            )
       ]
 
 -- ---- the same fault
@@ -174,7 +174,7 @@ counted book cfd few all (inr more) = over_any_way book cfd few all more.0 more.
 
 pub same_fault : (book : Book) (cfd : CfdDecl) (few : FewRows) (all : List CfdRow) → StandsFor (attrs_of book.schema cfd.table) book.limits.tableau_rows cfd few all
     → book_fault book (Cfd (record cfd { rows = few.rows })) ≡ book_fault book (Cfd (record cfd { rows = all }))
-unfolding book_fault, fault_of
+unfolding book_fault fault_of
 same_fault book cfd few all stands =
     let attrs = attrs_of book.schema cfd.table in
     let tested : Bool → Option RuleFault → Option RuleFault → Option RuleFault → Option RuleFault = λ wide outside repeated last.

@@ -35,6 +35,7 @@ fn rows_of<P: Phrase>(alloc: Global, lines: List<Line<'_>>) -> Result<List<P::Va
 
 /// Rows that stand for those of the lines: past the limit only those that bring a new kind of fault. All of them are
 /// read before the first is judged.
+#[tactic(auto, using(crate::proofs::LeftOut::nothing_read, crate::proofs::LeftOut::faulty_row, crate::proofs::LeftOut::all_read))]
 fn few_rows(
     alloc: Global,
     book: &RuleBook,
@@ -100,6 +101,7 @@ impl RuleGroups {
 
 impl RuleGroups {
     /// Adds the dependency of a head that has that number, with the rows behind it.
+    #[tactic(auto, using(crate::proofs::LeftOut::with_few, crate::proofs::LeftOut::with_faulty))]
     fn add_cfd(
         &mut self,
         alloc: Global,
