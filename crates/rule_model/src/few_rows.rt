@@ -4,7 +4,7 @@
 ghost use Rattle.std.specs.Prelude.{◌≡◌, [], not, IfOk, OnOk};
 ghost use Rattle.std.specs.Option.{is_some};
 ghost use Rattle.rule_model.specs.Faults.{is_as_wide, outside_in_row, repeated_in_row};
-ghost use Rattle.rule_model.specs.FewRows.{flaws_of, no_flaws, both_flaws, brings_new, with_row};
+ghost use Rattle.rule_model.specs.HeldRows.{flaws_of, no_flaws, both_flaws, brings_new, with_row};
 
 use crate::cells::{row_is_as_wide, row_is_distinct, row_is_inside};
 use crate::decl::{CfdDecl, CfdRow};

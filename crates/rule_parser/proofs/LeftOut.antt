@@ -1,7 +1,7 @@
 -- Rows that are read line by line, of which only a few are held.
 use Rattle.std.proofs.Common.{◌≡◌, ◌⊎◌, inl, inr, ℕ, ◌+◌, ◌<◌, ◌≤◌, Bool, true, false, cond, List, [], ◌∷◌, ◌++◌, length, Option, Some, None, refl, ap, sym, ◌∙◌, subst, arith}
 use Rattle.std.specs.Prelude.{Ok, Err, All, nat_le}
-use Rattle.std.proofs.lemmas.Bool.{cases_Bool, cond-true, cond-false, or_parts}
+use Rattle.std.proofs.lemmas.Bool.{cases_Bool, cond-true, cond-false, or_parts, false≢true}
 use Rattle.std.proofs.lemmas.Bool.Decides.{leb_tells}
 use Rattle.std.proofs.lemmas.List.{length-append}
 use Rattle.std.proofs.lemmas.List.Elements.{All-push}
@@ -17,10 +17,10 @@ use Rattle.rule_model.specs.declared.decl.Decl.{Decl}
 use Rattle.rule_model.specs.declared.decl.Decl.TheVariants.{Cfd}
 use Rattle.rule_model.specs.declared.few_rows.FewRows.{FewRows}
 use Rattle.rule_model.specs.declared.fault.RuleFault.{RuleFault}
-use Rattle.rule_model.specs.FewRows.{no_flaws, flaws_of, brings_new, is_wanted, with_row}
+use Rattle.rule_model.specs.HeldRows.{no_flaws, flaws_of, brings_new, is_wanted, with_row}
 use Rattle.rule_model.specs.Declarations.{IsWrittenRow}
 use Rattle.rule_model.specs.Books.{Book, book_fault, with_decl}
-use Rattle.rule_model.proofs.FewRows.{StandsFor, none_yet, one_more, same_fault, all_held}
+use Rattle.rule_model.proofs.HeldRows.{StandsFor, none_yet, one_more, same_fault, all_held}
 use Rattle.rule_parser.specs.declared.fault.ParseCause.{ParseCause}
 use Rattle.rule_parser.specs.RuleLines.{row_at}
 use Rattle.rule_parser.specs.RuleFiles.{rule_causes, rows_of, unless_rule, with_cfd, StandFor, StandForLines}
@@ -88,7 +88,7 @@ with_faulty book number cfd (line ∷ others) fault some read = ap (judged book 
 -- ---- one more line
 
 more_than : (most n : ℕ) → nat_le n most ≡ false → most < n
-more_than most n above = elim (leb_tells n most) [ inl le ↦ absurd cc | inr lt ↦ lt.1 ]
+more_than most n above = elim (leb_tells n most) [ inl le ↦ absurd (false≢true (sym above ∙ le.0)) | inr lt ↦ lt.1 ]
 
 some_held : (attrs : List Attr) (most : ℕ) (cfd : CfdDecl) (few : FewRows) (row : CfdRow) → 1 ≤ length (with_row attrs most cfd few row).rows
 some_held attrs most cfd few row =

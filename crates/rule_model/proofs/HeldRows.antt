@@ -3,7 +3,7 @@ use Rattle.std.proofs.Common.{◌⊎◌, inl, inr, ◌≡◌, ℕ, ◌+◌, ◌<
 use Rattle.std.specs.Prelude.{not, nat_le}
 use Rattle.std.specs.Option.{option_or, is_some}
 use Rattle.std.specs.List.{list_all}
-use Rattle.std.proofs.lemmas.Bool.{cases_Bool, cond-true, cond-false, or_parts}
+use Rattle.std.proofs.lemmas.Bool.{cases_Bool, cond-true, cond-false, or_parts, false≢true}
 use Rattle.std.proofs.lemmas.Bool.Decides.{leb_tells}
 use Rattle.std.proofs.lemmas.List.{length-append}
 use Rattle.std.proofs.lemmas.List.Folds.{list_all-append}
@@ -23,7 +23,7 @@ use Rattle.rule_model.specs.declared.fault.RuleFault.TheVariants.{WidthMismatch,
 use Rattle.rule_model.specs.Counts.{counts_of, counts_with}
 use Rattle.rule_model.specs.Faults.{unless, duplicate_rule, unknown_table, unknown_attr, repeated_attr, is_as_wide, outside_in_row, repeated_in_row, over_limit, too_many, fault_of}
 use Rattle.rule_model.specs.Books.{Book, book_fault}
-use Rattle.rule_model.specs.FewRows.{no_flaws, flaws_of, both_flaws, brings_new, is_wanted, with_row}
+use Rattle.rule_model.specs.HeldRows.{no_flaws, flaws_of, both_flaws, brings_new, is_wanted, with_row}
 use Rattle.rule_model.proofs.ValidRules.{passes_if_none}
 use Rattle.rule_model.proofs.Joining.{counts_of-with, within_if_none}
 
@@ -135,7 +135,7 @@ module _ (attrs : List Attr) (most : ℕ) (cfd : CfdDecl) (few : FewRows) (all :
       }
 
   more_than : (n : ℕ) → nat_le n most ≡ false → most < n
-  more_than n above = elim (leb_tells n most) [ inl le ↦ absurd cc | inr lt ↦ lt.1 ]
+  more_than n above = elim (leb_tells n most) [ inl le ↦ absurd (false≢true (sym above ∙ le.0)) | inr lt ↦ lt.1 ]
 
   pub one_more : StandsFor attrs most cfd few all → StandsFor attrs most cfd (with_row attrs most cfd few row) (all ++ row ∷ [])
   one_more stands =
