@@ -1,5 +1,5 @@
 -- The rows that are held have the faults that all rows have.
-use Rattle.std.proofs.Common.{◌⊎◌, inl, inr, ◌≡◌, ℕ, ◌+◌, ◌<◌, ⊥, Bool, true, false, cond, ◌&&◌, ◌||◌, List, [], ◌∷◌, ◌++◌, length, Option, Some, None, refl, ap, sym, ◌∙◌, subst, arith}
+use Rattle.std.proofs.Common.{◌⊎◌, inl, inr, ◌≡◌, ℕ, ◌+◌, ◌<◌, Bool, true, false, cond, ◌&&◌, ◌||◌, List, [], ◌∷◌, ◌++◌, length, Option, Some, None, refl, ap, sym, ◌∙◌, subst, arith}
 use Rattle.std.specs.Prelude.{not, nat_le}
 use Rattle.std.specs.Option.{option_or, is_some}
 use Rattle.std.specs.List.{list_all}
@@ -143,10 +143,10 @@ module _ (attrs : List Attr) (most : ℕ) (cfd : CfdDecl) (few : FewRows) (all :
       let with_rows : List CfdRow → FewRows = λ rows. record { rows = rows; flaws = both_flaws few.flaws flaws } in
       let wanted = is_wanted most few flaws in
       elim (cases_Bool wanted) [
-        | inl yes ↦ subst (λ (rows : List CfdRow). StandsFor attrs most cfd (with_rows rows) (all ++ row ∷ [])) (sym (cond-true wanted (few.rows ++ row ∷ []) few.rows yes)) (held stands)
-        | inr no ↦ (
-            let parts = or_parts (nat_le (length few.rows) most) (brings_new few.flaws flaws) no in
-            subst (λ (rows : List CfdRow). StandsFor attrs most cfd (with_rows rows) (all ++ row ∷ [])) (sym (cond-false wanted (few.rows ++ row ∷ []) few.rows no)) (left stands (more_than (length few.rows) parts.0) parts.1)
+        | inl is ↦ subst (λ (rows : List CfdRow). StandsFor attrs most cfd (with_rows rows) (all ++ row ∷ [])) (sym (cond-true wanted (few.rows ++ row ∷ []) few.rows is)) (held stands)
+        | inr isnt ↦ (
+            let parts = or_parts (nat_le (length few.rows) most) (brings_new few.flaws flaws) isnt in
+            subst (λ (rows : List CfdRow). StandsFor attrs most cfd (with_rows rows) (all ++ row ∷ [])) (sym (cond-false wanted (few.rows ++ row ∷ []) few.rows isnt)) (left stands (more_than (length few.rows) parts.0) parts.1)
             )
       ]
 

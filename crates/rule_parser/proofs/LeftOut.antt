@@ -95,8 +95,8 @@ some_held attrs most cfd few row =
     let flaws = flaws_of attrs cfd row in
     let wanted = is_wanted most few flaws in
     elim (cases_Bool wanted) [
-      | inl yes ↦ subst (λ (rows : List CfdRow). 1 ≤ length rows) (sym (cond-true wanted (few.rows ++ row ∷ []) few.rows yes)) (omega (arith, length-append few.rows (row ∷ [])))
-      | inr no ↦ subst (λ (rows : List CfdRow). 1 ≤ length rows) (sym (cond-false wanted (few.rows ++ row ∷ []) few.rows no)) (omega (arith, more_than most (length few.rows) (or_parts (nat_le (length few.rows) most) (brings_new few.flaws flaws) no).0))
+      | inl is ↦ subst (λ (rows : List CfdRow). 1 ≤ length rows) (sym (cond-true wanted (few.rows ++ row ∷ []) few.rows is)) (omega (arith, length-append few.rows (row ∷ [])))
+      | inr isnt ↦ subst (λ (rows : List CfdRow). 1 ≤ length rows) (sym (cond-false wanted (few.rows ++ row ∷ []) few.rows isnt)) (omega (arith, more_than most (length few.rows) (or_parts (nat_le (length few.rows) most) (brings_new few.flaws flaws) isnt).0))
     ]
 
 fit_held : (wanted : Bool) (rows : List CfdRow) (row : CfdRow) → All IsWrittenRow rows → IsWrittenRow row → All IsWrittenRow (cond wanted (rows ++ row ∷ []) rows)
