@@ -1,8 +1,8 @@
 -- The first of several things found, part by part.
-use Rattle.std.proofs.Common.{◌≡◌, ℕ, ◌+◌, ◌<◌, true, false, List, [], ◌∷◌, ◌++◌, length, get_or, drop, Option, Some, None, Result, Ok, Err, refl, sym, ap, ◌∙◌, subst, arith}
+use Rattle.std.proofs.Common.{◌≡◌, ℕ, ◌+◌, ◌<◌, List, [], ◌∷◌, ◌++◌, length, get_or, drop, Option, Some, None, Result, Ok, Err, refl, sym, ap, ◌∙◌, subst, arith}
 use Rattle.std.specs.List.{zip}
 use Rattle.std.proofs.lemmas.List.{at_drop_more}
-use Rattle.std.specs.Option.{option_or, is_some}
+use Rattle.std.specs.Option.{option_or}
 use Rattle.rule_model.specs.declared.fault.RuleFault.{RuleFault}
 use Rattle.rule_model.specs.declared.fault.AddFault.{AddFault}
 use Rattle.rule_model.specs.declared.fault.AddFault.TheVariants.{Rule, Memory}
@@ -60,12 +60,3 @@ pub refused : {X : Type 0} (fault : AddFault) (found : Option RuleFault) (x : X)
 refused Memory found x told = tt
 refused (Rule fault) None x told = absurd cc
 refused (Rule fault) (Some other) x told = cc
-
--- whether a test finds something, from its answer
-pub passed_none : (found : Option RuleFault) → verdict found ≡ Ok tt → false ≡ is_some found
-passed_none None passed = refl
-passed_none (Some fault) passed = absurd cc
-
-pub told_some : (found : Option RuleFault) (fault : RuleFault) → verdict found ≡ Err fault → true ≡ is_some found
-told_some None fault told = absurd cc
-told_some (Some other) fault told = refl

@@ -43,7 +43,7 @@ pub counts_of-with : (decls : List Decl) (decl : Decl) → counts_of (decls ++ d
 counts_of-with decls decl =
     same_counts (counts_of (decls ++ decl ∷ [])) (counts_with (counts_of decls) decl) (sum_with dep_count decls decl) (sum_with cind_count decls decl) (sum_with edit_count decls decl) (sum_with row_count decls decl)
 
-pub within_if_none : (limits : Limits) (counts : Counts) → too_many limits counts ≡ None → AreWithin limits counts
+within_if_none : (limits : Limits) (counts : Counts) → too_many limits counts ≡ None → AreWithin limits counts
 within_if_none limits counts e =
     let each = none_of (over_limit Deps limits.deps counts.deps ∷ over_limit Cinds limits.cinds counts.cinds ∷ over_limit Edits limits.edits counts.edits ∷ over_limit TableauRows limits.tableau_rows counts.tableau_rows ∷ []) e in
     record {

@@ -5,4 +5,3 @@ pub mod Known
 pub mod ValidCells
 pub mod ValidRules
 pub mod Joining
-pub mod HeldRows

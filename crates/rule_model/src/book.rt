@@ -2,7 +2,6 @@
 
 ghost use Rattle.std.specs.Prelude.{◌≡◌, ◌++◌, [], ◌∷◌, OnOk, OnErr};
 ghost use Rattle.text_lists.specs.Limits.{AreLimits};
-ghost use Rattle.schema_core.specs.Lookups.{attrs_of};
 ghost use Rattle.schema_core.specs.Schemas.{IsValidSchema};
 ghost use Rattle.rule_model.specs.Declarations.{IsWritten};
 ghost use Rattle.rule_model.specs.Rules.{with_rules_of};
@@ -16,11 +15,10 @@ use crate::decl::Decl;
 use crate::dep::Dep;
 use crate::edit_rule::EditRule;
 use crate::fault::AddFault;
-use crate::lookup::attrs_of;
 use crate::numbering::append_rules;
 use crate::rules::Rules;
 use crate::sets::any_has_set;
-use schema_core::{Attr, Limits, List, Schema, Text};
+use schema_core::{Limits, List, Schema};
 use std::alloc::{AllocError, Global};
 use std::marker::Model;
 
@@ -96,20 +94,6 @@ impl RuleBook {
         ensures valid { IsBook self.now }
     {
         &self.schema
-    }
-
-    /// The attributes of the table of that name; none where the schema has no such table.
-    pub fn attrs_of(&self, table: &Text) -> &[Attr]
-        ensures { result.now ≡ attrs_of self.now.schema table.now }
-    {
-        attrs_of(&self.schema, table)
-    }
-
-    /// How many tableau rows may stand in the book.
-    pub fn row_limit(&self) -> u64
-        ensures { result ≡ self.now.limits.tableau_rows }
-    {
-        self.limits.tableau_rows
     }
 
     /// The declarations, in the order in which they joined.

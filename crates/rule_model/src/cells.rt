@@ -19,13 +19,6 @@ use cfd_semantics::Pattern;
 use schema_core::{Attr, Schema, Text};
 use std::slice;
 
-pub fn row_is_as_wide(cfd: &CfdDecl, row: &CfdRow) -> bool
-    ensures { result ≡ is_as_wide cfd.now row.now }
-{
-    row.x.as_slice().len() == cfd.x.as_slice().len()
-        && row.y.as_slice().len() == cfd.y.as_slice().len()
-}
-
 fn rows_are_as_wide(rows: &[CfdRow], x: usize, y: usize) -> bool
     ensures { result ≡ list_all (λ row. length row.x == x && length row.y == y) rows.now }
 {
@@ -124,7 +117,7 @@ fn constants_are_inside(attrs: &[Attr], names: &[Text], values: &[Text]) -> Resu
     Ok(())
 }
 
-pub fn row_is_inside(attrs: &[Attr], cfd: &CfdDecl, row: &CfdRow) -> Result<(), AddFault>
+fn row_is_inside(attrs: &[Attr], cfd: &CfdDecl, row: &CfdRow) -> Result<(), AddFault>
     ensures { Finds result (outside_in_row attrs.now cfd.now row.now) }
 {
     cells_are_inside(attrs, cfd.x.as_slice(), row.x.as_slice())?;
@@ -205,7 +198,7 @@ fn cells_are_distinct(names: &[Text], cells: &[Cell]) -> Result<(), AddFault>
     Ok(())
 }
 
-pub fn row_is_distinct(cfd: &CfdDecl, row: &CfdRow) -> Result<(), AddFault>
+fn row_is_distinct(cfd: &CfdDecl, row: &CfdRow) -> Result<(), AddFault>
     ensures { Finds result (repeated_in_row cfd.now row.now) }
 {
     cells_are_distinct(cfd.x.as_slice(), row.x.as_slice())?;

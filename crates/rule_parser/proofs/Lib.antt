@@ -9,4 +9,3 @@ pub mod RulesAgain
 pub mod Numbered
 pub mod Judging
 pub mod DepsAgain
-pub mod LeftOut

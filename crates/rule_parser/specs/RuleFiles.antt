@@ -1,6 +1,6 @@
 -- Rule files: the rule book that one spells, or its first faulty line with the first cause. A head and the `row` lines
 -- behind it are a group, and a group is a declaration.
-use Rattle.std.specs.Prelude.{◌≡◌, ℕ, List, [], ◌∷◌, Option, Some, None, Ok, Err, Result, codes}
+use Rattle.std.specs.Prelude.{ℕ, List, [], ◌∷◌, Option, Some, None, Ok, Err, Result, codes}
 use Rattle.line_grammar.specs.Faults.{Causes, Reading, faulty, ◌>>=◌}
 use Rattle.line_grammar.specs.FileLines.{read_line, read_content, no_lines, content_of}
 use Rattle.line_grammar.specs.Groups.{read_groups}
@@ -12,8 +12,6 @@ use Rattle.line_grammar.specs.declared.line.Line.{Line}
 use Rattle.line_grammar.specs.declared.group.Group.{Group}
 use Rattle.text_lists.specs.declared.limits.Limits.{Limits}
 use Rattle.schema_core.specs.declared.schema.Schema.{Schema}
-use Rattle.rule_model.specs.declared.decl.CfdRow.{CfdRow}
-use Rattle.rule_model.specs.declared.decl.CfdDecl.{CfdDecl}
 use Rattle.rule_model.specs.declared.decl.Decl.{Decl}
 use Rattle.rule_model.specs.declared.decl.Decl.TheVariants.{Cfd, Cind, Edit}
 use Rattle.rule_model.specs.declared.dep.Dep.{Dep}
@@ -56,23 +54,6 @@ abbrev pub no_strays : List Line → Decl → Book → Reading Book ParseCause
 no_strays members (Cfd cfd) book = Ok book
 no_strays members (Cind cind) book = Ok book
 no_strays members (Edit edit) book = no_lines rule_causes members book
-
--- a book with the dependency of a head that has that number, and of the lines behind it
-abbrev pub with_cfd : Book → ℕ → List Line → CfdDecl → Reading Book ParseCause
-with_cfd book number members cfd =
-    with_rows number members (Cfd cfd) >>= λ decl. unless_rule (book_fault book decl) number (with_decl book decl)
-
--- Rows that stand for others: a dependency has the same fault with these and with those, and where it has none, these
--- are those.
-pub record StandFor (book : Book) (cfd : CfdDecl) (few all : List CfdRow) : Type 0 where
-  pub fault : book_fault book (Cfd (record cfd { rows = few })) ≡ book_fault book (Cfd (record cfd { rows = all }))
-  pub same : book_fault book (Cfd (record cfd { rows = all })) ≡ None → few ≡ all
-
--- the same for the rows that lines spell
-pub record StandForLines (book : Book) (cfd : CfdDecl) (lines : List Line) (few : List CfdRow) : Type 0 where
-  pub all : List CfdRow
-  pub read : rows_of row_at lines ≡ Ok all
-  pub stand : StandFor book cfd few all
 
 -- a book with the declaration of a group
 unfoldable pub add_group : Book → Group → Reading Book ParseCause

@@ -1,20 +1,19 @@
 //! A rule file as a rule book.
 
-ghost use Rattle.std.specs.Prelude.{◌≡◌, ◌≤◌, [], length, All, IfOk, OnOk, Err};
-ghost use Rattle.line_grammar.specs.Faults.{IsUnlessMemory, GivesUnlessMemory, UnlessMemory, line_tells};
+ghost use Rattle.std.specs.Prelude.{◌≡◌, ◌≤◌, [], length, All, IfOk, OnOk};
+ghost use Rattle.line_grammar.specs.Faults.{IsUnlessMemory, GivesUnlessMemory, line_tells};
 ghost use Rattle.text_lists.specs.Limits.{AreLimits};
 ghost use Rattle.schema_core.specs.Schemas.{IsValidSchema};
 ghost use Rattle.rule_model.specs.Books.{Book as AnyBook, with_decl, book_fault};
-ghost use Rattle.rule_model.specs.declared.decl.Decl.TheVariants.{Cfd};
 ghost use Rattle.rule_model.specs.Declarations.{IsWritten, IsWrittenRow, IsWrittenInclusionRow};
 ghost use Rattle.rule_parser.specs.ReadRules.{IsReadHead};
 ghost use Rattle.rule_parser.specs.RuleLines.{row_at, inclusion_row_at};
-ghost use Rattle.rule_parser.specs.RuleFiles.{rule_causes, rows_of, some_rows, StandForLines, with_cfd, with_rows, unless_rule, no_strays, add_group, reads};
+ghost use Rattle.rule_parser.specs.RuleFiles.{rule_causes, rows_of, some_rows, with_rows, unless_rule, no_strays, add_group, reads};
 
 use crate::fault::{ParseCause, ParseFault};
 use crate::heads::HeadLine;
 use crate::rows::{InclusionRowLine, RowLine};
-use rule_model::{AddFault, CfdDecl, CfdRow, Decl, FewRows, RuleBook};
+use rule_model::{AddFault, Decl, RuleBook};
 use schema_core::{
     Gather, Group, Limits, Line, LineFault, List, Phrase, Schema, no_lines, read_groups,
 };
@@ -31,30 +30,6 @@ fn rows_of<P: Phrase>(alloc: Global, lines: List<Line<'_>>) -> Result<List<P::Va
         rows.push(line.read::<P, ParseCause>(alloc)?)?;
     }
     Ok(rows)
-}
-
-/// Rows that stand for those of the lines: past the limit only those that bring a new kind of fault. All of them are
-/// read before the first is judged.
-#[tactic(auto, using(crate::proofs::LeftOut::nothing_read, crate::proofs::LeftOut::faulty_row, crate::proofs::LeftOut::all_read))]
-fn few_rows(
-    alloc: Global,
-    book: &RuleBook,
-    cfd: &CfdDecl,
-    lines: List<Line<'_>>,
-) -> Result<List<CfdRow>, ParseFault>
-    requires { 1 ≤ length lines }
-    ensures exact { UnlessMemory line_tells (λ few. StandForLines book.now cfd.now lines.entry few) (λ fault. rows_of row_at lines.entry ≡ Err fault) result }
-    ensures fit { IfOk result (λ rows. All IsWrittenRow rows) }
-    ensures some { IfOk result (λ rows. 1 ≤ length rows) }
-{
-    let attrs = book.attrs_of(&cfd.table);
-    let most = book.row_limit();
-    let mut few = FewRows::new(alloc);
-    for line in lines.into_vec() {
-        let row = line.read::<RowLine, ParseCause>(alloc)?;
-        few.add(attrs, most, cfd, row)?;
-    }
-    Ok(few.rows)
 }
 
 /// The rows behind a head of that number; one at least.
@@ -99,32 +74,6 @@ impl RuleGroups {
     }
 }
 
-impl RuleGroups {
-    /// Adds the dependency of a head that has that number, with the rows behind it.
-    #[tactic(auto, using(crate::proofs::LeftOut::with_few, crate::proofs::LeftOut::with_faulty))]
-    fn add_cfd(
-        &mut self,
-        alloc: Global,
-        number: usize,
-        cfd: CfdDecl,
-        members: List<Line<'_>>,
-    ) -> Result<(), ParseFault>
-        requires { IsReadHead (Cfd cfd) }
-        ensures { GivesUnlessMemory line_tells (with_cfd self.old.book number members.entry cfd) (λ _. self.new.book) result }
-    {
-        if members.as_slice().is_empty() {
-            return Err(LineFault::At {
-                line: number,
-                cause: ParseCause::BadLine,
-            });
-        }
-        let mut decl = cfd;
-        let rows = few_rows(alloc, &self.book, &decl, members)?;
-        decl.rows = rows;
-        self.join(number, Decl::Cfd(decl))
-    }
-}
-
 impl<'a> Gather<Group<'a>> for RuleGroups {
     type Cause = ParseCause;
 
@@ -145,7 +94,10 @@ impl<'a> Gather<Group<'a>> for RuleGroups {
         let Group { head, members } = group;
         let number = head.number;
         match head.read::<HeadLine, ParseCause>(alloc)? {
-            Decl::Cfd(cfd) => self.add_cfd(alloc, number, cfd, members),
+            Decl::Cfd(mut cfd) => {
+                cfd.rows = some_rows::<RowLine>(alloc, number, members)?;
+                self.join(number, Decl::Cfd(cfd))
+            }
             Decl::Cind(mut cind) => {
                 cind.rows = some_rows::<InclusionRowLine>(alloc, number, members)?;
                 self.join(number, Decl::Cind(cind))
