@@ -17,7 +17,8 @@ pub fn fresh_past(alloc: Global, count: usize, texts: &Pool) -> Result<Text, All
     loop {
         text.push_str("~")?;
         let Some(_) = texts.find(text.as_str()) else {
-            return Ok(Text::from(text));
+            let fresh = Text::from_string(alloc, text)?;
+            return Ok(fresh);
         };
     }
 }

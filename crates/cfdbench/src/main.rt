@@ -17,7 +17,7 @@ fn words_of<R: Env + AllocGlobal>(rt: &R) -> Result<Texts, AllocError> {
     match env::args(rt) {
         Ok(args) => {
             for word in args.skip(1) {
-                words.push(Text::from(word))?;
+                words.push(Text::from_string(rt.alloc(), word)?)?;
             }
         }
         Err(e) if e.kind() == ErrorKind::OutOfMemory => return Err(AllocError),

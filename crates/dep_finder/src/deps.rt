@@ -82,7 +82,7 @@ fn dep_of(
 fn numbered(alloc: Global, number: usize) -> Result<Text, AllocError>
     ensures { IfOk result (λ name. name ≡ codes "d" ++ decimal number) }
 {
-    Ok(Text::from(format!(in alloc; "d{number}")?))
+    Text::from_string(alloc, format!(in alloc; "d{number}")?)
 }
 
 fn rule_of(

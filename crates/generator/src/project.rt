@@ -48,13 +48,13 @@ pub fn rules(alloc: Global) -> Result<RuleBook, AllocError>
 pub fn lettered(alloc: Global, letter: &str, number: u64) -> Result<Text, AllocError>
     ensures { IfOk result (λ text. text ≡ lettered letter.now number) }
 {
-    Ok(Text::from(format!(in alloc; "{letter}{number}")?))
+    Text::from_string(alloc, format!(in alloc; "{letter}{number}")?)
 }
 
 fn digits(alloc: Global, number: u64) -> Result<Text, AllocError>
     ensures { IfOk result (λ text. text ≡ decimal number) }
 {
-    Ok(Text::from(format!(in alloc; "{number}")?))
+    Text::from_string(alloc, format!(in alloc; "{number}")?)
 }
 
 /// A row of g.

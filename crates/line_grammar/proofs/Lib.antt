@@ -15,3 +15,4 @@ pub mod WrittenFiles
 pub mod FaultLemmas
 pub mod WalkLemmas
 pub mod LeadLemmas
+pub mod PlainTexts

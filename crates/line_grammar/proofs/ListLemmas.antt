@@ -1,11 +1,16 @@
 -- A list of the grammar that is read one p after the other.
-use Rattle.std.proofs.Common.{◌≡◌, ℕ, zero, suc, ◌<◌, ◌≤◌, List, [], ◌∷◌, ◌++◌, length, Option, Some, None, refl, ap, sym, ◌∙◌, arith}
-use Rattle.std.proofs.lemmas.Option.{none-some, same_Some}
+use Rattle.std.proofs.Common.{inl, inr, ◌≡◌, ℕ, zero, suc, ◌<◌, ◌≤◌, false, List, [], ◌∷◌, ◌++◌, length, Option, Some, None, refl, ap, sym, ◌∙◌, arith}
+use Rattle.std.specs.Prelude.{nat_le}
+use Rattle.std.proofs.lemmas.Bool.{le-leb, cond-true, cond-false}
+use Rattle.std.proofs.lemmas.Bool.Decides.{leb_tells}
+use Rattle.std.proofs.lemmas.List.{length-append}
+use Rattle.std.proofs.lemmas.Option.{none-some, same_Some, some_pair_parts}
+use Rattle.line_grammar.specs.Phrases.{◌>>=◌, only_if, few_at}
 use Rattle.line_grammar.specs.declared.tokens.Token.{Token}
 use Rattle.line_grammar.specs.declared.tokens.Token.TheVariants.{Name, Number, Quoted, Sign}
 use Rattle.line_grammar.specs.declared.tokens.Mark.TheVariants.{Colon, Comma, OpenBracket, CloseBracket, Semicolon, Equals, Differs, Arrow, Bars, Underscore, Dot, OpenBrace, CloseBrace}
 use Rattle.line_grammar.specs.Marks.{after_mark}
-use Rattle.line_grammar.specs.TokenLists.{Reader, in_front, or_others, list1_within, list1_at}
+use Rattle.line_grammar.specs.TokenLists.{Reader, in_front, or_others, and_others, list1_within, list1_at}
 
 -- the items that were read before, in front of the others
 abbrev pub all_in_front : {A : Type 0} → List A → Option (List A × List Token) → Option (List A × List Token)
@@ -98,3 +103,53 @@ ListLeft-goes_on p whole read rest after behind x left shorter found more =
 pub ListLeft-more : {A : Type 0} (p : Reader A) → TakesToken p → (whole : Option (List A × List Token)) (read : List A) (rest after behind : List Token) (x : A) → ListLeft p whole read rest → p rest ≡ Some (x, after) → after_mark Comma after ≡ Some behind
     → ListLeft p whole (read ++ x ∷ []) behind
 ListLeft-more p takes whole read rest after behind x left found more = ListLeft-goes_on p whole read rest after behind x left (takes rest after x found) found more
+
+-- ---- lists of bounded length
+
+in_front-one : {A : Type 0} (x : A) (found : Option (List A × List Token)) (xs : List A) (rest : List Token) → in_front x found ≡ Some (xs, rest) → 1 ≤ length xs
+in_front-one x None xs rest e = absurd (none-some _ e)
+in_front-one x (Some found) xs rest e = omega (arith, ap length (some_pair_parts _ _ _ _ e).0)
+
+others-one : {A : Type 0} (others : List Token → Option (List A × List Token)) (x : A) (after : List Token) (behind : Option (List Token)) (xs : List A) (rest : List Token) → or_others others x after behind ≡ Some (xs, rest) → 1 ≤ length xs
+others-one others x after None xs rest e = omega (arith, ap length (some_pair_parts _ _ _ _ e).0)
+others-one others x after (Some behind) xs rest e = in_front-one x (others behind) xs rest e
+
+one_read : {A : Type 0} (others : List Token → Option (List A × List Token)) (found : Option (A × List Token)) (xs : List A) (rest : List Token) → and_others others found ≡ Some (xs, rest) → 1 ≤ length xs
+one_read others None xs rest e = absurd (none-some _ e)
+one_read others (Some found) xs rest e = others-one others found.0 found.1 (after_mark Comma found.1) xs rest e
+
+above : (most n : ℕ) → most < n → nat_le n most ≡ false
+above most n more = elim (leb_tells n most) [ inl le ↦ absurd (omega (arith, le.1)) | inr lt ↦ lt.0 ]
+
+list1_within-some_one : {A : Type 0} (p : Reader A) (room : ℕ) (tokens rest : List Token) (xs : List A) → list1_within p room tokens ≡ Some (xs, rest) → 1 ≤ length xs
+list1_within-some_one p zero tokens rest xs found = absurd (none-some _ found)
+list1_within-some_one p (suc room) tokens rest xs found = one_read (list1_within p room) (p tokens) xs rest found
+
+few-all : {A : Type 0} (most : ℕ) (found : Option (List A × List Token)) (xs : List A) (rest : List Token) → Some (xs, rest) ≡ found → length xs ≤ most → (found >>= only_if (λ (values : List A). nat_le (length values) most)) ≡ Some (xs, rest)
+few-all {A} most found xs rest is few =
+    sym (ap (λ (f : Option (List A × List Token)). f >>= only_if (λ (values : List A). nat_le (length values) most)) is) ∙ cond-true (nat_le (length xs) most) (Some (xs, rest)) None (le-leb (length xs) most few)
+
+-- where it all is read, and isn't too long
+pub few_at-all : {A : Type 0} (p : Reader A) (most : ℕ) (tokens rest : List Token) (xs : List A) → Some (xs, rest) ≡ list1_at p tokens → length xs ≤ most → few_at p most tokens ≡ Some (xs, rest)
+few_at-all p most tokens rest xs is few = few-all most (list1_at p tokens) xs rest is few
+
+few-none : {A : Type 0} (most : ℕ) (found : Option (List A × List Token)) → None ≡ found → (found >>= only_if (λ (values : List A). nat_le (length values) most)) ≡ None
+few-none {A} most found none = sym (ap (λ (f : Option (List A × List Token)). f >>= only_if (λ (values : List A). nat_le (length values) most)) none)
+
+pub few_at-none : {A : Type 0} (p : Reader A) (most : ℕ) (tokens : List Token) → None ≡ list1_at p tokens → None ≡ few_at p most tokens
+few_at-none p most tokens none = sym (few-none most (list1_at p tokens) none)
+
+too_long : {A : Type 0} (most : ℕ) (xs : List A) (rest : List Token) → most < length xs → (◌≡◌ {A = Option (List A × List Token)} (Some (xs, rest) >>= only_if (λ (values : List A). nat_le (length values) most)) None)
+too_long {A} most xs rest more = cond-false (nat_le (length xs) most) (Some (xs, rest)) None (above most (length xs) more)
+
+long : {A : Type 0} (p : Reader A) (most : ℕ) (read : List A) (found whole : Option (List A × List Token)) → ((xs : List A) (rest : List Token) → found ≡ Some (xs, rest) → 1 ≤ length xs) → all_in_front read found ≡ whole → most ≤ length read
+    → (whole >>= only_if (λ (values : List A). nat_le (length values) most)) ≡ None
+long {A} p most read None whole one is more = few-none most whole (sym (all_in_front-none read) ∙ is)
+long {A} p most read (Some (xs, rest)) whole one is more =
+    sym (ap (λ (f : Option (List A × List Token)). f >>= only_if (λ (values : List A). nat_le (length values) most)) (sym (all_in_front-some read xs rest) ∙ is))
+    ∙ too_long most (read ++ xs) rest (omega (arith, length-append read xs, one xs rest refl, more))
+
+-- where more is left behind so many
+pub few_at-long : {A : Type 0} (p : Reader A) (most : ℕ) (tokens rest : List Token) (read : List A) → ListLeft p (list1_at p tokens) read rest → most ≤ length read → None ≡ few_at p most tokens
+few_at-long p most tokens rest read left more =
+    sym (long p most read (list1_within p left.room rest) (list1_at p tokens) (λ xs after found. list1_within-some_one p left.room rest after xs found) left.same more)

@@ -4,7 +4,7 @@ use Rattle.std.specs.Prelude.{◌≡◌, ℕ, nat_le, ◌&&◌, Bool, List, ◌�
 use Rattle.std.specs.Str.{bytes_eq}
 use Rattle.line_grammar.specs.Faults.{UnlessMemory}
 use Rattle.line_grammar.specs.Marks.{after_mark}
-use Rattle.line_grammar.specs.TokenLists.{Reader, list_at}
+use Rattle.line_grammar.specs.TokenLists.{Reader, list1_at, list_at}
 use Rattle.text_lists.specs.declared.bounds.TheConstants.{CONSTANT_BYTES, FILE_NAME_BYTES}
 use Rattle.line_grammar.specs.declared.tokens.Mark.{Mark}
 use Rattle.line_grammar.specs.declared.tokens.Token.{Token}
@@ -59,6 +59,12 @@ constant_at tokens = text_at tokens >>= only_if is_constant
 -- FILE: a text of 1 to 1,024 bytes
 abbrev pub file_name_at : Reader (List ℕ)
 file_name_at tokens = text_at tokens >>= only_if is_file_name
+
+-- ---- lists of bounded length
+
+-- LIST1(p) of at most so many
+abbrev pub few_at : {A : Type 0} → Reader A → ℕ → Reader (List A)
+few_at p most tokens = list1_at p tokens >>= only_if (λ values. nat_le (length values) most)
 
 -- ---- lists that end at a mark
 

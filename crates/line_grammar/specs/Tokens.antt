@@ -57,6 +57,14 @@ escaped c =
     else (if c == 114 then Some 13
     else None)))
 
+-- a byte that ends a text, or that doesn't stand for itself in one
+abbrev pub is_special : ℕ → Bool
+is_special b = b == 39 || b == 92 || b == 10 || b == 13
+
+abbrev pub begins_quote : List ℕ → Bool
+begins_quote [] = false
+begins_quote (b ∷ bytes) = b == 39
+
 -- a byte as it is spelled between the quotes of a text
 abbrev pub piece_with : ℕ → Option ℕ → List ℕ
 piece_with b None = b ∷ []

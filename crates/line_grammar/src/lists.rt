@@ -1,7 +1,7 @@
 //! Lists in the grammar of a line, of any rule.
 
-ghost use Rattle.std.specs.Prelude.{◌≡◌, ◌≤◌, ◌∷◌, List, None, All, IfOk, length, is_some};
-ghost use Rattle.line_grammar.specs.Phrases.{Reads, list_until};
+ghost use Rattle.std.specs.Prelude.{◌≡◌, ◌<◌, ◌≤◌, ◌∷◌, List, None, All, IfOk, length, is_some};
+ghost use Rattle.line_grammar.specs.Phrases.{Reads, few_at, list_until};
 ghost use Rattle.line_grammar.specs.TokenLists.{list1_at, list_at};
 ghost use Rattle.line_grammar.specs.declared.tokens.Token.{Token};
 ghost use Rattle.line_grammar.specs.declared.tokens.Token.TheVariants.{Sign};
@@ -27,6 +27,27 @@ impl<'a> Tokens<'a> {
             let Ok(()) = self.mark(Mark::Comma) else {
                 return Ok(values);
             };
+        }
+    }
+
+    /// LIST1(p) of at most so many. A longer one is absent, and isn't read to its end.
+    pub fn few<P: ListItem>(&mut self, alloc: Global, most: usize) -> Result<List<P::Value>, Unread>
+        requires { 0 < most }
+        ensures list { Reads (few_at P.reads most) self.old self.new result }
+        ensures some { IfOk result (λ values. 1 ≤ length values) }
+        ensures few { IfOk result (λ values. length values ≤ most) }
+        ensures fit { IfOk result (λ values. All P.is_fit values) }
+    {
+        let mut values = List::new(alloc);
+        loop {
+            let value = P::take(alloc, self)?;
+            values.push(value)?;
+            let Ok(()) = self.mark(Mark::Comma) else {
+                return Ok(values);
+            };
+            if most <= values.as_slice().len() {
+                return Err(Unread::Absent);
+            }
         }
     }
 

@@ -2,11 +2,12 @@
 
 ghost use Rattle.std.specs.Prelude.{false, ◌≡◌, ◌<◌, ◌≤◌, ◌&&◌, ◌||◌, ◌==◌, ◌≢◌, [], ◌∷◌, ℕ, List, IfSome, IfNone, IfOk, IsTrue, Option, Some, None, length, take, drop, position, not};
 ghost use Rattle.std.specs.Option.{option_map};
+ghost use Rattle.std.specs.List.{position_or_len};
 ghost use Rattle.std.specs.Char.{is_ascii_alphabetic, is_ascii_digit};
 ghost use Rattle.std.specs.Str.{IsUtf8, is_utf8};
 ghost use Rattle.std.specs.Str.Parse.{digits_value, AllDigits};
 ghost use Rattle.text_lists.specs.Names.{is_name_byte};
-ghost use Rattle.line_grammar.specs.Tokens.{is_blank, after_blanks, begins_blank, is_passed, escaped, with_byte, text_from, one_mark, two_marks, mark_at, name_len, digits_len, quoted_token, token_at, is_word, tokens_from};
+ghost use Rattle.line_grammar.specs.Tokens.{is_blank, after_blanks, begins_blank, is_passed, escaped, is_special, begins_quote, with_byte, text_from, one_mark, two_marks, mark_at, name_len, digits_len, quoted_token, token_at, is_word, tokens_from};
 ghost use Rattle.line_grammar.specs.Leads.{token_of, meant, measured, are_tokens};
 ghost use Rattle.line_grammar.specs.declared.tokens.Token.{Token};
 
@@ -204,13 +205,58 @@ pub fn meant_len(bytes: &[u8]) -> usize
     }
 }
 
+fn is_special(byte: u8) -> bool
+    ensures { result ≡ is_special byte }
+{
+    byte == b'\'' || byte == b'\\' || byte == b'\n' || byte == b'\r'
+}
+
+/// The place of the first byte that doesn't stand for itself.
+fn special_at(bytes: &[u8]) -> Option<usize>
+    ensures { result ≡ position is_special bytes.now }
+{
+    bytes.iter().position(|b| is_special(*b))
+}
+
+/// How many bytes stand for themselves at the front.
+fn plain_len(bytes: &[u8]) -> usize
+    ensures len { result ≡ position_or_len is_special bytes.now }
+    ensures within { result ≤ length bytes.now }
+{
+    special_at(bytes).unwrap_or(bytes.len())
+}
+
+fn begins_quote(bytes: &[u8]) -> bool
+    ensures { result ≡ begins_quote bytes.now }
+{
+    match bytes {
+        [] => false,
+        [byte, ..] => *byte == b'\'',
+    }
+}
+
+/// The text behind an opening quote, where each of its bytes stands for itself.
+fn plain_text(bytes: &[u8]) -> Option<&[u8]>
+    ensures { IfSome result (λ text. text.now ≡ meant (text_from bytes.now)) }
+{
+    let (plain, rest) = bytes.split_at(plain_len(bytes));
+    if begins_quote(rest) {
+        Some(plain)
+    } else {
+        None
+    }
+}
+
 /// The text behind an opening quote.
 pub fn meant_text(alloc: Global, bytes: &[u8]) -> Result<Text, AllocError>
     requires { IsUtf8 (meant (text_from bytes.now)) }
     ensures { IfOk result (λ text. text ≡ meant (text_from bytes.now)) }
 {
+    if let Some(text) = plain_text(bytes) {
+        return Text::new(alloc, str::from_utf8(text).unwrap());
+    }
     match text_bytes(alloc, bytes)? {
-        Some((text, _)) => Ok(Text::from(String::from_utf8(text).unwrap())),
+        Some((text, _)) => Text::from_string(alloc, String::from_utf8(text).unwrap()),
         None => Text::new(alloc, ""),
     }
 }

@@ -14,9 +14,9 @@
 -- dependency by itself is
 --
 --     TABLE: [LIST(ATTR)] -> [ATTR] row LIST(CELL) || CELL
-use Rattle.std.specs.Prelude.{ℕ, nat_le, Bool, true, false, List, [], ◌∷◌, length, map, Option, Some, None, if◌then◌else◌, option_map, codes}
+use Rattle.std.specs.Prelude.{ℕ, List, [], ◌∷◌, map, Option, Some, None, if◌then◌else◌, option_map, codes}
 use Rattle.std.specs.Str.{bytes_eq}
-use Rattle.line_grammar.specs.Phrases.{◌>>=◌, name_at, constant_at, after_word, only_if, list_until}
+use Rattle.line_grammar.specs.Phrases.{◌>>=◌, name_at, constant_at, after_word, few_at, list_until}
 use Rattle.line_grammar.specs.Marks.{after_mark, same_mark}
 use Rattle.line_grammar.specs.TokenLists.{Reader, list1_at, list_at}
 use Rattle.text_lists.specs.declared.bounds.TheConstants.{SET_MEMBERS}
@@ -40,16 +40,13 @@ use Rattle.rule_parser.specs.declared.heads.Side.{Side}
 abbrev pub said : {A B : Type 0} → (A → B) → Option (A × List Token) → Option (B × List Token)
 said f found = option_map (λ x. (f x.0, x.1)) found
 
-abbrev pub is_few : List (List ℕ) → Bool
-is_few values = nat_le (length values) SET_MEMBERS
-
 -- {LIST1(VALUE)}, of at most 64 members
 unfoldable pub set_at : Reader (List (List ℕ))
 set_at tokens = do
   inside ← after_mark OpenBrace tokens
-  values ← list1_at constant_at inside
+  values ← few_at constant_at SET_MEMBERS inside
   rest ← after_mark CloseBrace values.1
-  only_if is_few (values.0, rest)
+  Some (values.0, rest)
 
 -- what stands behind the first word of a cell
 abbrev pub set_cell : List ℕ → Reader (Pattern (List ℕ))

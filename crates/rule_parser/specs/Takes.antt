@@ -1,9 +1,10 @@
 -- Each part of a rule line that stands in lists takes a token off the front.
 use Rattle.std.proofs.Common.{◌≡◌, ℕ, zero, suc, ◌<◌, ◌≤◌, Bool, true, false, cond, List, [], ◌∷◌, length, Option, Some, None, refl, ap, arith}
 use Rattle.std.proofs.lemmas.Option.{none-some, some_pair_parts}
-use Rattle.std.specs.Prelude.{codes}
+use Rattle.std.specs.Prelude.{codes, nat_le}
 use Rattle.std.specs.Str.{bytes_eq}
-use Rattle.line_grammar.specs.Phrases.{◌>>=◌, name_at, constant_at}
+use Rattle.line_grammar.specs.Phrases.{◌>>=◌, name_at, constant_at, few_at}
+use Rattle.text_lists.specs.declared.bounds.TheConstants.{SET_MEMBERS}
 use Rattle.line_grammar.specs.Marks.{after_mark, same_mark}
 use Rattle.line_grammar.specs.Takes.{name_at-takes, constant_at-takes}
 use Rattle.line_grammar.specs.TokenLists.{Reader, in_front, or_others, and_others, list1_within, list1_at}
@@ -15,7 +16,7 @@ use Rattle.cfd_semantics.specs.declared.pattern.Pattern.{Pattern}
 use Rattle.cfd_semantics.specs.declared.pattern.Pattern.TheVariants.{Any, Is, In, NotIn}
 use Rattle.rule_model.specs.declared.edit_rule.EditCell.{EditCell}
 use Rattle.rule_model.specs.declared.edit_rule.EditCell.TheVariants as edit_cells
-use Rattle.rule_parser.specs.RuleLines.{said, is_few, set_at, any_or, cell_from, cell_at, equal_at, differs_at, test_from, test_at, pattern_at, pair_at}
+use Rattle.rule_parser.specs.RuleLines.{said, set_at, any_or, cell_from, cell_at, equal_at, differs_at, test_from, test_at, pattern_at, pair_at}
 
 -- what both of two steps read
 both_read : {A B : Type 0} (found : Option A) (f : A → Option B) (y : B) → (found >>= f) ≡ Some y → (x : A) × (found ≡ Some x) × (f x ≡ Some y)
@@ -75,10 +76,12 @@ set_at-takes : TakesOne set_at
 unfolding set_at
 set_at-takes tokens rest values e =
     let open_brace = both_read (after_mark OpenBrace tokens) _ (values, rest) e in
-    let list = both_read (list1_at constant_at open_brace.0) _ (values, rest) open_brace.2 in
-    let close = both_read (after_mark CloseBrace list.0.1) _ (values, rest) list.2 in
-    let last = only_if-rest (is_few list.0.0) (list.0.0, close.0) values rest close.2 in
-    omega (arith, ap length last, after_mark-takes OpenBrace tokens open_brace.0 open_brace.1, list1_within-takes constant_at constant_at-takes (length open_brace.0) open_brace.0 list.0.1 list.0.0 list.1, after_mark-takes CloseBrace list.0.1 close.0 close.1)
+    let few = both_read (few_at constant_at SET_MEMBERS open_brace.0) _ (values, rest) open_brace.2 in
+    let list = both_read (list1_at constant_at open_brace.0) _ few.0 few.1 in
+    let behind = only_if-rest (nat_le (length list.0.0) SET_MEMBERS) list.0 few.0.0 few.0.1 list.2 in
+    let close = both_read (after_mark CloseBrace few.0.1) _ (values, rest) few.2 in
+    let last = (some_pair_parts _ _ _ _ close.2).1 in
+    omega (arith, ap length last, ap length behind, after_mark-takes OpenBrace tokens open_brace.0 open_brace.1, list1_within-takes constant_at constant_at-takes (length open_brace.0) open_brace.0 list.0.1 list.0.0 list.1, after_mark-takes CloseBrace few.0.1 close.0 close.1)
 
 set_cell-word : (is_in is_not : Bool) (tokens rest : List Token) (cell : Pattern (List ℕ))
     → cond {A = Option (Pattern (List ℕ) × List Token)} is_in (said (λ values. In values) (set_at tokens)) (cond is_not (said (λ values. NotIn values) (set_at tokens)) None) ≡ Some (cell, rest) → length rest < length tokens

@@ -26,11 +26,8 @@ fn set_at(alloc: Global, tokens: &mut Tokens<'_>) -> Result<Texts, Unread>
     ensures written { IfOk result IsWrittenSet }
 {
     tokens.mark(Mark::OpenBrace)?;
-    let values = tokens.list1::<Constant>(alloc)?;
+    let values = tokens.few::<Constant>(alloc, SET_MEMBERS)?;
     tokens.mark(Mark::CloseBrace)?;
-    if SET_MEMBERS < values.as_slice().len() {
-        return Err(Unread::Absent);
-    }
     Ok(values)
 }
 

@@ -1,12 +1,14 @@
 //! A text: what a name, a cell or a constant holds. Clauses see it as its bytes.
 
-ghost use Rattle.std.specs.Prelude.{◌≡◌, IfOk, IsTrue, ◌↔◌};
+ghost use Rattle.std.specs.Prelude.{◌≡◌, ◌≤◌, IfOk, IsTrue, ◌↔◌, length};
 ghost use Rattle.std.specs.Cmp;
 ghost use Rattle.std.specs.Cmp.{on_equiv, on_per};
 ghost use Rattle.std.specs.Cmp.Lexicographic.{nat_list_eq_equiv};
 ghost use Rattle.std.specs.Cmp.Rules.{hashing};
 ghost use Rattle.std.specs.Hash as fed;
 ghost use Rattle.std.specs.Str.{IsUtf8, bytes_eq};
+ghost use Rattle.std.specs.String.{string_bytes};
+ghost use Rattle.text_lists.specs.declared.text.TheConstants.{SHORT_BYTES};
 ghost use Rattle.std.proofs.Common.{rules};
 
 use crate::list::List;
@@ -14,9 +16,68 @@ use std::alloc::{AllocError, Global};
 use std::hash::{Hash, Hasher};
 use std::marker::Model;
 
+/// How many bytes a text may have that lies in its own place.
+const SHORT_BYTES: usize = 14;
+
+/// A short text.
+#[derive(Debug, Drop)]
+struct Short {
+    len: u8,
+    bytes: [u8; SHORT_BYTES],
+}
+
+impl Model for Short {
+    ghost use Rattle.std.specs.Prelude.{List, ℕ, ◌≤◌, take};
+    ghost use Rattle.std.specs.Str.{IsUtf8};
+
+    ghost Value = { List ℕ };
+
+    ghost view = { λ short. take short.len short.bytes };
+
+    ghost invariant = { λ short. (short.len ≤ 14) × IsUtf8 (take short.len short.bytes) };
+}
+
+impl Short {
+    fn new(text: &str) -> Short
+        requires { length text.now ≤ SHORT_BYTES }
+        ensures { result ≡ text.now }
+    {
+        let given = text.as_bytes();
+        let mut bytes = [0; SHORT_BYTES];
+        bytes[..given.len()].copy_from_slice(given);
+        Short {
+            len: given.len() as u8,
+            bytes,
+        }
+    }
+
+    fn as_str(&self) -> &str
+        ensures bytes { result.now ≡ self.now }
+        ensures utf8 { IsUtf8 self.now }
+    {
+        unsafe { str::from_utf8_unchecked(&self.bytes[..self.len as usize]) }
+    }
+
+    fn copied(&self) -> Short
+        ensures { result ≡ self.now }
+    {
+        Short {
+            len: self.len,
+            bytes: self.bytes,
+        }
+    }
+}
+
+/// Where the bytes of a text lie. Most texts of a table are short, and a line may list millions of them.
+#[derive(Debug, Drop)]
+enum Place {
+    Inside(Short),
+    Outside(Box<String>),
+}
+
 #[derive(Debug, Drop)]
 pub struct Text {
-    string: String,
+    place: Place,
 }
 
 /// Several texts: the values of a domain, the cells of a row.
@@ -24,27 +85,54 @@ pub type Texts = List<Text>;
 
 impl Model for Text {
     ghost use Rattle.std.specs.Prelude.{List, ℕ};
-    ghost use Rattle.std.specs.String.{string_bytes};
+    ghost use Rattle.text_lists.specs.Places.{bytes_of};
 
     ghost Value = { List ℕ };
 
-    ghost view = { λ t. string_bytes t.string };
+    ghost view = { λ t. bytes_of t.place };
 }
 
 impl Text {
     pub fn new(alloc: Global, text: &str) -> Result<Text, AllocError>
         ensures { IfOk result (λ t. t ≡ text.now) }
     {
+        if text.len() <= SHORT_BYTES {
+            return Ok(Text::inside(text));
+        }
         Ok(Text {
-            string: String::from_str(alloc, text)?,
+            place: Place::Outside(Box::new(alloc, String::from_str(alloc, text)?)?),
         })
+    }
+
+    /// The text of a string, which takes memory only where it is long.
+    pub fn from_string(alloc: Global, string: String) -> Result<Text, AllocError>
+        ensures { IfOk result (λ t. t ≡ string_bytes string) }
+    {
+        if string.len() <= SHORT_BYTES {
+            return Ok(Text::inside(string.as_str()));
+        }
+        Ok(Text {
+            place: Place::Outside(Box::new(alloc, string)?),
+        })
+    }
+
+    fn inside(text: &str) -> Text
+        requires { length text.now ≤ SHORT_BYTES }
+        ensures { result ≡ text.now }
+    {
+        Text {
+            place: Place::Inside(Short::new(text)),
+        }
     }
 
     pub fn as_str(&self) -> &str
         ensures bytes { result.now ≡ self.now }
         ensures utf8 { IsUtf8 self.now }
     {
-        self.string.as_str()
+        match &self.place {
+            Place::Inside(short) => short.as_str(),
+            Place::Outside(string) => string.as_str(),
+        }
     }
 
     /// Whether this is the given text, byte for byte.
@@ -65,24 +153,18 @@ impl List<Text> {
     }
 }
 
-impl From<String> for Text {
-    ghost use Rattle.std.specs.Prelude.{◌≡◌};
-    ghost use Rattle.std.specs.String.{string_bytes};
-
-    ghost from_gives = { λ s t. t ≡ string_bytes s };
-
-    fn from(string: String) -> Text {
-        Text { string }
-    }
-}
-
 impl Clone for Text {
     ghost is_clone = { λ s t. t ≡ s };
 
     fn clone(&self) -> Result<Text, AllocError> {
-        Ok(Text {
-            string: self.string.clone()?,
-        })
+        match &self.place {
+            Place::Inside(short) => Ok(Text {
+                place: Place::Inside(short.copied()),
+            }),
+            Place::Outside(string) => Ok(Text {
+                place: Place::Outside(string.clone()?),
+            }),
+        }
     }
 }
 

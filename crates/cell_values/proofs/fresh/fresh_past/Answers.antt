@@ -13,9 +13,9 @@ loop-text-preserved c =
 
 pub returns-in_default-clause-fresh : goal.returns-in_default-clause-fresh
 returns-in_default-clause-fresh c =
-    subst (IsFreshPast c.args.count c.args.texts.now) (sym c.from.ensures)
+    subst (IsFreshPast c.args.count c.args.texts.now) (sym c.in_ok-fresh.ensures)
     (fresh_found c.args.count c.args.texts.now (string_bytes c.loop-text.text) (string_bytes c.push_str.new.self) c.loop-text.invariant c.in_ok-push_str.ensures.bytes
     (absent_if_IsNew c.args.texts.now (string_bytes c.push_str.new.self) (subst (IsNew c.args.texts.now) c.as_str.ensures.value c.in_default.ensures.absent)))
 
 pub returns-in_default-clause-text : goal.returns-in_default-clause-text
-returns-in_default-clause-text c = fresh_is c.args.count c.args.texts.now c.from.result (returns-in_default-clause-fresh c)
+returns-in_default-clause-text c = fresh_is c.args.count c.args.texts.now c.in_ok-fresh.fresh (returns-in_default-clause-fresh c)
