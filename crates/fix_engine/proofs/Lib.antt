@@ -1,5 +1,6 @@
 pub mod NamedAttrs
 pub mod FullRuns
+pub mod AlikeMoves
 pub mod Completeness
 pub mod OverTexts
 pub mod FixedRows

@@ -5,10 +5,10 @@
 
 ghost use Rattle.std.specs.Prelude.{◌≡◌, ℕ, false, length, IfOk, IfSome, IfNone};
 ghost use Rattle.rule_runs.specs.Marks.{marked};
-ghost use Rattle.rule_runs.specs.Starts.{IsRunFrom, IsStart, stage_at};
+ghost use Rattle.rule_runs.specs.Starts.{IsRunFrom, IsStart, basis_of, stage_at};
 ghost use Rattle.fix_engine.specs.Fixes.{AllEndAt, DifferFirstAt};
 ghost use Rattle.fix_engine.specs.Questions.{asked_at};
-ghost use Rattle.fix_engine.specs.Rivals.{AgreesBy, AgreesWithout, IsFullRunTo, IsRivalOf};
+ghost use Rattle.fix_engine.specs.Rivals.{AgreesBy, AgreesWithout, IsFullRunTo, IsRivalOf, value_written};
 
 use rule_runs::{Move, Run, Start, close_without, extend, rows_that_apply};
 use std::alloc::{AllocError, Global};
@@ -47,7 +47,17 @@ fn compare(start: &Start<'_>, first: &Run, run: Run) -> Option<Rival>
     Some(Rival { run, attr })
 }
 
-/// A rival after the closure and a move with this rule, the master rows taken by rising ids.
+/// The value that the move writes, if its rule and its master row are there.
+fn written(start: &Start<'_>, a_move: Move) -> Option<ValueId>
+    ensures { result ≡ value_written (basis_of start.now) a_move }
+{
+    let rule = start.rules.edits().as_slice().get(a_move.rule)?;
+    let master = start.masters.tuple(rule.master, a_move.master)?;
+    master.get(rule.source).copied()
+}
+
+/// A rival after the closure and a move with this rule, the master rows taken by rising ids. Moves that write one value
+/// lead to one tuple, so a row with the value that agreed last is passed over.
 fn rival_by_rule(
     alloc: Global,
     start: &Start<'_>,
@@ -61,12 +71,18 @@ fn rival_by_rule(
     ensures rival { IfOk result (λ found. IfSome found (IsRivalOf start.now first.now)) }
     ensures none { IfOk result (λ found. IfNone found ((row : ℕ) → AgreesBy start.now closure.now first.now.tuple (record { rule = rule; master = row }))) }
 {
+    let mut agreed = None;
     for row in rows_that_apply(start, closure.tuple.as_slice(), closure.covered, rule) {
         let next = Move { rule, master: *row };
+        let value = written(start, next);
+        if value.is_some() && value == agreed {
+            continue;
+        }
         let run = extend(start, closure.with_move(alloc, start, next)?, None)?;
         if let Some(rival) = compare(start, first, run) {
             return Ok(Some(rival));
         }
+        agreed = value;
     }
     Ok(None)
 }
