@@ -1,7 +1,10 @@
 // The same list as `cfdbench find` by the same method: find FOLDER WIDTH SUPPORT. It reads FOLDER/t.csv, whose cells are
 // plain words; its first line names the attributes. Rows that agree on attributes have one leader, the first of them, and
-// each row has the next one with its leader. The classes of one attribute more come from those before, class by class.
-// A left side of which a part determines A is skipped for A, and so are rows for which a part settles A.
+// each row has the next one with its leader. The classes of one attribute more come from those before: in one pass over the
+// rows where each pair of a leader and an id finds a slot, else class by class.
+// A left side of which a part determines A is skipped for A, and so are rows for which a part settles A. Where parts
+// determine all attributes outside it, the rows aren't looked at. What is known of a left side is kept for those that it is
+// a part of.
 #include <algorithm>
 #include <cstdint>
 #include <cstdio>
@@ -21,6 +24,7 @@ using Side = std::vector<uint32_t>;
 
 static const size_t LONGEST_CONSTANT = 1024;
 static const size_t MOST = 100000;
+static const size_t MOST_KEPT = 256;
 
 struct Table {
     std::string bytes;
@@ -82,9 +86,36 @@ static Classes all_rows(Row n) {
     return {std::move(leaders), std::move(nexts)};
 }
 
-static Classes with_attr(const Classes &classes, const Rows &ids) {
+static bool bases_of(const Rows &leaders, const Rows &ids, Rows &bases) {
+    Row n = Row(ids.size()), width = 0;
+    for (Row id : ids) width = std::max(width, id + 1);
+    bases.assign(n, 0);
+    uint64_t next = 0;
+    for (Row r = 0; r < n; r++) {
+        if (leaders[r] != r) continue;
+        bases[r] = Row(next);
+        next += width;
+        if (next > n) return false;
+    }
+    return true;
+}
+
+static bool firsts_in_slots(const Rows &leaders, const Rows &ids, Rows &firsts) {
     Row n = Row(ids.size());
-    Rows marks(n, n), firsts(n);
+    Rows bases;
+    if (!bases_of(leaders, ids, bases)) return false;
+    Rows marks(n, n);
+    for (Row r = 0; r < n; r++) {
+        Row &mark = marks[bases[leaders[r]] + ids[r]];
+        if (mark == n) mark = r;
+        firsts[r] = mark;
+    }
+    return true;
+}
+
+static void firsts_in_classes(const Classes &classes, const Rows &ids, Rows &firsts) {
+    Row n = Row(ids.size());
+    Rows marks(n, n);
     for (Row first = 0; first < n; first++) {
         if (classes.leaders[first] != first) continue;
         for (Row r = first; r < n; r = classes.nexts[r]) {
@@ -93,6 +124,11 @@ static Classes with_attr(const Classes &classes, const Rows &ids) {
             else firsts[r] = marks[ids[r]] = r;
         }
     }
+}
+
+static Classes with_attr(const Classes &classes, const Rows &ids) {
+    Rows firsts(ids.size());
+    if (!firsts_in_slots(classes.leaders, ids, firsts)) firsts_in_classes(classes, ids, firsts);
     Rows nexts = nexts_of(firsts);
     return {std::move(firsts), std::move(nexts)};
 }
@@ -139,11 +175,20 @@ static Settled settled_at(const Classes &classes, const Rows &leads, const Rows 
 
 static bool says(const Settled &settled, Row r) { return settled.all || (!settled.flags.empty() && settled.flags[r]); }
 
-static Facts facts_of(const Table &table, size_t support, const Side &x) {
-    Classes classes = grouped(table, x);
-    Rows leads = leads_of(classes, support);
+using Store = std::map<Side, Facts>;
+using Parts = std::vector<const Facts *>;
+
+static bool has(const Side &x, uint32_t a) { return std::find(x.begin(), x.end(), a) != x.end(); }
+
+static bool is_any_all(const Parts &parts, uint32_t a) {
+    return std::any_of(parts.begin(), parts.end(), [&](const Facts *part) { return part->settled[a].all; });
+}
+
+static Facts facts_of(const Table &table, const Classes &classes, const Rows &leads, const Side &x, const Parts &parts) {
     Facts facts{x, {}};
-    for (const Rows &ids : table.columns) facts.settled.push_back(settled_at(classes, leads, ids));
+    for (uint32_t a = 0; a < table.columns.size(); a++)
+        if (is_any_all(parts, a)) facts.settled.push_back({true, {}});
+        else facts.settled.push_back(settled_at(classes, leads, table.columns[a]));
     return facts;
 }
 
@@ -179,20 +224,62 @@ static bool is_short(const Table &table, Row r, const Side &x, uint32_t a) {
     return table.cell(r, a).size() <= LONGEST_CONSTANT;
 }
 
+static Parts known_parts(const Store &store, const Side &x) {
+    Parts parts;
+    for (const Side &part : proper_parts(x)) {
+        auto at = store.find(part);
+        if (at != store.end()) parts.push_back(&at->second);
+    }
+    return parts;
+}
+
+static Parts all_parts(const Table &table, size_t support, Store &store, const Side &x) {
+    Parts parts;
+    for (const Side &part : proper_parts(x)) {
+        auto at = store.find(part);
+        if (at == store.end()) {
+            Classes classes = grouped(table, part);
+            Facts facts = facts_of(table, classes, leads_of(classes, support), part, {});
+            at = store.emplace(part, std::move(facts)).first;
+        }
+        parts.push_back(&at->second);
+    }
+    return parts;
+}
+
+static bool is_closed(const Table &table, const Parts &known, const Side &x) {
+    for (uint32_t a = 0; a < table.columns.size(); a++)
+        if (!has(x, a) && !is_any_all(known, a)) return false;
+    return true;
+}
+
+static void push_found_on(const Table &table, const Side &x, uint32_t number, const Rows &leads, const Facts &facts,
+                          const Parts &parts, std::vector<Candidate> &found) {
+    for (uint32_t a = 0; a < table.columns.size() && found.size() <= MOST; a++) {
+        if (has(x, a) || is_any_all(parts, a)) continue;
+        if (facts.settled[a].all) found.push_back({a, number, table.rows});
+        for (Row r : leads)
+            if (says(facts.settled[a], r)
+                && !std::any_of(parts.begin(), parts.end(), [&](const Facts *part) { return says(part->settled[a], r); })
+                && is_short(table, r, x, a))
+                found.push_back({a, number, r});
+    }
+}
+
 // All that are found, or one more than MOST at least.
 static std::vector<Candidate> all_found(const Table &table, size_t support, const std::vector<Side> &sides) {
     std::vector<Candidate> found;
-    std::map<Side, Facts> store;
+    Store store;
     Side front;
     Classes front_classes = all_rows(table.rows);
-    for (uint32_t number = 0; number < sides.size(); number++) {
+    for (uint32_t number = 0; number < sides.size() && found.size() <= MOST; number++) {
         const Side &x = sides[number];
-        std::vector<const Facts *> parts;
-        for (const Side &part : proper_parts(x)) {
-            auto at = store.find(part);
-            if (at == store.end()) at = store.emplace(part, facts_of(table, support, part)).first;
-            parts.push_back(&at->second);
+        bool kept = x.size() < sides.back().size() && store.size() < MOST_KEPT;
+        if (is_closed(table, known_parts(store, x), x)) {
+            if (kept) store.emplace(x, Facts{x, std::vector<Settled>(table.columns.size(), Settled{true, {}})});
+            continue;
         }
+        Parts parts = all_parts(table, support, store, x);
         Classes classes;
         if (x.empty()) {
             classes = all_rows(table.rows);
@@ -205,18 +292,9 @@ static std::vector<Candidate> all_found(const Table &table, size_t support, cons
             classes = with_attr(front_classes, table.columns[x.back()]);
         }
         Rows leads = leads_of(classes, support);
-        for (uint32_t a = 0; a < table.names.size(); a++) {
-            if (std::find(x.begin(), x.end(), a) != x.end()) continue;
-            if (std::any_of(parts.begin(), parts.end(), [&](const Facts *part) { return part->settled[a].all; })) continue;
-            Settled settled = settled_at(classes, leads, table.columns[a]);
-            if (settled.all) found.push_back({a, number, table.rows});
-            for (Row r : leads)
-                if (says(settled, r)
-                    && !std::any_of(parts.begin(), parts.end(), [&](const Facts *part) { return says(part->settled[a], r); })
-                    && is_short(table, r, x, a))
-                    found.push_back({a, number, r});
-            if (found.size() > MOST) return found;
-        }
+        Facts facts = facts_of(table, classes, leads, x, parts);
+        push_found_on(table, x, number, leads, facts, parts, found);
+        if (kept) store.emplace(x, std::move(facts));
     }
     return found;
 }

@@ -1,28 +1,55 @@
 #!/bin/bash
-# run.sh ROWS COLUMNS PROGRAM [WIDTH:SUPPORT..]: the same dependencies by find.cpp and by PROGRAM (a built cfdbench), one
-# after the other, with seconds and peak memory, and whether both write the same. Needs g++, python3 and GNU time.
+# run.sh PROGRAM [ROWS COLUMNS [WIDTH:SUPPORT..]]: the same dependencies by find.cpp and by PROGRAM (a built cfdbench), one
+# after the other, with seconds and peak memory of both, by how much PROGRAM takes longer, and whether both write the same.
+# COLUMNS is a number or `customers` (see gen.py). With PROGRAM alone, tables of many sizes. Needs g++, python3, GNU time.
 set -eu
-rows=${1:?usage: run.sh ROWS COLUMNS PROGRAM [WIDTH:SUPPORT..]}
-columns=${2:?usage: run.sh ROWS COLUMNS PROGRAM [WIDTH:SUPPORT..]}
-program=$(readlink -f "${3:?usage: run.sh ROWS COLUMNS PROGRAM [WIDTH:SUPPORT..]}")
-shift 3
+usage='usage: run.sh PROGRAM [ROWS COLUMNS [WIDTH:SUPPORT..]]'
+program=$(readlink -f "${1:?$usage}")
+shift
 here=$(dirname "$(readlink -f "$0")")
 work=${BENCH_DIR:-${TMPDIR:-/tmp}/cfdbench-find}
 mkdir -p "$work"
 [[ $work/find -nt $here/find.cpp ]] || g++ -O3 -std=c++17 -o "$work/find" "$here/find.cpp"
-table=$work/$rows-$columns
-[[ -e $table/t.csv ]] || python3 "$here/gen.py" "$table" "$rows" "$columns"
-cd "$table"
-[[ $# -gt 0 ]] || set -- 1:1 1:10 1:1000 2:1 2:10 2:1000 3:1 3:10 3:1000
-for asked in "$@"; do
-  width=${asked%:*} support=${asked#*:}
-  timed() { local name=$1; shift; /usr/bin/time -f "$name: rows $rows, width $width, support $support: %e s, %M KB" "$@"; }
-  timed c++ "$work/find" . "$width" "$support" > cpp.out || true
-  timed cfdbench "$program" find p t "$width" "$support" > program.out || true
-  # Where too many are found, each tells it in its own words.
+
+# timed NAME COMMAND..: its output is NAME.out, its seconds and kilobytes are in NAME.time.
+timed() {
+  local name=$1
+  shift
+  /usr/bin/time -q -f '%e %M' -o "$name.time" "$@" > "$name.out" || true
+}
+
+# The last words of both, which are the same but for a table in which too many are found: each tells that in its own words.
+verdict() {
   if [[ $(tail -1 cpp.out) == 'too many' ]]; then
     echo "too many: $(tail -1 program.out)"
+  elif cmp -s cpp.out program.out; then
+    echo "the same: $(tail -1 cpp.out)"
   else
-    cmp cpp.out program.out && echo "the same: $(tail -1 cpp.out)"
+    echo DIFFERENT
   fi
-done
+}
+
+measure() {
+  local rows=$1 columns=$2 asked width support table=$work/$1-$2
+  shift 2
+  [[ $# -gt 0 ]] || set -- 1:1 1:10 1:1000 2:1 2:10 2:1000 3:1 3:10 3:1000
+  [[ -e $table/t.csv ]] || python3 "$here/gen.py" "$table" "$rows" "$columns"
+  cd "$table"
+  for asked in "$@"; do
+    width=${asked%:*} support=${asked#*:}
+    timed cpp "$work/find" . "$width" "$support"
+    timed program "$program" find p t "$width" "$support"
+    echo "$(tail -1 cpp.time) $(tail -1 program.time)" | awk -v what="$rows x $columns, width $width, support $support" \
+      '{ printf "%s: c++ %.2f s, %d MB; cfdbench %.2f s, %d MB; ", what, $1, $2 / 1000, $3, $4 / 1000
+         if ($1 > 0) printf "%.1f times; ", $3 / $1 }'
+    verdict
+  done
+}
+
+if [[ $# -gt 0 ]]; then
+  measure "$1" "${2:?$usage}" "${@:3}"
+else
+  for rows in 10000 100000 200000 500000; do measure "$rows" 20; done
+  for rows in 10000 100000; do measure "$rows" 64 1:10 2:10 3:10; done
+  measure 200000 customers 1:1000 2:1000 3:1000
+fi

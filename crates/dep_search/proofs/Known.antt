@@ -66,7 +66,7 @@ parts_within n (a ∷ x) within =
     (All-cons P x [] rest (All-nil P)))
 
 -- it holds of each
-abbrev Each : (List ℕ → Type 0) → List (List ℕ) → Type 0
+abbrev pub Each : (List ℕ → Type 0) → List (List ℕ) → Type 0
 Each P [] = ⊤
 Each P (x ∷ xs) = P x × Each P xs
 
@@ -83,10 +83,10 @@ each_weaker P Q [] step f = tt
 each_weaker P Q (x ∷ xs) step f = (step x f.0, each_weaker P Q xs step f.1)
 
 -- rows that agree on the whole agree on the part
-abbrev Covers : List Row → List ℕ → List ℕ → Type 0
+abbrev pub Covers : List Row → List ℕ → List ℕ → Type 0
 Covers rows x part = (r s : ℕ) → agree rows x r s ≡ true → agree rows part r s ≡ true
 
-parts_covered : (rows : List Row) (x : List ℕ) → Each (Covers rows x) (proper_parts x)
+pub parts_covered : (rows : List Row) (x : List ℕ) → Each (Covers rows x) (proper_parts x)
 parts_covered rows [] = tt
 parts_covered rows (a ∷ x) =
     let less = parts_covered rows x in
@@ -128,7 +128,7 @@ parts_supported rows support x r e =
 
 -- ---- what stands at a place is true
 
-stands : (rows : List Row) (attrs support : ℕ) (store : List Facts) (place a : ℕ) (part : List ℕ) → All (AreFacts rows attrs support) store → a < attrs
+pub stands : (rows : List Row) (attrs support : ℕ) (store : List Facts) (place a : ℕ) (part : List ℕ) → All (AreFacts rows attrs support) store → a < attrs
     → StandsAt store place part → (settled : Settled) × (known_at store a place ≡ Some settled) × IsSettled rows support part a settled
 stands rows attrs support store place a part true_facts al f =
     let (facts, e, g) = f in
@@ -188,7 +188,7 @@ and_none : (b : Bool) {c : Bool} → c ≡ true → (b && not c) ≡ false
 and_none true e = ap not e
 and_none false e = refl
 
-gathered_none : {A : Type 0} (f : ℕ → List A) (n : ℕ) → ((k : ℕ) → k < n → f k ≡ []) → gathered f n ≡ []
+pub gathered_none : {A : Type 0} (f : ℕ → List A) (n : ℕ) → ((k : ℕ) → k < n → f k ≡ []) → gathered f n ≡ []
 gathered_none f zero none = refl
 gathered_none f (suc n) none =
     let before = gathered_none f n (λ k l. none k (omega (arith, l))) in

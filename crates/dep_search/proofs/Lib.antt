@@ -2,7 +2,9 @@ pub mod Counted
 pub mod Told
 pub mod Parted
 pub mod Listed
+pub mod Slots
 pub mod Known
+pub mod Closed
 pub mod Kept
 pub mod InOrder
 pub mod Candidates

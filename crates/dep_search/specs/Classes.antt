@@ -34,6 +34,18 @@ pub record IsMarked (leaders : List ℕ) (first : ℕ) (old new : List Bool) : T
   pub marked : (r : ℕ) → r < length leaders → slice_index leaders r ≡ first → slice_index_or new r false ≡ true
   pub others : (r : ℕ) → r < length leaders → slice_index leaders r ≢ first → slice_index_or new r false ≡ slice_index_or old r false
 
+-- The slot of a place: what its leader begins with, and its id. Slots may be any numbers, so two pairs may have one.
+abbrev pub slot : List ℕ → List ℕ → List ℕ → ℕ → ℕ
+slot ids leaders bases r = slice_index bases (slice_index leaders r) + slice_index ids r
+
+-- each slot of the places so far is marked, and what marks it is the first place with its pair
+pub record AreSlots (ids leaders bases marks : List ℕ) (r : ℕ) : Type 0 where
+  pub long : length marks ≡ length ids
+  pub seen : (s : ℕ) → s < r → slice_index marks (slot ids leaders bases s) < length ids
+  pub below : (t : ℕ) → t < length ids → slice_index marks t < length ids → slice_index marks t < r
+  pub least : (t s : ℕ) → t < length ids → slice_index marks t < length ids → s < slice_index marks t
+      → slice_index ids s ≡ slice_index ids (slice_index marks t) → slice_index leaders s ≢ slice_index leaders (slice_index marks t)
+
 -- Each id was last seen at a place, if it was: the first one that has this id under its leader.
 pub record AreMarks (leaders ids marks : List ℕ) : Type 0 where
   pub long : length marks ≡ length ids

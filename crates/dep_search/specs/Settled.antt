@@ -1,10 +1,10 @@
 -- What is known of which rows settle an attribute.
 use Rattle.std.specs.Prelude.{◌≡◌, ℕ, ◌<◌, Bool, true, false, ◌||◌, ◌&&◌, List, [], ◌∷◌, length, All, if◌then◌else◌, slice_index, slice_index_or, slice_get, nat_eq, nat_le, Option, None, Some}
-use Rattle.std.specs.List.{AllZip}
+use Rattle.std.specs.List.{AllZip, list_any}
 use Rattle.std.specs.Option.{option_and_then}
 use Rattle.dep_search.specs.Counting.{gathered}
 use Rattle.dep_search.specs.Rows.{Row}
-use Rattle.dep_search.specs.Found.{settles, determines, has_support, is_first}
+use Rattle.dep_search.specs.Found.{settles, determines, has_support, is_first, proper_parts}
 use Rattle.dep_search.specs.Leaders.{AreColumns, AreLeaders}
 use Rattle.dep_search.specs.Classes.{AreNexts, are_alike, is_alike}
 use Rattle.dep_search.specs.declared.settled.Settled.{Settled}
@@ -61,6 +61,14 @@ pub record IsSettled (rows : List Row) (support : ℕ) (x : List ℕ) (a : ℕ) 
 pub record AreFacts (rows : List Row) (attrs support : ℕ) (facts : Facts) : Type 0 where
   pub many : length facts.settled ≡ attrs
   pub each : (a : ℕ) (d : Settled) → a < attrs → IsSettled rows support facts.x a (slice_index_or facts.settled a d)
+
+-- X has the attribute, or a part of X determines it
+abbrev pub is_given : List Row → List ℕ → ℕ → Bool
+is_given rows x a = list_any (nat_eq a) x || list_any (λ part. determines rows part a) (proper_parts x)
+
+-- that is so of each attribute, so nothing is found on X
+abbrev pub IsClosed : List Row → ℕ → List ℕ → Type 0
+IsClosed rows attrs x = (a : ℕ) → a < attrs → is_given rows x a ≡ true
 
 -- what is known of an attribute at a place
 abbrev pub known_at : List Facts → ℕ → ℕ → Option Settled

@@ -1,7 +1,7 @@
 //! Rows that agree, as classes that are gone through row by row.
-ghost use Rattle.std.specs.Prelude.{◌≡◌, ◌<◌, ◌+◌, ◌≢◌, ℕ, length, IfOk, slice_index};
+ghost use Rattle.std.specs.Prelude.{◌≡◌, ◌<◌, ◌+◌, ◌≢◌, ℕ, length, IfOk, IfSome, slice_index};
 ghost use Rattle.dep_search.specs.Leaders.{AreFirstPairs, AreWithin, IsFirstPair};
-ghost use Rattle.dep_search.specs.Classes.{AreClasses, AreMarks, AreNexts, AreSeenBelow, IsMarked, are_alike, is_alike};
+ghost use Rattle.dep_search.specs.Classes.{AreClasses, AreMarks, AreNexts, AreSeenBelow, AreSlots, IsMarked, are_alike, is_alike};
 
 use std::alloc::{AllocError, Global};
 use text_lists::List;
@@ -83,9 +83,134 @@ pub fn mark(classes: &Classes, flags: &mut [bool], first: usize)
 
 // ---- the classes of one attribute more
 
-/// For each row the first one with its leader and its id. The classes are gone through one after the other, and each id is
-/// told apart by the row at which it was last new.
+/// For each row the first one with its leader and its id: in one pass over the rows, where the pairs of leaders and ids are
+/// few, else class by class.
 pub fn first_pairs(
+    alloc: Global,
+    ids: &[usize],
+    classes: &Classes,
+) -> Result<List<usize>, AllocError>
+    requires classes { AreClasses classes.now.leaders classes.now.nexts }
+    requires long { length ids.now ≡ length classes.now.leaders }
+    requires within { AreWithin ids.now }
+    ensures { IfOk result (AreFirstPairs ids.now classes.now.leaders) }
+{
+    match first_in_slots(alloc, ids, classes.leaders.as_slice())? {
+        Some(firsts) => Ok(firsts),
+        None => first_in_classes(alloc, ids, classes),
+    }
+}
+
+// Each pair of a leader and an id has a slot, at which the first row with it is marked. There is nothing where the slots are
+// more than the rows, or where two pairs have one.
+fn first_in_slots(
+    alloc: Global,
+    ids: &[usize],
+    leaders: &[usize],
+) -> Result<Option<List<usize>>, AllocError>
+    requires long { length ids.now ≡ length leaders.now }
+    requires within { AreWithin leaders.now }
+    requires ids { AreWithin ids.now }
+    ensures { IfOk result (λ found. IfSome found (AreFirstPairs ids.now leaders.now)) }
+{
+    match bases(alloc, ids, leaders)? {
+        Some(bases) => first_in_each_slot(alloc, ids, leaders, bases.as_slice()),
+        None => Ok(None),
+    }
+}
+
+fn first_in_each_slot(
+    alloc: Global,
+    ids: &[usize],
+    leaders: &[usize],
+    bases: &[usize],
+) -> Result<Option<List<usize>>, AllocError>
+    requires long { length ids.now ≡ length leaders.now }
+    requires within { AreWithin leaders.now }
+    requires ids { AreWithin ids.now }
+    requires bases { length bases.now ≡ length leaders.now }
+    ensures { IfOk result (λ found. IfSome found (AreFirstPairs ids.now leaders.now)) }
+{
+    let mut marks = vec![in alloc; ids.len(); ids.len()]?;
+    let mut firsts = vec![in alloc; 0; ids.len()]?;
+    for r in 0..ids.len() {
+        let Some(first) = first_in_slot(ids, leaders, bases, &mut marks, r) else {
+            return Ok(None);
+        };
+        firsts[r] = first;
+    }
+    Ok(Some(List::from(firsts)))
+}
+
+// At each leader, the first of its slots: it has as many as there are ids. There is nothing where they are too many.
+fn bases(alloc: Global, ids: &[usize], leaders: &[usize]) -> Result<Option<List<usize>>, AllocError>
+    ensures { IfOk result (λ found. IfSome found (λ bases. length bases ≡ length leaders.now)) }
+{
+    let width = bound(ids);
+    let mut bases = vec![in alloc; 0; leaders.len()]?;
+    let mut next: usize = 0;
+    for r in 0..leaders.len() {
+        if leaders[r] == r {
+            bases[r] = next;
+            next = next.saturating_add(width);
+            if next > leaders.len() {
+                return Ok(None);
+            }
+        }
+    }
+    Ok(Some(List::from(bases)))
+}
+
+// One more than the greatest.
+fn bound(ids: &[usize]) -> usize {
+    let mut bound: usize = 0;
+    for id in ids {
+        if *id >= bound {
+            bound = id.saturating_add(1);
+        }
+    }
+    bound
+}
+
+// The first row with the pair of this one, if the slot is of this pair alone.
+#[tactic(auto, using(crate::proofs::Slots::slot_new))]
+fn first_in_slot(
+    ids: &[usize],
+    leaders: &[usize],
+    bases: &[usize],
+    marks: &mut Vec<usize>,
+    r: usize,
+) -> Option<usize>
+    requires long { length ids.now ≡ length leaders.now }
+    requires within { AreWithin leaders.now }
+    requires ids { AreWithin ids.now }
+    requires bases { length bases.now ≡ length leaders.now }
+    requires marks { AreSlots ids.now leaders.now bases.now marks.old.items r }
+    requires r { r < length ids.now }
+    ensures first { IfSome result (IsFirstPair ids.now leaders.now r) }
+    ensures marks { IfSome result (λ _. AreSlots ids.now leaders.now bases.now marks.new.items (r + 1)) }
+{
+    let base = bases[leaders[r]];
+    if base >= ids.len() {
+        return None;
+    }
+    let slot = base + ids[r];
+    if slot >= ids.len() {
+        return None;
+    }
+    let mark = marks[slot];
+    if mark >= ids.len() {
+        marks[slot] = r;
+        return Some(r);
+    }
+    if leaders[mark] == leaders[r] && ids[mark] == ids[r] {
+        return Some(mark);
+    }
+    None
+}
+
+// The classes are gone through one after the other, and each id is told apart by the row at which it was last new.
+fn first_in_classes(
     alloc: Global,
     ids: &[usize],
     classes: &Classes,

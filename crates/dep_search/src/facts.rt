@@ -1,7 +1,8 @@
 //! What is known of left sides that were gone through, so that it is asked of no part of another one twice.
 ghost use Rattle.std.specs.Prelude.{◌≡◌, ℕ, ◌<◌, true, List, length, All, IfOk, IfSome, OnOk};
 ghost use Rattle.std.specs.List.{list_any};
-ghost use Rattle.dep_search.specs.Settled.{AreFacts, IsGrouped, IsSettled, IsTable, KeepsFacts, StandAt, StandsAt, known_at, leads_of, says_all, says_of};
+ghost use Rattle.dep_search.specs.Found.{determines, proper_parts};
+ghost use Rattle.dep_search.specs.Settled.{AreFacts, IsClosed, IsGrouped, IsSettled, IsTable, KeepsFacts, StandAt, StandsAt, is_given, known_at, leads_of, says_all, says_of};
 
 use crate::grouped::{Grouped, grouped_by, leads};
 use crate::settled::{Settled, settled_by};
@@ -149,4 +150,94 @@ pub fn is_any_said(store: &[Facts], places: &[usize], a: usize, r: usize) -> boo
     ensures { result ≡ list_any (λ place. says_of (known_at store.now a place) r) places.now }
 {
     places.iter().any(|place| is_said_at(store, a, r, *place))
+}
+
+// ---- left sides on which nothing is found
+
+/// Whether it is known of each attribute that X has it or that a part of X determines it. No rows are looked at.
+#[tactic(auto, using(crate::proofs::Closed::closed_more))]
+pub fn is_closed(table: &Table, store: &[Facts], x: &[usize], parts: &[List<usize>]) -> bool
+    requires store { All (AreFacts table.now.rows.now (length table.now.columns.now) table.now.support) store.now }
+    requires parts { parts.now ≡ proper_parts x.now }
+    ensures { result ≡ true → IsClosed table.now.rows.now (length table.now.columns.now) x.now }
+{
+    for a in 0..table.columns.len() {
+        if !is_given(table, store, x, parts, a) {
+            return false;
+        }
+    }
+    true
+}
+
+fn is_given(table: &Table, store: &[Facts], x: &[usize], parts: &[List<usize>], a: usize) -> bool
+    requires store { All (AreFacts table.now.rows.now (length table.now.columns.now) table.now.support) store.now }
+    requires parts { parts.now ≡ proper_parts x.now }
+    requires a { a < length table.now.columns.now }
+    ensures { result ≡ true → is_given table.now.rows.now x.now a ≡ true }
+{
+    if x.contains(&a) {
+        return true;
+    }
+    is_determined(table, store, parts, a)
+}
+
+// Whether it is known that one of some left sides determines the attribute.
+fn is_determined(table: &Table, store: &[Facts], parts: &[List<usize>], a: usize) -> bool
+    requires store { All (AreFacts table.now.rows.now (length table.now.columns.now) table.now.support) store.now }
+    requires a { a < length table.now.columns.now }
+    ensures { result ≡ true → list_any (λ part. determines table.now.rows.now part a) parts.now ≡ true }
+{
+    for k in 0..parts.len() {
+        if is_known(table, store, parts[k].as_slice(), a) {
+            return true;
+        }
+    }
+    false
+}
+
+fn is_known(table: &Table, store: &[Facts], part: &[usize], a: usize) -> bool
+    requires store { All (AreFacts table.now.rows.now (length table.now.columns.now) table.now.support) store.now }
+    requires a { a < length table.now.columns.now }
+    ensures { result ≡ true → determines table.now.rows.now part.now a ≡ true }
+{
+    match position(store, part) {
+        None => false,
+        Some(place) => is_known_at(table, store, part, a, place),
+    }
+}
+
+fn is_known_at(table: &Table, store: &[Facts], part: &[usize], a: usize, place: usize) -> bool
+    requires store { All (AreFacts table.now.rows.now (length table.now.columns.now) table.now.support) store.now }
+    requires a { a < length table.now.columns.now }
+    requires place { StandsAt store.now place part.now }
+    ensures { result ≡ true → determines table.now.rows.now part.now a ≡ true }
+{
+    is_all_at(store, a, place)
+}
+
+/// The facts of such a left side: it determines each attribute.
+pub fn closed_facts(alloc: Global, table: &Table, x: &[usize]) -> Result<Facts, AllocError>
+    requires { IsClosed table.now.rows.now (length table.now.columns.now) x.now }
+    ensures { IfOk result (AreFacts table.now.rows.now (length table.now.columns.now) table.now.support) }
+{
+    let mut settled = List::new(alloc);
+    for a in 0..table.columns.len() {
+        settled.push(settled_all(alloc, table, x, a))?;
+    }
+    Ok(Facts {
+        x: List::from(Vec::from_slice(alloc, x)?),
+        settled,
+    })
+}
+
+// All rows settle it.
+fn settled_all(alloc: Global, table: &Table, x: &[usize], a: usize) -> Settled
+    requires closed { IsClosed table.now.rows.now (length table.now.columns.now) x.now }
+    requires a { a < length table.now.columns.now }
+    ensures { IsSettled table.now.rows.now table.now.support x.now a result }
+{
+    Settled {
+        all: true,
+        flags: List::new(alloc),
+    }
 }

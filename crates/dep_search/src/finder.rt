@@ -2,16 +2,16 @@
 ghost use Rattle.std.specs.Prelude.{◌≡◌, ◌≤◌, ◌<◌, ◌++◌, ◌∷◌, [], ℕ, List, length, All, IfErr, IfOk, OnOk, true, nat_le, slice_index_or};
 ghost use Rattle.std.specs.List.{list_all};
 ghost use Rattle.dep_search.specs.Rows.{Row, row_at};
-ghost use Rattle.dep_search.specs.Found.{all_found, constant_at, constants_at, found_at, found_on, has_support, is_constant, is_first, is_plain, is_short, plain_at};
+ghost use Rattle.dep_search.specs.Found.{all_found, constant_at, constants_at, found_at, found_on, has_support, is_constant, is_first, is_plain, is_short, plain_at, proper_parts};
 ghost use Rattle.dep_search.specs.Keys.{IsCandidate};
-ghost use Rattle.dep_search.specs.Settled.{IsGrouped, IsSettled, IsTable};
+ghost use Rattle.dep_search.specs.Settled.{AreFacts, IsGrouped, IsSettled, IsTable};
 ghost use Rattle.dep_search.specs.Sides.{IsPast, IsSide};
 ghost use Rattle.dep_search.specs.declared.candidate.Candidate.{Candidate};
 ghost use Rattle.dep_search.specs.declared.finder.FindFault.TheVariants.{TooMany};
 
 use crate::candidate::Candidate;
 use crate::columns::columns;
-use crate::facts::{Facts, is_any_all, is_any_said, places, settled_at};
+use crate::facts::{Facts, closed_facts, is_any_all, is_any_said, is_closed, places, settled_at};
 use crate::grouped::{Grouped, grouped_by, leads, with_attr};
 use crate::parts::proper_parts;
 use crate::settled::Settled;
@@ -22,6 +22,10 @@ use text_lists::{List, Texts};
 
 /// The most bytes of a constant.
 const LONGEST_CONSTANT: usize = 1024;
+
+/// Of how many left sides the facts are kept before they are asked for. More would take much memory where a table has many
+/// attributes.
+const MOST_KEPT: usize = 256;
 
 #[tactic(auto, using(std::proofs::lemmas::List::Folds::list_all_at, std::proofs::lemmas::List::Folds::list_all_more, std::proofs::lemmas::List::take_all))]
 fn is_short(row: &Texts, attrs: &[usize]) -> bool
@@ -155,15 +159,16 @@ fn push_constants(
 
 #[tactic(auto, unfolding(crate::specs::Found::found_at))]
 fn push_found_at(
-    alloc: Global,
     found: &mut List<Candidate>,
     table: &Table,
     store: &[Facts],
     side: &Side,
     a: usize,
+    settled: &Settled,
 ) -> Result<(), AllocError>
     requires side { IsSide table.now store.now side.now }
     requires a { a < length table.now.columns.now }
+    requires settled { IsSettled table.now.rows.now table.now.support side.now.grouped.now.x a settled.now }
     ensures { OnOk result (found.new ≡ found.old ++ found_at table.now.rows.now table.now.support side.now.number side.now.grouped.now.x a) }
 {
     if side.grouped.x.as_slice().contains(&a) {
@@ -172,9 +177,8 @@ fn push_found_at(
     if is_any_all(store, side.places, a) {
         return Ok(());
     }
-    let settled = settled_at(alloc, table, side.grouped, side.leads, a)?;
-    push_plain(found, side, a, &settled)?;
-    push_constants(found, table, store, side, a, &settled)
+    push_plain(found, side, a, settled)?;
+    push_constants(found, table, store, side, a, settled)
 }
 
 /// Why nothing is given: more were found than asked for, or memory ran out.
@@ -198,26 +202,65 @@ impl From<AllocError> for FindFault {
 // What is found of a left side, for each attribute. One more than the limit ends it.
 #[tactic(auto, unfolding(crate::specs::Found::found_on))]
 fn push_found_on(
-    alloc: Global,
     found: &mut List<Candidate>,
     table: &Table,
     store: &[Facts],
     side: &Side,
+    facts: &Facts,
     most: usize,
 ) -> Result<(), FindFault>
     requires side { IsSide table.now store.now side.now }
+    requires x { facts.now.x ≡ side.now.grouped.now.x }
+    requires facts { AreFacts table.now.rows.now (length table.now.columns.now) table.now.support facts.now }
     requires few { length found.old ≤ most }
     ensures ok { OnOk result (found.new ≡ found.old ++ found_on table.now.rows.now table.now.support (length table.now.columns.now) side.now.number side.now.grouped.now.x) }
     ensures few { OnOk result (length found.new ≤ most) }
     ensures many { IfErr result (λ fault. fault ≡ TooMany → most < length (found.old ++ found_on table.now.rows.now table.now.support (length table.now.columns.now) side.now.number side.now.grouped.now.x)) }
 {
+    let known = facts.settled.as_slice();
     for a in 0..table.columns.len() {
-        push_found_at(alloc, found, table, store, side, a)?;
+        push_found_at(found, table, store, side, a, &known[a])?;
         if found.as_slice().len() > most {
             return Err(FindFault::TooMany);
         }
     }
     Ok(())
+}
+
+// The facts of a left side. What a part determines isn't asked again.
+fn facts_on(alloc: Global, table: &Table, store: &[Facts], side: &Side) -> Result<Facts, AllocError>
+    requires { IsSide table.now store.now side.now }
+    ensures x { IfOk result (λ facts. facts.x ≡ side.now.grouped.now.x) }
+    ensures facts { IfOk result (AreFacts table.now.rows.now (length table.now.columns.now) table.now.support) }
+{
+    let mut settled = List::new(alloc);
+    for a in 0..table.columns.len() {
+        settled.push(settled_on(alloc, table, store, side, a)?)?;
+    }
+    Ok(Facts {
+        x: List::from(Vec::from_slice(alloc, side.grouped.x.as_slice())?),
+        settled,
+    })
+}
+
+fn settled_on(
+    alloc: Global,
+    table: &Table,
+    store: &[Facts],
+    side: &Side,
+    a: usize,
+) -> Result<Settled, AllocError>
+    requires side { IsSide table.now store.now side.now }
+    requires a { a < length table.now.columns.now }
+    ensures { IfOk result (IsSettled table.now.rows.now table.now.support side.now.grouped.now.x a) }
+{
+    if is_any_all(store, side.places, a) {
+        return Ok(Settled {
+            all: true,
+            flags: List::new(alloc),
+        });
+    }
+    settled_at(alloc, table, side.grouped, side.leads, a)
 }
 
 // The rows by a left side. They come from those by all but its last attribute, which are kept for the next left side.
@@ -245,13 +288,64 @@ fn grouped_next(
     }
 }
 
-/// What was gone through: the rows by the front of the last left side, and the facts of parts.
+/// What was gone through: the rows by the front of the last left side, and the facts of parts, which have fewer attributes
+/// than the widest left side.
 #[derive(Drop)]
 pub struct Past {
     pub front: Grouped,
     pub store: List<Facts>,
+    pub width: usize,
 }
 
+// Keeps the facts of a left side that may be a part of later ones, while there is room.
+fn keep(table: &Table, past: &mut Past, facts: Facts) -> Result<(), AllocError>
+    requires past { IsPast table.now past.old }
+    requires facts { AreFacts table.now.rows.now (length table.now.columns.now) table.now.support facts }
+    ensures { OnOk result (IsPast table.now past.new) }
+{
+    if facts.x.as_slice().len() < past.width && past.store.as_slice().len() < MOST_KEPT {
+        past.store.push(facts)?;
+    }
+    Ok(())
+}
+
+// What is found of a left side on which something may be found.
+fn push_open(
+    alloc: Global,
+    found: &mut List<Candidate>,
+    table: &Table,
+    past: &mut Past,
+    number: usize,
+    x: &[usize],
+    parts: &[List<usize>],
+    most: usize,
+) -> Result<(), FindFault>
+    requires table { IsTable table.now }
+    requires past { IsPast table.now past.old }
+    requires x { All (λ attr. attr < length table.now.columns.now) x.now }
+    requires parts { parts.now ≡ proper_parts x.now }
+    requires few { length found.old ≤ most }
+    ensures past { OnOk result (IsPast table.now past.new) }
+    ensures ok { OnOk result (found.new ≡ found.old ++ found_on table.now.rows.now table.now.support (length table.now.columns.now) number x.now) }
+    ensures few { OnOk result (length found.new ≤ most) }
+    ensures many { IfErr result (λ fault. fault ≡ TooMany → most < length (found.old ++ found_on table.now.rows.now table.now.support (length table.now.columns.now) number x.now)) }
+{
+    let places = places(alloc, table, &mut past.store, parts)?;
+    let grouped = grouped_next(alloc, table, &mut past.front, x)?;
+    let leads = leads(alloc, table, &grouped)?;
+    let side = Side {
+        number,
+        grouped: &grouped,
+        leads: leads.as_slice(),
+        places: places.as_slice(),
+    };
+    let facts = facts_on(alloc, table, past.store.as_slice(), &side)?;
+    push_found_on(found, table, past.store.as_slice(), &side, &facts, most)?;
+    Ok(keep(table, past, facts)?)
+}
+
+// What is found of a left side. None of it is asked of the rows where its parts determine all.
+#[tactic(auto, using(crate::proofs::Closed::nothing_on, crate::proofs::Known::append_none))]
 fn push_side(
     alloc: Global,
     found: &mut List<Candidate>,
@@ -271,16 +365,19 @@ fn push_side(
     ensures many { IfErr result (λ fault. fault ≡ TooMany → most < length (found.old ++ found_on table.now.rows.now table.now.support (length table.now.columns.now) number x.now)) }
 {
     let parts = proper_parts(alloc, x)?;
-    let places = places(alloc, table, &mut past.store, parts.as_slice())?;
-    let grouped = grouped_next(alloc, table, &mut past.front, x)?;
-    let leads = leads(alloc, table, &grouped)?;
-    let side = Side {
-        number,
-        grouped: &grouped,
-        leads: leads.as_slice(),
-        places: places.as_slice(),
-    };
-    push_found_on(alloc, found, table, past.store.as_slice(), &side, most)
+    if is_closed(table, past.store.as_slice(), x, parts.as_slice()) {
+        let facts = closed_facts(alloc, table, x)?;
+        return Ok(keep(table, past, facts)?);
+    }
+    push_open(alloc, found, table, past, number, x, parts.as_slice(), most)
+}
+
+// How many attributes the last left side has.
+fn width(sides: &[List<usize>]) -> usize {
+    match sides.last() {
+        None => 0,
+        Some(side) => side.as_slice().len(),
+    }
 }
 
 /// All that are found, if they are not too many.
@@ -310,6 +407,7 @@ pub fn all_found(
     let mut past = Past {
         front: grouped_by(alloc, &table, &[])?,
         store: List::new(alloc),
+        width: width(sides),
     };
     let mut found = List::new(alloc);
     for number in 0..sides.len() {

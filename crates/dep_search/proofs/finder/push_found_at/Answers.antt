@@ -27,7 +27,7 @@ returns c =
     let constants = constants_at table.rows.now table.support side.number x c.args.a in
     let parts = parts_determine table.rows.now (length table.columns.now) table.support c.args.store.now c.args.a side.places.now (proper_parts x)
     c.requires.side.facts c.requires.a c.requires.side.places in
-    let test = plain_test table.rows.now x c.args.a c.in_ok-settled.settled.all c.is_any_all.result c.in_ok-settled.ensures.all (c.is_any_all.ensures ∙ parts) c.if-is_any_all.false in
+    let test = plain_test table.rows.now x c.args.a c.args.settled.now.all c.is_any_all.result c.requires.settled.all (c.is_any_all.ensures ∙ parts) c.if-is_any_all.false in
     let pushed : c.push_plain.new.found ≡ c.args.found.now ++ plain = c.in_ok-push_plain.ensures table.rows.now test in
     let outside : list_any (nat_eq c.args.a) x ≡ false =
     sym (any_flipped c.args.a x) ∙ sym (ap (list_any (λ y. nat_eq y c.args.a)) c.as_slice.ensures) ∙ sym c.contains.ensures.value ∙ c.if-contains.false in

@@ -2,7 +2,7 @@ use Rattle.std.proofs.Common.{◌≡◌, ℕ, ◌<◌, length}
 use Rattle.std.specs.Prelude.{slice_index}
 use Rattle.dep_search.specs.Leaders.{IsFirstPair}
 use Rattle.dep_search.specs.Classes.{AreMarks}
-use Rattle.dep_search.proofs.classes.first_pairs.Given as goal
+use Rattle.dep_search.proofs.classes.first_in_classes.Given as goal
 
 abbrev pub invariant-loop-first : goal.invariant-loop-first
 invariant-loop-first l = record {

@@ -2,7 +2,7 @@ use Rattle.std.proofs.Common.{◌≡◌, ◌∙◌, sym, subst, arith, ⊎_elim}
 use Rattle.std.specs.Prelude.{slice_index}
 use Rattle.std.proofs.lemmas.Bool.{cases_eq}
 use Rattle.dep_search.specs.Leaders.{IsFirstPair}
-use Rattle.dep_search.proofs.classes.first_pairs.Goals as goal
+use Rattle.dep_search.proofs.classes.first_in_classes.Goals as goal
 
 pub loop-first-preserved : goal.loop-first-preserved
 loop-first-preserved c = record {
