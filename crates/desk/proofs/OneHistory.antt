@@ -1,6 +1,6 @@
 -- An event is refused, or one edit leads on.
-use Rattle.std.proofs.Common.{◌≡◌, ℕ, ◌+◌, List, [], ◌∷◌, ◌++◌, length, Bool, true, false, if◌then◌else◌, Option, None, Some, Result, Ok, Err, refl, sym, ap, subst, ◌∙◌, nat_le, arith, length-append}
-use Rattle.std.specs.Prelude.{◌==◌, slice_get}
+use Rattle.std.proofs.Common.{◌≡◌, ℕ, List, [], ◌∷◌, ◌++◌, length, Bool, true, false, if◌then◌else◌, Option, None, Some, Ok, Err, refl, subst, nat_le, arith, length-append}
+use Rattle.std.specs.Prelude.{◌==◌}
 use Rattle.text_lists.specs.declared.limits.Limits.{Limits}
 use Rattle.rule_model.specs.Books.{Book}
 use Rattle.edit_log.specs.declared.edit.Edit.{Edit}
@@ -8,12 +8,11 @@ use Rattle.edit_log.specs.declared.edit.Edit.TheVariants as edit
 use Rattle.bench_core.specs.Edited.{Step}
 use Rattle.bench_core.specs.History.{History, history_edited}
 use Rattle.bench_core.specs.declared.edit.Applied.{Applied}
-use Rattle.bench_core.specs.declared.edit.EditFault.{EditFault}
 use Rattle.desk_entries.specs.Entries.{Entry, entry_at, is_overtaken, last_live, version_of}
 use Rattle.desk_events.specs.declared.event.Act.{Act}
 use Rattle.desk_events.specs.declared.event.Act.TheVariants as act
 use Rattle.desk_events.specs.declared.event.Event.{Event}
-use Rattle.desk_state.specs.Desk.{Answer, DeskModel, IsAnswer, act_answer, answered, edit_answer, edit_seen, look_answer, made, opposite, row_named, take_back, take_last_back}
+use Rattle.desk_state.specs.Desk.{Answer, DeskModel, IsAnswer, act_answer, edit_answer, edit_seen, look_answer, made, opposite, row_named, take_back}
 use Rattle.desk_state.specs.declared.reply.Reply.{Reply}
 use Rattle.desk_state.specs.declared.reply.Reply.TheVariants as reply
 use Rattle.desk.specs.OneHistory.{AreOneHistory, Lead}

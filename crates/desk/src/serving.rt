@@ -6,6 +6,7 @@ ghost use Rattle.shelf_io.specs.Transcript.{Answers, AnswersFront};
 ghost use Rattle.desk.specs.DeskReplies.{IsCountedReply, IsReply};
 ghost use Rattle.desk.specs.OneHistory.{AreOneHistory};
 ghost use Rattle.desk.specs.declared.serving.DeskFault.TheVariants as desk_fault;
+ghost use Rattle.desk_state.specs.LeftTexts.{AreAsLeft, IsReached};
 ghost use Rattle.desk_state.specs.Probes.{IsWithin};
 
 use crate::reply::push_reply;
@@ -54,6 +55,10 @@ pub fn serve_desk<O: Sink, L: Ledger>(
     // Whoever made them and wherever the answers end: the accepted edits are those of one history.
     ensures one_history { AreOneHistory desk.old desk.new }
     ensures made_with { (desk.new.rules ≡ desk.old.rules) × (desk.new.limits ≡ desk.old.limits) × (desk.new.last ≡ desk.old.last) }
+
+    // The rows of a desk that began without an entry are as the last live entries on them left them.
+    ensures reached { IsReached desk.old → IsReached desk.new }
+    ensures as_left { IsReached desk.old → AreAsLeft desk.new }
     ensures write_fault { result ≡ Err DeskFault.WriteFault → Rose (O.told out.old).faults (O.told out.new).faults }
     ensures faults { (O.told out.old).faults ≤ (O.told out.new).faults }
 {
@@ -76,6 +81,7 @@ fn answer_one<O: Sink, L: Ledger>(
     ensures fault { OnErr result (AnswersFront IsReply desk.old (event.now ∷ []) desk.new (O.told out.old).written (O.told out.new).written) }
     ensures one_history { AreOneHistory desk.old desk.new }
     ensures made_with { (desk.new.rules ≡ desk.old.rules) × (desk.new.limits ≡ desk.old.limits) × (desk.new.last ≡ desk.old.last) }
+    ensures reached { IsReached desk.old → IsReached desk.new }
     ensures probes { IsWithin desk.old event.now.editor event.now.act steps.old steps.new }
     ensures write_fault { result ≡ Err DeskFault.WriteFault → Rose (O.told out.old).faults (O.told out.new).faults }
     ensures faults { (O.told out.old).faults ≤ (O.told out.new).faults }
@@ -102,6 +108,7 @@ fn answer<L: Ledger>(
     ensures memory { OnErr result ((written : Option (List ℕ)) → AnswersFront IsReply desk.old (event.now ∷ []) desk.new written written) }
     ensures one_history { AreOneHistory desk.old desk.new }
     ensures made_with { (desk.new.rules ≡ desk.old.rules) × (desk.new.limits ≡ desk.old.limits) × (desk.new.last ≡ desk.old.last) }
+    ensures reached { IsReached desk.old → IsReached desk.new }
     ensures probes { IsWithin desk.old event.now.editor event.now.act steps.old steps.new }
 {
     let told = desk.answer(event, steps)?;

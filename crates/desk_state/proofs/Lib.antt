@@ -1,2 +1,7 @@
 pub mod RowFound
 pub mod TakenBack
+pub mod LastLive
+pub mod Standing
+pub mod RowsEdited
+pub mod EntryMade
+pub mod DeskStands

@@ -6,6 +6,7 @@ ghost use Rattle.bench_core.specs.Indexed.{edit_probes};
 ghost use Rattle.desk_entries.specs.Entries.{entry_at, last_live};
 ghost use Rattle.desk_entries.specs.Kept.{MayTake};
 ghost use Rattle.desk_state.specs.Desk.{AreTold, IsAnswer, act_answer, edit_answer, edit_seen, look_answer, row_named, take_last_back};
+ghost use Rattle.desk_state.specs.LeftTexts.{AreAsLeft, IsReached};
 ghost use Rattle.desk_state.specs.Probes.{IsWithin, back_probes};
 
 use crate::making::{new_entry, opposite, row_of_edit};
@@ -51,7 +52,9 @@ impl Desk {
         ensures bench { (result.rules ≡ bench.rules) × (result.limits ≡ bench.limits) × (result.history ≡ bench.history) }
         ensures last { result.last ≡ last }
         ensures no_entries { result.entries ≡ [] }
+        ensures reached { IsReached result }
     {
+        let _valid = bench.rules();
         Desk {
             alloc,
             bench,
@@ -74,6 +77,10 @@ impl Desk {
 
         // A refusal tells what is wrong with the edit, and the lines are those of rules that are there.
         ensures told { IfOk result (AreTold self.new.rules) }
+
+        // A row that is there has the texts that the last live entry on it left, or else those that it came with.
+        ensures reached { IsReached self.old → IsReached self.new }
+        ensures as_left { IsReached self.old → AreAsLeft self.new }
     {
         let reply = self.reply(&event.editor, &event.act, steps);
         let _valid = self.bench.rules();

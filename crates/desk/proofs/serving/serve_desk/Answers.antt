@@ -1,9 +1,10 @@
-use Rattle.std.proofs.Common.{[], ◌∷◌, Ok, Err, OnErr, refl, arith, ◌∙◌}
+use Rattle.std.proofs.Common.{Ok, Err, OnErr, refl, arith, ◌∙◌}
 use Rattle.shelf_io.specs.Transcript.{AnswersFront}
 use Rattle.shelf_io.proofs.Transcripts.{answers-cut, answers-more, answers-none}
 use Rattle.desk.specs.DeskReplies.{IsCountedReply, IsReply}
 use Rattle.desk.proofs.CountedReplies.{counted-one}
 use Rattle.desk.proofs.OneHistory.{made_on, none_made}
+use Rattle.desk_state.proofs.DeskStands.{reached-as_left}
 use Rattle.desk.proofs.serving.serve_desk.Goals as goal
 
 pub loop-event-init : goal.loop-event-init
@@ -11,6 +12,7 @@ loop-event-init g c = record {
   answered = answers-none IsReply c.args.desk.now c.args.events.now (g.O.Sink.told c.args.out.now).written;
   counted = answers-none IsCountedReply (c.args.desk.now, c.args.steps.now) c.args.events.now (g.O.Sink.told c.args.out.now).written;
   history = none_made c.args.desk.now;
+  reached = λ reached. reached;
   rules = refl;
   limits = refl;
   last = refl;
@@ -30,6 +32,7 @@ loop-event-preserved g c =
     record {
       answered = answers-more IsReply start c.loop-event.desk c.answer_one.new.desk c.args.events.now c.loop-event.event-index c.event-item.result _ between now here item so_far.answered next;
       counted = answers-more IsCountedReply (start, c.args.steps.now) (c.loop-event.desk, c.loop-event.steps) (c.answer_one.new.desk, c.answer_one.new.steps) c.args.events.now c.loop-event.event-index c.event-item.result _ between now here item so_far.counted counted;
+      reached = λ reached. c.answer_one.ensures.reached (so_far.reached reached);
       history = made_on start c.loop-event.desk c.answer_one.new.desk so_far.rules so_far.limits so_far.history c.answer_one.ensures.one_history;
       rules = c.answer_one.ensures.made_with.0 ∙ so_far.rules;
       limits = c.answer_one.ensures.made_with.1 ∙ so_far.limits;
@@ -52,3 +55,12 @@ pub returns-in_err-answer_one-clause-one_history : goal.returns-in_err-answer_on
 returns-in_err-answer_one-clause-one_history g c =
     let so_far = c.loop-event.invariant in
     made_on c.args.desk.now c.loop-event.desk c.answer_one.new.desk so_far.rules so_far.limits so_far.history c.answer_one.ensures.one_history
+
+pub returns-in_err-answer_one-clause-reached : goal.returns-in_err-answer_one-clause-reached
+returns-in_err-answer_one-clause-reached g c reached = c.answer_one.ensures.reached (c.loop-event.invariant.reached reached)
+
+pub returns-in_err-answer_one-clause-as_left : goal.returns-in_err-answer_one-clause-as_left
+returns-in_err-answer_one-clause-as_left g c reached = reached-as_left c.answer_one.new.desk (c.answer_one.ensures.reached (c.loop-event.invariant.reached reached))
+
+pub returns-clause-as_left : goal.returns-clause-as_left
+returns-clause-as_left g c reached = reached-as_left c.loop-event.desk (c.loop-event.invariant.reached reached)
