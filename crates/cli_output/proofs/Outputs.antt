@@ -1,6 +1,7 @@
 -- What was written is an output of what was asked for.
-use Rattle.std.proofs.Common.{◌≡◌, ℕ, List, Option, None, Some, Ok, Err, IfSome, inl, inr, refl, ap, sym, subst}
+use Rattle.std.proofs.Common.{◌≡◌, ℕ, ◌≤◌, List, Option, None, Some, Ok, Err, IfSome, inl, inr, refl, ap, sym, subst, arith, ◌∙◌}
 use Rattle.shelf_io.specs.Files.{Files}
+use Rattle.shelf_io.specs.Shelf.{ShelfTold}
 use Rattle.shelf_io.specs.Sink.{SinkTold}
 use Rattle.shelf_io.proofs.Transcripts.{Appends-wider, FrontOf-wider}
 use Rattle.text_lists.specs.declared.limits.Limits.{Limits}
@@ -8,8 +9,8 @@ use Rattle.cli_output.specs.declared.fetching.Stop.{Stop}
 use Rattle.cli_output.specs.declared.fetching.Stop.TheVariants as stop
 use Rattle.cli_output.specs.declared.status.Status.{Status}
 use Rattle.cli_output.specs.declared.status.Status.TheVariants.{Clean, Findings, Usage, Refused, ReadFault, WriteFault, Memory, Spent}
-use Rattle.cli_output.specs.Fetching.{Fetching, OrRefusal, refusal_in}
-use Rattle.cli_output.specs.Output.{Ends, EndsBy, MayFind, Only, Output, Outputs, Task, Writes, with_any_status}
+use Rattle.cli_output.specs.Fetching.{Fetches, Fetching, OrRefusal, refusal_in}
+use Rattle.cli_output.specs.Output.{Ends, EndsBy, MayFind, Only, Output, Outputs, Task, UsesDevices, Writes, with_any_status}
 use Rattle.cli_output.specs.Refusals.{refusal_line}
 
 -- what is written of some outputs is written of more
@@ -52,4 +53,29 @@ Ends-wider some more wider status sink sink_after ends = record {
   writes = Writes-wider some more wider status sink.written sink_after.written ends.writes;
   no_read_fault = ends.no_read_fault;
   write_fault = ends.write_fault;
+}
+
+-- where files weren't read to the end, the devices were used as they may be
+pub uses-stopped : {X : Type 0} (limits : Limits) (task : Task) (view : X → task.Found) (why : Stop) (status : Status) (shelf shelf_after : ShelfTold) (sink sink_after : SinkTold) (left : ℕ) → 1 ≤ task.most_fetches
+    → Fetches task.fetching view task.most_fetches (Err why) shelf shelf_after limits.all_bytes left → EndsBy why status sink sink_after → UsesDevices limits task status shelf shelf_after sink sink_after
+uses-stopped limits task view (stop.Refused refusal) status shelf shelf_after sink sink_after left some f ends = record {
+  fetches = f.fetches;
+  told_fetches = f.told_fetches;
+  no_fetch = λ none. absurd (omega (arith, some, none));
+  read_fault = λ is. absurd (ends.no_read_fault is);
+  write_fault = ends.write_fault;
+}
+uses-stopped limits task view stop.ReadFault status shelf shelf_after sink sink_after left some f ends = record {
+  fetches = f.fetches;
+  told_fetches = f.told_fetches;
+  no_fetch = λ none. absurd (omega (arith, some, none));
+  read_fault = λ is. f.read_fault tt;
+  write_fault = λ is. let other : ReadFault ≡ WriteFault = sym ends.0 ∙ is in absurd (cc);
+}
+uses-stopped limits task view stop.Memory status shelf shelf_after sink sink_after left some f ends = record {
+  fetches = f.fetches;
+  told_fetches = f.told_fetches;
+  no_fetch = λ none. absurd (omega (arith, some, none));
+  read_fault = λ is. let other : Memory ≡ ReadFault = sym ends.0 ∙ is in absurd (cc);
+  write_fault = λ is. let other : Memory ≡ WriteFault = sym ends.0 ∙ is in absurd (cc);
 }

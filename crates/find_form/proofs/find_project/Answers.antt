@@ -1,4 +1,5 @@
-use Rattle.cli_output.proofs.Outputs.{output-found, output-stopped}
+use Rattle.std.proofs.Common.{arith}
+use Rattle.cli_output.proofs.Outputs.{output-found, output-stopped, uses-stopped}
 use Rattle.find_form.specs.FindForm.{find_task}
 use Rattle.find_form.proofs.find_project.Goals as goal
 
@@ -13,3 +14,9 @@ returns-in-Err-clause-written g c =
     let limits = c.args.limits.now in
     output-stopped limits (find_task limits c.args.project.now c.args.table.now c.args.width c.args.support) (g.S.Shelf.told c.args.shelf.now).holding c.in-Err.stop c.in-Err.ensures.asked.gives
     c.end_by.result (g.O.Sink.told c.args.out.now) (g.O.Sink.told c.end_by.new.out) c.end_by.ensures
+
+pub returns-in-Err-clause-devices : goal.returns-in-Err-clause-devices
+returns-in-Err-clause-devices g c =
+    let limits = c.args.limits.now in
+    uses-stopped limits (find_task limits c.args.project.now c.args.table.now c.args.width c.args.support) _ c.in-Err.stop c.end_by.result (g.S.Shelf.told c.args.shelf.now) (g.S.Shelf.told c.fetch_asked.new.shelf) (g.O.Sink.told c.args.out.now) (g.O.Sink.told c.end_by.new.out) c.fetch_asked.new.left (omega arith)
+    c.in-Err.ensures.asked c.end_by.ensures

@@ -1,6 +1,7 @@
+use Rattle.std.proofs.Common.{arith}
 use Rattle.project_forms.specs.ReportForm.{report_task}
 use Rattle.project_forms.specs.Project.{read_of}
-use Rattle.cli_output.proofs.Outputs.{output-found, output-stopped}
+use Rattle.cli_output.proofs.Outputs.{output-found, output-stopped, uses-stopped}
 use Rattle.project_forms.proofs.report_form.report_project.Goals as goal
 
 pub returns-in-Ok-clause-written : goal.returns-in-Ok-clause-written
@@ -14,3 +15,9 @@ returns-in-Err-clause-written g c =
     let limits = c.args.limits.now in
     output-stopped limits (report_task limits c.args.project.now) (g.S.Shelf.told c.args.shelf.now).holding c.in-Err.stop c.in-Err.ensures.fetches.gives
     c.end_by.result (g.O.Sink.told c.args.out.now) (g.O.Sink.told c.end_by.new.out) c.end_by.ensures
+
+pub returns-in-Err-clause-devices : goal.returns-in-Err-clause-devices
+returns-in-Err-clause-devices g c =
+    let limits = c.args.limits.now in
+    uses-stopped limits (report_task limits c.args.project.now) _ c.in-Err.stop c.end_by.result (g.S.Shelf.told c.args.shelf.now) (g.S.Shelf.told c.fetch_project.new.shelf) (g.O.Sink.told c.args.out.now) (g.O.Sink.told c.end_by.new.out) c.fetch_project.new.left (omega arith)
+    c.in-Err.ensures.fetches c.end_by.ensures

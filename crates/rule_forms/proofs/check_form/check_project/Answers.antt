@@ -1,5 +1,6 @@
+use Rattle.std.proofs.Common.{arith}
 use Rattle.rule_forms.specs.CheckForm.{check_task}
-use Rattle.cli_output.proofs.Outputs.{output-found, output-stopped}
+use Rattle.cli_output.proofs.Outputs.{output-found, output-stopped, uses-stopped}
 use Rattle.rule_forms.proofs.check_form.check_project.Goals as goal
 
 pub returns-in-Ok-clause-written : goal.returns-in-Ok-clause-written
@@ -13,3 +14,9 @@ returns-in-Err-clause-written g c =
     let limits = c.args.limits.now in
     output-stopped limits (check_task limits c.args.project.now c.args.name.now) (g.S.Shelf.told c.args.shelf.now).holding c.in-Err.stop c.in-Err.ensures.gives
     c.end_by.result (g.O.Sink.told c.args.out.now) (g.O.Sink.told c.end_by.new.out) c.end_by.ensures
+
+pub returns-in-Err-clause-devices : goal.returns-in-Err-clause-devices
+returns-in-Err-clause-devices g c =
+    let limits = c.args.limits.now in
+    uses-stopped limits (check_task limits c.args.project.now c.args.name.now) _ c.in-Err.stop c.end_by.result (g.S.Shelf.told c.args.shelf.now) (g.S.Shelf.told c.fetch_given.new.shelf) (g.O.Sink.told c.args.out.now) (g.O.Sink.told c.end_by.new.out) c.fetch_given.new.left (omega arith)
+    c.in-Err.ensures c.end_by.ensures
