@@ -5,7 +5,7 @@ use Rattle.std.specs.List.{AllZip}
 use Rattle.text_lists.specs.declared.limits.Limits.{Limits}
 use Rattle.text_lists.specs.declared.limits.Limit.TheVariants as limit
 use Rattle.text_lists.specs.Firsts.{first_of}
-use Rattle.line_grammar.specs.Faults.{Causes, Reading, ◌>>=◌}
+use Rattle.line_grammar.specs.Faults.{Reading, ◌>>=◌}
 use Rattle.line_grammar.specs.FileLines.{begins_with, content_begins, file_lines, found_at, no_lines, read_content, read_line}
 use Rattle.line_grammar.specs.Groups.{Cut, cut, in_front, in_turn, read_cut, read_groups}
 use Rattle.line_grammar.specs.TokenLists.{none_after}

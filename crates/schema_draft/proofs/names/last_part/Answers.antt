@@ -1,4 +1,4 @@
-use Rattle.std.proofs.Common.{◌≡◌, ◌-◌, length, take, drop, ◌∙◌, arith, length-drop}
+use Rattle.std.proofs.Common.{◌-◌, length, drop, ◌∙◌, arith, length-drop}
 use Rattle.std.proofs.lemmas.List.{take_all}
 use Rattle.schema_draft.proofs.Steps.{after_last-from}
 use Rattle.schema_draft.proofs.names.last_part.Goals as goal
