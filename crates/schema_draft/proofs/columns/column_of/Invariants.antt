@@ -1,0 +1,6 @@
+use Rattle.std.proofs.Common.{◌≡◌, take}
+use Rattle.schema_draft.specs.Columns.{column_of}
+use Rattle.schema_draft.proofs.columns.column_of.Given as goal
+
+abbrev pub invariant-loop-row : goal.invariant-loop-row
+invariant-loop-row l = l.values ≡ column_of (take l.row-index l.rows) l.place

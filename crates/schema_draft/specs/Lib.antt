@@ -1,0 +1,4 @@
+pub mod Sheets
+pub mod Columns
+pub mod Drafts
+pub mod DraftSchemas

@@ -1,0 +1,6 @@
+use Rattle.std.proofs.Common.{◌≡◌, ◌+◌, ◌++◌, drop}
+use Rattle.table_flaws.specs.Flaws.{is_long, passing}
+use Rattle.table_flaws.proofs.columns.long_rows.Given as goal
+
+abbrev pub invariant-loop-place : goal.invariant-loop-place
+invariant-loop-place l = l.rows ++ passing is_long (l.place + 1) (drop l.place l.values) ≡ passing is_long 1 l.values

@@ -1,0 +1,96 @@
+//! Odd values of one column.
+
+ghost use Rattle.std.specs.Prelude.{◌≡◌, ◌==◌, ◌&&◌, ℕ, List, [], IfOk, length, count_by, not, slice_index_or};
+ghost use Rattle.std.specs.HashSet.{contains_by};
+ghost use Rattle.std.specs.Str.{bytes_eq};
+ghost use Rattle.text_lists.specs.Repeats.{is_among};
+ghost use Rattle.table_flaws.specs.Flaws.{column_of, is_long, long_rows, spaced_rows, trimmed};
+
+use schema_core::{List, Text, Texts};
+use std::alloc::{AllocError, Global};
+use std::collections::HashSet;
+
+/// How many lines a cell may have, and not be told.
+pub const MOST_LINES: usize = 10;
+
+/// The values of the column at a place, with an empty one where a row is shorter.
+pub fn column_of(alloc: Global, rows: &[Texts], place: usize) -> Result<Texts, AllocError>
+    ensures { IfOk result (λ values. values ≡ column_of rows.now place) }
+{
+    let mut values = List::new(alloc);
+    for row in rows {
+        values.push(text_at(alloc, row, place)?)?;
+    }
+    Ok(values)
+}
+
+fn text_at(alloc: Global, row: &Texts, place: usize) -> Result<Text, AllocError>
+    ensures { IfOk result (λ text. text ≡ slice_index_or row.now place []) }
+{
+    match row.as_slice().get(place) {
+        Some(text) => text.clone(),
+        None => Text::new(alloc, ""),
+    }
+}
+
+/// The rows, numbered from 1, whose value runs over more than ten lines.
+pub fn long_rows(alloc: Global, values: &[Text]) -> Result<List<usize>, AllocError>
+    ensures { IfOk result (λ rows. rows ≡ long_rows values.now) }
+{
+    let mut rows = List::new(alloc);
+    for (place, value) in values.iter().enumerate() {
+        if is_long(value) {
+            rows.push(place + 1)?;
+        }
+    }
+    Ok(rows)
+}
+
+fn is_long(value: &Text) -> bool
+    ensures { result ≡ is_long value.now }
+{
+    line_feeds(value.as_str().as_bytes()) >= MOST_LINES
+}
+
+fn line_feeds(bytes: &[u8]) -> usize
+    ensures { result ≡ count_by (λ b. b == 10) bytes.now }
+{
+    bytes.iter().filter(|b| **b == b'\n').count()
+}
+
+/// The rows, numbered from 1, whose value has blanks at an end and stands in the column without them, too.
+pub fn spaced_rows(alloc: Global, values: &[Text]) -> Result<List<usize>, AllocError>
+    ensures { IfOk result (λ rows. rows ≡ spaced_rows values.now) }
+{
+    let all = all_of(alloc, values)?;
+    let mut rows = List::new(alloc);
+    for (place, value) in values.iter().enumerate() {
+        if is_spaced(&all, value.as_str()) {
+            rows.push(place + 1)?;
+        }
+    }
+    Ok(rows)
+}
+
+fn is_spaced(all: &HashSet<&str>, value: &str) -> bool
+    ensures { result ≡ (not (bytes_eq (trimmed value.now) value.now) && contains_by (λ key. bytes_eq (trimmed value.now) key.now) all.now) }
+{
+    let without = trimmed(value);
+    without != value && all.contains(without)
+}
+
+fn trimmed(value: &str) -> &str
+    ensures { result.now ≡ trimmed value.now }
+{
+    value.trim_ascii()
+}
+
+fn all_of(alloc: Global, values: &[Text]) -> Result<HashSet<&str>, AllocError>
+    ensures { IfOk result (λ all. (q : List ℕ) → contains_by (λ key. bytes_eq q key.now) all ≡ is_among bytes_eq values.now q) }
+{
+    let mut all = HashSet::new(alloc);
+    for value in values {
+        all.insert(value.as_str())?;
+    }
+    Ok(all)
+}

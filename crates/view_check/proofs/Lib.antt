@@ -1,0 +1,5 @@
+mod SeenSteps
+mod Zips
+mod ItemAt
+mod Parts
+mod Ends

@@ -1,0 +1,14 @@
+use Rattle.std.proofs.Common.{ℕ, List, subst, sym}
+use Rattle.cli_output.specs.declared.status.Status.{Status}
+use Rattle.cli_output.specs.Output.{Only}
+use Rattle.cli_output.proofs.Outputs.{Ends-wider}
+use Rattle.view_check.specs.CheckForm.{IsTold}
+use Rattle.view_check.proofs.answer.tell_whole.Goals as goal
+
+pub returns-in-Ok : goal.returns-in-Ok
+returns-in-Ok g c =
+    let project = c.args.project.now in
+    let told = c.in-Ok.told in
+    Ends-wider (Only c.deref.result.now told.status) (IsTold project)
+    (λ (bytes : List ℕ) (status : Status) o. subst (λ s. IsTold project bytes s) (sym o.1) (subst (λ b. IsTold project b told.status) (sym o.0) (subst (λ b. IsTold project b told.status) (sym c.deref.ensures.value) c.in-Ok.ensures.told)))
+    c.end_with.result (g.O.Sink.told c.args.out.now) (g.O.Sink.told c.end_with.new.out) c.end_with.ensures.ends

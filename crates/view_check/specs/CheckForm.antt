@@ -1,0 +1,160 @@
+-- The form `check PROJECT` of `cfdview`: what is off in a project before anything is asked.
+use Rattle.std.specs.Prelude.{◌≡◌, ℕ, zero, suc, Bool, true, false, ◌&&◌, List, [], ◌∷◌, ◌++◌, length, slice_get, is_none, ◌==◌, if◌then◌else◌, Option, None, Some, codes, decimal}
+use Rattle.std.specs.List.{flat_map, list_all, list_any}
+use Rattle.text_lists.specs.declared.limits.Limits.{Limits}
+use Rattle.schema_core.specs.declared.schema.Attr.{Attr}
+use Rattle.schema_core.specs.declared.schema.Table.{Table}
+use Rattle.rule_model.specs.Books.{book_edits}
+use Rattle.rule_model.specs.declared.edit_rule.EditCell.{EditCell}
+use Rattle.rule_model.specs.declared.edit_rule.EditRule.{EditRule}
+use Rattle.table_flaws.specs.Flaws.{flaws_of}
+use Rattle.table_flaws.specs.declared.flaws.Flaw.{Flaw}
+use Rattle.table_flaws.specs.declared.flaws.Flaw.TheVariants.{Long, Repeated, Spaced}
+use Rattle.cli_output.specs.declared.status.Status.{Status}
+use Rattle.cli_output.specs.declared.status.Status.TheVariants.{Clean, Findings, Refused}
+use Rattle.cli_output.specs.Output.{Only, Outputs, Task}
+use Rattle.view_check.specs.Seen.{fetch_seen}
+use Rattle.view_check.specs.Shown.{off_text}
+use Rattle.view_check.specs.Verdicts.{AreVerdicts}
+use Rattle.view_check.specs.declared.verdicts.Verdict.{Verdict}
+use Rattle.view_check.specs.declared.verdicts.Verdict.TheVariants.{Holds, Never, Open}
+use Rattle.view_check.specs.declared.fetching.Project.{Project}
+use Rattle.view_check.specs.declared.fetching.Seen.{Seen}
+use Rattle.view_check.specs.declared.fetching.Seen.TheVariants.{Off, Whole}
+
+-- ---- what is odd in a table
+
+abbrev pub row_words : Table → ℕ → List ℕ
+row_words table row = table.name ++ codes " row " ++ decimal row ++ codes ": "
+
+abbrev pub attr_name : Option Attr → List ℕ
+attr_name None = []
+attr_name (Some attr) = attr.name
+
+abbrev pub flaw_line : Table → Flaw → List ℕ
+flaw_line table (Long attr row) = row_words table row ++ attr_name (slice_get table.attrs attr) ++ codes " runs over more than ten lines\n"
+flaw_line table (Spaced attr row) =
+    row_words table row ++ attr_name (slice_get table.attrs attr) ++ codes " has blanks at an end, and stands without them in another row\n"
+flaw_line table (Repeated row) = row_words table row ++ codes "stands above, too\n"
+
+abbrev pub count_line : Table → ℕ → List ℕ
+count_line table count = codes "table " ++ table.name ++ codes ": " ++ decimal count ++ codes " rows\n"
+
+-- how many rows were read, and what is odd in them
+abbrev pub table_text : Table → List (List (List ℕ)) → List ℕ
+table_text table rows = count_line table (length rows) ++ flat_map (flaw_line table) (flaws_of (length table.attrs) rows)
+
+abbrev pub has_no_flaw : Table → List (List (List ℕ)) → Bool
+has_no_flaw table rows = length (flaws_of (length table.attrs) rows) == 0
+
+-- ---- all tables
+
+abbrev pub part_text : Option Table → Option (List (List (List ℕ))) → List ℕ
+part_text None rows = []
+part_text (Some table) None = []
+part_text (Some table) (Some rows) = table_text table rows
+
+abbrev pub part_clean : Option Table → Option (List (List (List ℕ))) → Bool
+part_clean None rows = true
+part_clean (Some table) None = true
+part_clean (Some table) (Some rows) = has_no_flaw table rows
+
+-- of the first tables, so many
+abbrev pub tables_text : List Table → List (List (List (List ℕ))) → ℕ → List ℕ
+tables_text tables all zero = []
+tables_text tables all (suc place) = tables_text tables all place ++ part_text (slice_get tables place) (slice_get all place)
+
+abbrev pub tables_clean : List Table → List (List (List (List ℕ))) → ℕ → Bool
+tables_clean tables all zero = true
+tables_clean tables all (suc place) = tables_clean tables all place && part_clean (slice_get tables place) (slice_get all place)
+
+-- ---- editing rules that never apply
+
+-- The target is among the attributes of the patterns: these have to be validated, and the target mustn't be.
+abbrev pub asks_target : EditRule → Bool
+asks_target rule = list_any (λ (p : ℕ × EditCell). p.0 == rule.target) rule.when
+
+-- there is no row to correct from
+abbrev pub has_no_row : Option (List (List (List ℕ))) → Bool
+has_no_row None = true
+has_no_row (Some rows) = length rows == 0
+
+-- why a rule never applies, if it never does
+abbrev pub why_never : List (List (List (List ℕ))) → EditRule → Option (List ℕ)
+why_never all rule =
+    if asks_target rule then Some (codes "its target is in its own pattern")
+    else if has_no_row (slice_get all rule.master) then Some (codes "its master table has no row")
+    else None
+
+abbrev pub never_words : EditRule → List ℕ
+never_words rule = codes "edit " ++ rule.name ++ codes " never applies: "
+
+abbrev pub never_line : EditRule → Option (List ℕ) → List ℕ
+never_line rule None = []
+never_line rule (Some why) = never_words rule ++ why ++ codes "\n"
+
+abbrev pub edits_text : List (List (List (List ℕ))) → List EditRule → List ℕ
+edits_text all rules = flat_map (λ (rule : EditRule). never_line rule (why_never all rule)) rules
+
+-- each may apply
+abbrev pub edits_clean : List (List (List (List ℕ))) → List EditRule → Bool
+edits_clean all rules = list_all (λ (rule : EditRule). is_none (why_never all rule)) rules
+
+-- ---- tables that no row can satisfy
+
+-- nothing is told of a table whose dependencies some row satisfies
+abbrev pub verdict_line : Table → Verdict → List ℕ
+verdict_line table Holds = []
+verdict_line table Never = codes "table " ++ table.name ++ codes ": no row can satisfy its dependencies\n"
+verdict_line table Open = codes "table " ++ table.name ++ codes ": not settled whether a row can satisfy its dependencies\n"
+
+abbrev pub is_good : Verdict → Bool
+is_good Holds = true
+is_good Never = false
+is_good Open = false
+
+abbrev pub verdict_part : Option Table → Option Verdict → List ℕ
+verdict_part None verdict = []
+verdict_part (Some table) None = []
+verdict_part (Some table) (Some verdict) = verdict_line table verdict
+
+abbrev pub verdicts_text : List Table → List Verdict → ℕ → List ℕ
+verdicts_text tables verdicts zero = []
+verdicts_text tables verdicts (suc place) = verdicts_text tables verdicts place ++ verdict_part (slice_get tables place) (slice_get verdicts place)
+
+-- ---- the project
+
+abbrev pub whole_text : Project → List Verdict → List ℕ
+whole_text project verdicts =
+    tables_text project.rules.schema.tables project.tables (length project.rules.schema.tables) ++ verdicts_text project.rules.schema.tables verdicts (length project.rules.schema.tables)
+    ++ edits_text project.tables (book_edits project.rules)
+
+abbrev pub is_clean : Project → List Verdict → Bool
+is_clean project verdicts =
+    tables_clean project.rules.schema.tables project.tables (length project.rules.schema.tables) && list_all is_good verdicts
+    && edits_clean project.tables (book_edits project.rules)
+
+-- nothing is off, or something is
+abbrev pub status_of : Bool → Status
+status_of true = Clean
+status_of false = Findings
+
+-- what is told, with the status that goes with it
+abbrev pub IsTold : Project → List ℕ → Status → Type 0
+IsTold project bytes status =
+    (verdicts : List Verdict) × AreVerdicts project.rules verdicts × (bytes ≡ whole_text project verdicts) × (status ≡ status_of (is_clean project verdicts))
+
+-- ---- what is written
+
+abbrev pub check_outputs : Limits → Seen → Outputs
+check_outputs limits (Whole project) = IsTold project
+check_outputs limits (Off refusal bytes) = Only (off_text limits refusal bytes) Refused
+
+-- schema, rules and tables are fetched, and once more a file that is refused
+abbrev pub check_task : Limits → List ℕ → Task
+check_task limits project = record {
+  Found = Seen;
+  fetching = fetch_seen limits project;
+  outputs = check_outputs limits;
+  most_fetches = 67;
+}

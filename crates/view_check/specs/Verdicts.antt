@@ -1,0 +1,24 @@
+-- Whether some row, alone, can satisfy the dependencies of a table.
+use Rattle.std.specs.Prelude.{ℕ, ◌<◌, List, IfSome}
+use Rattle.std.specs.List.{AllZip}
+use Rattle.schema_core.specs.Schemas.{table_place}
+use Rattle.schema_core.specs.declared.schema.Table.{Table}
+use Rattle.rule_model.specs.Books.{Book}
+use Rattle.case_search.specs.Enough.{enough_of}
+use Rattle.cfd_consistency.specs.Consistent.{IsConsistent}
+use Rattle.cfd_consistency.specs.Question.{question}
+use Rattle.view_check.specs.declared.verdicts.Verdict.{Verdict}
+use Rattle.view_check.specs.declared.verdicts.Verdict.TheVariants.{Holds, Never, Open}
+
+-- Some row does, or none does. It may be left open only where the leaves of a search may be too many.
+abbrev pub IsVerdict : Book → ℕ → Verdict → Type 0
+IsVerdict rules table Holds = IsConsistent rules table
+IsVerdict rules table Never = ¬ IsConsistent rules table
+IsVerdict rules table Open = 100000 < enough_of (question rules table).cells
+
+abbrev pub IsVerdictFor : Book → Table → Verdict → Type 0
+IsVerdictFor rules table verdict = IfSome (table_place rules.schema table.name) (λ place. IsVerdict rules place verdict)
+
+-- one for each table
+abbrev pub AreVerdicts : Book → List Verdict → Type 0
+AreVerdicts rules verdicts = AllZip (IsVerdictFor rules) rules.schema.tables verdicts

@@ -1,0 +1,244 @@
+//! What is told of a project.
+ghost use Rattle.std.specs.Prelude.{◌≡◌, ◌++◌, ◌&&◌, IfOk, OnOk, length, slice_get};
+ghost use Rattle.std.specs.List.{flat_map};
+ghost use Rattle.std.specs.Option.{option_copied};
+ghost use Rattle.text_lists.specs.Limits.{AreLimits};
+ghost use Rattle.table_flaws.specs.declared.flaws.Flaw.TheVariants.{Long, Repeated, Spaced};
+ghost use Rattle.cli_output.specs.Output.{Ends, IsWhole, Only, Output, UsesDevices, Writes};
+ghost use Rattle.view_check.specs.Shown.{off_text};
+ghost use Rattle.view_check.specs.CheckForm.{IsTold, attr_name, check_outputs, check_task, count_line, flaw_line, has_no_flaw, is_clean, part_clean, part_text, row_words, status_of, table_text, tables_clean, tables_text, whole_text};
+
+use crate::edits::push_edits;
+use crate::fetching::{Project, Seen, fetch_seen};
+use crate::items::item;
+use crate::shown::off_text;
+use crate::verdicts::{Verdict, are_good, push_verdicts, verdicts};
+use cli_output::{Refusal, Status, Stop, end_by, end_with};
+use schema_core::{Limits, List, Table, Text, Texts, push_number};
+use shelf_io::{Shelf, Sink};
+use std::alloc::{AllocError, Global};
+use table_flaws::{Flaw, flaws_of};
+
+/// Tells what is off in a project before anything is asked: of each table how many rows were read, and what is odd in
+/// them; or why a file of the project is refused, and the line of the file that the refusal names.
+pub fn look_at_project<S: Shelf, O: Sink>(
+    alloc: Global,
+    project: &Text,
+    shelf: &mut S,
+    out: &mut O,
+    limits: &Limits,
+) -> Status
+    requires { AreLimits limits.now }
+    ensures written { Writes (Output limits.now (check_task limits.now project.now) (S.told shelf.old).holding) result (O.told out.old).written (O.told out.new).written }
+    ensures devices { UsesDevices limits.now (check_task limits.now project.now) result (S.told shelf.old) (S.told shelf.new) (O.told out.old) (O.told out.new) }
+{
+    let mut left = limits.all_bytes;
+    match fetch_seen(alloc, shelf, project, limits, &mut left) {
+        Ok(seen) => answer(alloc, limits, &seen, out),
+        Err(stop) => end_by(alloc, &stop, out),
+    }
+}
+
+fn answer<O: Sink>(alloc: Global, limits: &Limits, seen: &Seen, out: &mut O) -> Status
+    ensures { Ends (check_outputs limits.now seen.now) result (O.told out.old) (O.told out.new) }
+{
+    match seen {
+        Seen::Whole(project) => tell_whole(alloc, project, out),
+        Seen::Off { refusal, bytes } => tell_off(alloc, limits, refusal, bytes, out),
+    }
+}
+
+fn tell_off<O: Sink>(
+    alloc: Global,
+    limits: &Limits,
+    refusal: &Refusal,
+    bytes: &Option<List<u8>>,
+    out: &mut O,
+) -> Status
+    ensures { Ends (Only (off_text limits.now refusal.now bytes.now) Status.Refused) result (O.told out.old) (O.told out.new) }
+{
+    match off_text(alloc, limits, refusal, bytes) {
+        Ok(text) => end_with(out, &text, Status::Refused),
+        Err(AllocError) => end_by(alloc, &Stop::Memory, out),
+    }
+}
+
+fn tell_whole<O: Sink>(alloc: Global, project: &Project, out: &mut O) -> Status
+    ensures { Ends (IsTold project.now) result (O.told out.old) (O.told out.new) }
+{
+    match whole_text(alloc, project) {
+        Ok(told) => end_with(out, &told.text, told.status),
+        Err(AllocError) => end_by(alloc, &Stop::Memory, out),
+    }
+}
+
+/// What is told of a project, and how the call ends.
+#[derive(Drop)]
+struct Told {
+    text: Vec<u8>,
+    status: Status,
+}
+
+fn status_of(clean: bool) -> Status
+    ensures status { result ≡ status_of clean }
+    ensures whole { IsWhole result }
+{
+    if clean {
+        Status::Clean
+    } else {
+        Status::Findings
+    }
+}
+
+fn whole_text(alloc: Global, project: &Project) -> Result<Told, AllocError>
+    ensures told { IfOk result (λ told. IsTold project.now told.text.items told.status) }
+    ensures whole { IfOk result (λ told. IsWhole told.status) }
+{
+    let verdicts = verdicts(alloc, &project.rules)?;
+    let mut text = Vec::new(alloc);
+    let clean = push_whole(alloc, &mut text, project, verdicts.as_slice())?;
+    let status = status_of(clean);
+    Ok(Told { text, status })
+}
+
+fn push_whole(
+    alloc: Global,
+    out: &mut Vec<u8>,
+    project: &Project,
+    verdicts: &[Verdict],
+) -> Result<bool, AllocError>
+    ensures text { OnOk result (out.new.items ≡ out.old.items ++ whole_text project.now verdicts.now) }
+    ensures clean { IfOk result (λ clean. clean ≡ is_clean project.now verdicts.now) }
+{
+    let tables = project.rules.schema().tables.as_slice();
+    let all = project.tables.as_slice();
+    let even = push_tables(alloc, out, tables, all)?;
+    push_verdicts(out, tables, verdicts)?;
+    let apply = push_edits(out, all, project.rules.edits().as_slice())?;
+    Ok(even && are_good(verdicts) && apply)
+}
+
+fn push_tables(
+    alloc: Global,
+    out: &mut Vec<u8>,
+    tables: &[Table],
+    all: &[List<Texts>],
+) -> Result<bool, AllocError>
+    ensures text { OnOk result (out.new.items ≡ out.old.items ++ tables_text tables.now all.now (length tables.now)) }
+    ensures clean { IfOk result (λ clean. clean ≡ tables_clean tables.now all.now (length tables.now)) }
+{
+    let mut clean = true;
+    for place in 0..tables.len() {
+        let table = item(tables, place);
+        let rows = item(all, place);
+        let none = push_part(alloc, out, table, rows)?;
+        clean = both(clean, none);
+    }
+    Ok(clean)
+}
+
+fn both(one: bool, other: bool) -> bool
+    ensures { result ≡ (one && other) }
+{
+    one && other
+}
+
+fn push_part(
+    alloc: Global,
+    out: &mut Vec<u8>,
+    table: Option<&Table>,
+    rows: Option<&List<Texts>>,
+) -> Result<bool, AllocError>
+    ensures text { OnOk result (out.new.items ≡ out.old.items ++ part_text (option_copied table.entry) (option_copied rows.entry)) }
+    ensures clean { IfOk result (λ none. none ≡ part_clean (option_copied table.entry) (option_copied rows.entry)) }
+{
+    match (table, rows) {
+        (Some(table), Some(rows)) => push_table(alloc, out, table, rows.as_slice()),
+        _ => Ok(true),
+    }
+}
+
+fn push_table(
+    alloc: Global,
+    out: &mut Vec<u8>,
+    table: &Table,
+    rows: &[Texts],
+) -> Result<bool, AllocError>
+    ensures text { OnOk result (out.new.items ≡ out.old.items ++ table_text table.now rows.now) }
+    ensures clean { IfOk result (λ none. none ≡ has_no_flaw table.now rows.now) }
+{
+    let flaws = flaws_of(alloc, table.attrs.as_slice().len(), rows)?;
+    push_count(out, table, rows.len())?;
+    push_flaws(out, table, flaws.as_slice())?;
+    Ok(flaws.as_slice().is_empty())
+}
+
+fn push_count(out: &mut Vec<u8>, table: &Table, count: usize) -> Result<(), AllocError>
+    ensures { OnOk result (out.new.items ≡ out.old.items ++ count_line table.now count) }
+{
+    out.extend_from_slice(b"table ")?;
+    out.extend_from_slice(table.name.as_str().as_bytes())?;
+    out.extend_from_slice(b": ")?;
+    push_number(out, count as u64)?;
+    out.extend_from_slice(b" rows\n")
+}
+
+fn push_flaws(out: &mut Vec<u8>, table: &Table, flaws: &[Flaw]) -> Result<(), AllocError>
+    ensures { OnOk result (out.new.items ≡ out.old.items ++ flat_map (flaw_line table.now) flaws.now) }
+{
+    for flaw in flaws {
+        push_flaw(out, table, *flaw)?;
+    }
+    Ok(())
+}
+
+fn push_flaw(out: &mut Vec<u8>, table: &Table, flaw: Flaw) -> Result<(), AllocError>
+    ensures { OnOk result (out.new.items ≡ out.old.items ++ flaw_line table.now flaw) }
+{
+    match flaw {
+        Flaw::Long { attr, row } => push_long(out, table, attr, row),
+        Flaw::Spaced { attr, row } => push_spaced(out, table, attr, row),
+        Flaw::Repeated { row } => push_repeated(out, table, row),
+    }
+}
+
+fn push_long(out: &mut Vec<u8>, table: &Table, attr: usize, row: usize) -> Result<(), AllocError>
+    ensures { OnOk result (out.new.items ≡ out.old.items ++ flaw_line table.now (Long attr row)) }
+{
+    push_row(out, table, row)?;
+    push_name(out, table, attr)?;
+    out.extend_from_slice(b" runs over more than ten lines\n")
+}
+
+fn push_spaced(out: &mut Vec<u8>, table: &Table, attr: usize, row: usize) -> Result<(), AllocError>
+    ensures { OnOk result (out.new.items ≡ out.old.items ++ flaw_line table.now (Spaced attr row)) }
+{
+    push_row(out, table, row)?;
+    push_name(out, table, attr)?;
+    out.extend_from_slice(b" has blanks at an end, and stands without them in another row\n")
+}
+
+fn push_repeated(out: &mut Vec<u8>, table: &Table, row: usize) -> Result<(), AllocError>
+    ensures { OnOk result (out.new.items ≡ out.old.items ++ flaw_line table.now (Repeated row)) }
+{
+    push_row(out, table, row)?;
+    out.extend_from_slice(b"stands above, too\n")
+}
+
+fn push_row(out: &mut Vec<u8>, table: &Table, row: usize) -> Result<(), AllocError>
+    ensures { OnOk result (out.new.items ≡ out.old.items ++ row_words table.now row) }
+{
+    out.extend_from_slice(table.name.as_str().as_bytes())?;
+    out.extend_from_slice(b" row ")?;
+    push_number(out, row as u64)?;
+    out.extend_from_slice(b": ")
+}
+
+fn push_name(out: &mut Vec<u8>, table: &Table, attr: usize) -> Result<(), AllocError>
+    ensures { OnOk result (out.new.items ≡ out.old.items ++ attr_name (slice_get table.now.attrs attr)) }
+{
+    match item(table.attrs.as_slice(), attr) {
+        Some(attr) => out.extend_from_slice(attr.name.as_str().as_bytes()),
+        None => Ok(()),
+    }
+}

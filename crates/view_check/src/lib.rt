@@ -1,0 +1,15 @@
+//! The form `check PROJECT` of `cfdview`: what is off in a project before anything is asked, or what stands where a file
+//! of it is refused.
+#![tactic(auto)]
+
+mod answer;
+mod bounds;
+mod edits;
+mod fetching;
+mod items;
+mod shown;
+mod verdicts;
+
+pub use answer::look_at_project;
+pub use fetching::{Project, Seen};
+pub use verdicts::Verdict;
