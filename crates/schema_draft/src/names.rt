@@ -32,7 +32,7 @@ fn table_name(alloc: Global, number: u64, file: &Text) -> Result<Text, AllocErro
 {
     match name_in(stem_of(file.as_str().as_bytes())) {
         Some(name) => Text::new(alloc, name),
-        None => Ok(Text::from(format!(in alloc; "table{number}")?)),
+        None => Text::from_string(alloc, format!(in alloc; "table{number}")?),
     }
 }
 

@@ -1,0 +1,55 @@
+//! `cfdview`: answers its words from the files under the working folder on standard output, and ends with the
+//! status's number.
+#![tactic(auto)]
+
+use cfd_view::{Status, run};
+use shelf_io::{FolderShelf, StdSink};
+use std::alloc::AllocError;
+use std::env;
+use std::io::ErrorKind;
+use std::process::ExitCode;
+use std::rt::{Env, Files};
+use text_lists::{List, Text, Texts};
+
+// The words after the program's name. Where one of them isn't UTF-8 there are none, which have no form either.
+fn words_of<R: Env + AllocGlobal>(rt: &R) -> Result<Texts, AllocError> {
+    let mut words = List::new(rt.alloc());
+    match env::args(rt) {
+        Ok(args) => {
+            for word in args.skip(1) {
+                words.push(Text::from_string(rt.alloc(), word)?)?;
+            }
+        }
+        Err(e) if e.kind() == ErrorKind::OutOfMemory => return Err(AllocError),
+        Err(_) => {}
+    }
+    Ok(words)
+}
+
+// One line on standard error where the status alone says how the call ended.
+fn tell<R: Files>(rt: HostRuntime, status: Status, shelf: &FolderShelf<R>) {
+    let _told = match (status, shelf.unread()) {
+        (Status::ReadFault, Some(unread)) => {
+            eprintln!(rt; "cfdview: {}: {}", unread.name, unread.error)
+        }
+        (Status::ReadFault, None) => eprintln!(rt; "cfdview: a file couldn't be read"),
+        (Status::WriteFault, _) => eprintln!(rt; "cfdview: standard output took no more"),
+        (Status::Memory, _) => eprintln!(rt; "cfdview: there wasn't enough memory"),
+        _ => Ok(()),
+    };
+}
+
+fn main(rt: HostRuntime) -> ExitCode {
+    let alloc = rt.alloc();
+    let status = match words_of(&rt) {
+        Ok(words) => {
+            let mut shelf = FolderShelf::new(alloc, rt);
+            let mut out = StdSink::new(rt);
+            let status = run(alloc, &words, &mut shelf, &mut out);
+            tell(rt, status, &shelf);
+            status
+        }
+        Err(AllocError) => Status::Memory,
+    };
+    ExitCode::from(status.number())
+}
