@@ -9,6 +9,8 @@ use Rattle.bench_core.specs.Bench.{BenchModel}
 use Rattle.bench_core.specs.History.{History}
 use Rattle.bench_core.specs.Loading.{Tuples, loaded}
 use Rattle.bench_core.specs.State.{State}
+use Rattle.shelf_io.specs.Transcript.{IsTranscript}
+use Rattle.session.specs.Replies.{IsReply}
 use Rattle.session.specs.Scripts.{script_of}
 use Rattle.session.specs.declared.command.Command.{Command}
 use Rattle.session.specs.declared.command.ScriptCause.{ScriptCause}
@@ -92,3 +94,11 @@ fetch_project limits name =
     fetch_bench limits rules >>= λ tables.
     fetch_commands limits tables.rules.schema >>= λ commands.
     given (Ok (record { tables = tables; commands = commands }))
+
+-- ---- the script
+
+-- the script, whatever its replies, leads from the tables to this history
+abbrev pub LeadsTo : ProjectRead → History → Type 0
+LeadsTo project last =
+    let start = project.tables in
+    (replies : List ℕ) × IsTranscript (IsReply start.rules start.limits) start.history project.commands replies last

@@ -2,16 +2,14 @@
 -- are written nowhere.
 use Rattle.std.specs.Prelude.{◌≡◌, ◌↔◌, ℕ, List}
 use Rattle.text_lists.specs.declared.limits.Limits.{Limits}
-use Rattle.shelf_io.specs.Transcript.{IsTranscript}
 use Rattle.rule_model.specs.Books.{Book}
 use Rattle.bench_core.specs.History.{History}
 use Rattle.bench_core.specs.State.{State}
 use Rattle.violation_report.specs.Listing.{IsSatisfied, listing}
 use Rattle.violation_report.specs.Report.{report_text}
-use Rattle.session.specs.Replies.{IsReply}
 use Rattle.cli_output.specs.Output.{Outputs, Task}
 use Rattle.cli_output.specs.declared.status.Status.TheVariants.{Clean}
-use Rattle.project_forms.specs.Project.{ProjectRead, fetch_project}
+use Rattle.project_forms.specs.Project.{LeadsTo, ProjectRead, fetch_project}
 use Rattle.project_forms.specs.Transcripts.{found_status}
 
 -- the report of a state, and its status
@@ -22,8 +20,7 @@ report_of rules state bytes status = (bytes ≡ report_text rules (listing rules
 abbrev pub report_outputs : ProjectRead → Outputs
 report_outputs project bytes status =
     let start = project.tables in
-    (last : History) × (replies : List ℕ) × IsTranscript (IsReply start.rules start.limits) start.history project.commands replies last × report_of start.rules last.present bytes status
-    × (status ≡ Clean ↔ IsSatisfied start.rules last.present)
+    (last : History) × LeadsTo project last × report_of start.rules last.present bytes status × (status ≡ Clean ↔ IsSatisfied start.rules last.present)
 
 -- the schema, the rules, the script and 64 tables are fetched at most
 abbrev pub report_task : Limits → List ℕ → Task

@@ -11,5 +11,6 @@ mod tables;
 
 pub use desk_form::desk_project;
 pub use generate_form::generate_project;
+pub use project::{Project, after_script, fetch_project};
 pub use report_form::report_project;
 pub use run_form::run_project;

@@ -6,7 +6,7 @@ ghost use Rattle.bench_core.specs.Indexed.{load_probes};
 ghost use Rattle.session.specs.Scripts.{script_of};
 ghost use Rattle.cli_output.specs.Fetching.{Fetches, Reads, about};
 ghost use Rattle.cli_output.specs.RuleFiles.{spelled};
-ghost use Rattle.project_forms.specs.Project.{fetch_bench, fetch_commands, fetch_project, flaw_of, read_of, script_line, tables_of};
+ghost use Rattle.project_forms.specs.Project.{LeadsTo, fetch_bench, fetch_commands, fetch_project, flaw_of, read_of, script_line, tables_of};
 
 use crate::tables::{fetch_tables, load};
 use bench_core::Bench;
@@ -14,9 +14,9 @@ use cli_output::{Cause, LineFlaw, Stop, fetch_file, fetch_rules, fetch_schema, r
 use probe_steps::Steps;
 use rule_model::RuleBook;
 use schema_core::{Limits, List, Schema, Text};
-use session::{Command, ScriptCause, ScriptFault, parse_script};
-use shelf_io::Shelf;
-use std::alloc::Global;
+use session::{Command, ScriptCause, ScriptFault, parse_script, serve};
+use shelf_io::{Shelf, SteadySink};
+use std::alloc::{AllocError, Global};
 use std::sync::ledger::Ledger;
 
 /// A project that was read: its rules and tables, and the commands of its script.
@@ -108,5 +108,25 @@ fn flaw_of(cause: ScriptCause) -> LineFlaw
         ScriptCause::NotUtf8 => LineFlaw::NotUtf8,
         ScriptCause::BadLine => LineFlaw::BadLine,
         ScriptCause::TooMany(limit) => LineFlaw::TooMany(limit),
+    }
+}
+
+/// The bench to which the script of a project leads, with no one listening to its replies.
+pub fn after_script<L: Ledger>(
+    alloc: Global,
+    project: Project,
+    steps: &mut Steps<L>,
+) -> Result<Bench, AllocError>
+    ensures made_with { IfOk result (λ bench. (bench.rules ≡ project.bench.rules) × (bench.limits ≡ project.bench.limits)) }
+    ensures leads { IfOk result (λ bench. LeadsTo (read_of project) bench.history) }
+{
+    let Project {
+        mut bench,
+        commands,
+    } = project;
+    let mut unheard = SteadySink::new();
+    match serve(alloc, &mut bench, &commands, &mut unheard, steps) {
+        Ok(()) => Ok(bench),
+        Err(_) => Err(AllocError),
     }
 }

@@ -8,13 +8,12 @@ ghost use Rattle.project_forms.specs.Project.{read_of};
 ghost use Rattle.project_forms.specs.ReportForm.{report_of, report_outputs, report_task};
 ghost use Rattle.project_forms.specs.Transcripts.{found_status};
 
-use crate::project::{Project, fetch_project};
+use crate::project::{Project, after_script, fetch_project};
 use bench_core::Bench;
 use cli_output::{Status, end_by, end_with};
 use probe_steps::Steps;
 use schema_core::{Limits, Text};
-use session::serve;
-use shelf_io::{Shelf, Sink, SteadySink};
+use shelf_io::{Shelf, Sink};
 use std::alloc::{AllocError, Global};
 use std::sync::ledger::Ledger;
 use violation_report::{json_report, list};
@@ -48,14 +47,9 @@ fn report<O: Sink, L: Ledger>(
 ) -> Status
     ensures { Ends (report_outputs (read_of project)) result (O.told out.old) (O.told out.new) }
 {
-    let Project {
-        mut bench,
-        commands,
-    } = project;
-    let mut unheard = SteadySink::new();
-    match serve(alloc, &mut bench, &commands, &mut unheard, steps) {
-        Ok(()) => tell(alloc, &bench, out, steps),
-        Err(_) => Status::Memory,
+    match after_script(alloc, project, steps) {
+        Ok(bench) => tell(alloc, &bench, out, steps),
+        Err(AllocError) => Status::Memory,
     }
 }
 

@@ -10,7 +10,6 @@ use Rattle.project_forms.proofs.report_form.report.Goals as goal
 pub returns-in-Ok : goal.returns-in-Ok
 returns-in-Ok g c =
     let start = c.args.project.bench in
-    let last = c.serve.new.bench in
-    let answered = c.in-Ok.ensures.ok in
-    let told = subst (λ (rules : Book). Ends (report_of rules last.history.present) c.tell.result (g.O.Sink.told c.args.out.now) (g.O.Sink.told c.tell.new.out)) c.serve.ensures.made_with.0 c.tell.ensures in
-    Ends-wider (report_of start.rules last.history.present) (report_outputs (read_of c.args.project)) (λ bytes status is. (last.history, answered.text, answered.is_one, is, clean_where_satisfied start.rules last.history.present status is.1)) c.tell.result (g.O.Sink.told c.args.out.now) (g.O.Sink.told c.tell.new.out) told
+    let last = c.in-Ok.bench in
+    let told = subst (λ (rules : Book). Ends (report_of rules last.history.present) c.tell.result (g.O.Sink.told c.args.out.now) (g.O.Sink.told c.tell.new.out)) c.in-Ok.ensures.made_with.0 c.tell.ensures in
+    Ends-wider (report_of start.rules last.history.present) (report_outputs (read_of c.args.project)) (λ bytes status is. (last.history, c.in-Ok.ensures.leads, is, clean_where_satisfied start.rules last.history.present status is.1)) c.tell.result (g.O.Sink.told c.args.out.now) (g.O.Sink.told c.tell.new.out) told

@@ -1,0 +1,6 @@
+use Rattle.project_forms.proofs.project.after_script.Goals as goal
+
+pub returns-in-Ok-clause-leads : goal.returns-in-Ok-clause-leads
+returns-in-Ok-clause-leads g c =
+    let answered = c.in-Ok.ensures.ok in
+    (answered.text, answered.is_one)

@@ -1,0 +1,3 @@
+pub mod Arranged
+pub mod Listed
+pub mod Groups
