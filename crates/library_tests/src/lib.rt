@@ -11,6 +11,8 @@ mod fix_runs;
 #[cfg(test)]
 mod fix_setup;
 #[cfg(test)]
+mod found_limits;
+#[cfg(test)]
 mod marked_walks;
 #[cfg(test)]
 mod number_files;
