@@ -14,3 +14,4 @@ pub mod CollectFacts
 pub mod CountFacts
 pub mod TestCounts
 pub mod OwnEntries
+pub mod TableauFacts

@@ -4,7 +4,6 @@ use Rattle.std.specs.List.{flat_map, list_any}
 use Rattle.smallvec.specs.SmallVec.{SmallVec}
 use Rattle.marked_map.specs.MarkedMap.{MarkedPairs}
 use Rattle.cfd_semantics.specs.declared.dependency.TableauRow.{TableauRow}
-use Rattle.cfd_semantics.specs.declared.dependency.Dependency.{Dependency}
 use Rattle.cfd_semantics.specs.Violation.{Entry}
 use Rattle.group_index.specs.declared.group.Group.{Group}
 use Rattle.group_index.specs.declared.spread.Spread.{Spread}
@@ -52,9 +51,9 @@ pub record AreMarked (rows : List (TableauRow ℕ)) (groups : KeyedGroups) : Typ
   pub unmarked : (place : ℕ) (at : KeyedGroup) → groups.marked ≤ place → slice_get groups.pairs place ≡ Some at → is_dirty_at rows at ≡ false
 
 -- what an index keeps true of its parts: its marks, and that it has room for a key once there are groups
-pub record IsGroupIndex (dependency : Dependency ℕ) (groups : KeyedGroups) (key : SmallVec ℕ) : Type 0 where
-  pub marks : AreMarked dependency.rows groups
-  pub room : 0 < length groups.pairs → length dependency.x ≤ key.capacity
+pub record IsGroupIndex (rows : List (TableauRow ℕ)) (x : List ℕ) (groups : KeyedGroups) (key : SmallVec ℕ) : Type 0 where
+  pub marks : AreMarked rows groups
+  pub room : 0 < length groups.pairs → length x ≤ key.capacity
 
 -- the same of all groups but the one at a place
 abbrev pub AreMarkedBut : List (TableauRow ℕ) → KeyedGroups → ℕ → Type 0

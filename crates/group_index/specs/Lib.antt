@@ -5,3 +5,4 @@ pub mod Keys
 pub mod Groups
 pub mod Leads
 pub mod Laws
+pub mod Tableaux

@@ -7,6 +7,7 @@ use crate::index::IdRow;
 use crate::key::{Key, matches_all};
 use crate::leads::Leads;
 use crate::spread::Spread;
+use crate::tableau::Tableau;
 use marked_map::MarkedMap;
 use probe_steps::Steps;
 use row_store::RowId;
@@ -19,7 +20,7 @@ pub(crate) type Groups = MarkedMap<Key, Group>;
 /// Puts a row into the group of its key, in one probe.
 pub(crate) fn put_entry<L: Ledger>(
     groups: &mut Groups,
-    rows: &[IdRow],
+    rows: &Tableau,
     key: Key,
     a: ValueId,
     row: RowId,
@@ -44,7 +45,7 @@ pub(crate) fn put_entry<L: Ledger>(
 // Puts a row into the group at a place.
 fn put_at(
     groups: &mut Groups,
-    rows: &[IdRow],
+    rows: &Tableau,
     place: usize,
     alloc: Global,
     a: ValueId,
@@ -65,7 +66,7 @@ fn put_at(
 /// Takes a row away from the group of its key, in one probe and without memory.
 pub(crate) fn take_entry<L: Ledger>(
     groups: &mut Groups,
-    rows: &[IdRow],
+    rows: &Tableau,
     key: &Key,
     a: ValueId,
     row: RowId,
@@ -108,7 +109,7 @@ pub(crate) fn least_partner<L: Ledger>(
 }
 
 // Marks the group at the place where it is dirty, and takes its mark off where it isn't.
-fn settle(groups: &mut Groups, rows: &[IdRow], place: usize)
+fn settle(groups: &mut Groups, rows: &Tableau, place: usize)
     requires within { place < length groups.old.pairs }
     requires others { AreMarkedBut rows.now groups.old place }
     ensures marks { AreMarked rows.now groups.new }
@@ -124,7 +125,7 @@ fn settle(groups: &mut Groups, rows: &[IdRow], place: usize)
 
 // The same for a group that was marked rightly as long as its A ids were spread like that: no tableau row is looked at where
 // they still are.
-fn settle_again(groups: &mut Groups, rows: &[IdRow], place: usize, before: Spread)
+fn settle_again(groups: &mut Groups, rows: &Tableau, place: usize, before: Spread)
     requires within { place < length groups.old.pairs }
     requires others { AreMarkedBut rows.now groups.old place }
     requires mark { IsMarkedBy rows.now groups.old place before }

@@ -10,8 +10,9 @@ ghost use Rattle.group_index.specs.Answers.{AreDirty, IsSettled, AreViolationsOf
 use crate::counting::count;
 use crate::groups::{Groups, least_partner, put_entry, take_entry};
 use crate::key::{Key, make_room, same_entry, write_key};
+use crate::tableau::Tableau;
 use crate::violations::collect;
-use cfd_semantics::{Dependency, Pattern, TableauRow, Violation};
+use cfd_semantics::{Pattern, TableauRow, Violation};
 use marked_map::MarkedMap;
 use probe_steps::Steps;
 use row_store::{RowId, Tuple, Watch};
@@ -32,7 +33,9 @@ pub type IdRow = TableauRow<ValueId>;
 #[derive(Drop)]
 pub struct GroupIndex {
     table: usize,
-    dependency: Dependency<ValueId>,
+    x: List<usize>,
+    a: usize,
+    tableau: Tableau,
     groups: Groups,
     // Room for the key of one group, so that a row is taken away without memory.
     key: Key,
@@ -45,9 +48,9 @@ impl Model for GroupIndex {
 
     ghost use Rattle.group_index.specs.Groups.{entries_in, IsGroupIndex};
 
-    ghost view = { λ i. record { made = record { table = i.table; dependency = i.dependency }; entries = entries_in i.groups.pairs; dirty = i.groups.marked } };
+    ghost view = { λ i. record { made = record { table = i.table; dependency = record { x = i.x; a = i.a; rows = i.tableau } }; entries = entries_in i.groups.pairs; dirty = i.groups.marked } };
 
-    ghost invariant = { λ i. IsGroupIndex i.dependency i.groups i.key };
+    ghost invariant = { λ i. IsGroupIndex i.tableau i.x i.groups i.key };
 }
 
 impl GroupIndex {
@@ -57,11 +60,9 @@ impl GroupIndex {
     {
         GroupIndex {
             table,
-            dependency: Dependency {
-                x: List::from(x),
-                a,
-                rows: List::from(rows),
-            },
+            x: List::from(x),
+            a,
+            tableau: Tableau::new(alloc, rows),
             groups: MarkedMap::new(alloc),
             key: SmallVec::new(alloc),
         }
@@ -71,7 +72,7 @@ impl GroupIndex {
     pub fn tableau_rows(&self) -> usize
         ensures { result ≡ length self.now.made.dependency.rows }
     {
-        self.dependency.rows.as_slice().len()
+        self.tableau.as_slice().len()
     }
 
     /// How many groups are dirty.
@@ -97,7 +98,7 @@ impl GroupIndex {
         ensures list { IfOk result (AreThoseOfTheList self.now k) }
         ensures probes { steps.new ≤ steps.old + self.now.dirty }
     {
-        let rows = self.dependency.rows.as_slice();
+        let rows = self.tableau.as_slice();
         let mut found = collect(*self.key.allocator(), &self.groups, rows, k, steps)?;
         found.sort_unstable_by_key(|violation| violation.row);
         Ok(List::from(found))
@@ -116,7 +117,7 @@ impl GroupIndex {
         ensures count { IfOk result (IsCountOfTheList self.now k) }
         ensures probes { steps.new ≤ steps.old + self.now.dirty }
     {
-        count(&self.groups, self.dependency.rows.as_slice(), k, steps)
+        count(&self.groups, self.tableau.as_slice(), k, steps)
     }
 
     /// The least row with which a row makes a pair violation of a tableau row.
@@ -133,11 +134,11 @@ impl GroupIndex {
         ensures probes { steps.new ≤ steps.old + 1 }
     {
         let _ = row;
-        let tableau_row = &self.dependency.rows.as_slice()[k];
-        let x = self.dependency.x.as_slice();
+        let tableau_row = &self.tableau.as_slice()[k];
+        let x = self.x.as_slice();
         let mut key = SmallVec::with_capacity(*self.key.allocator(), x.len())?;
         write_key(&mut key, tuple, x);
-        let a = tuple.as_slice()[self.dependency.a];
+        let a = tuple.as_slice()[self.a];
         Ok(least_partner(&self.groups, tableau_row, &key, a, steps))
     }
 }
@@ -178,16 +179,22 @@ impl Watch for GroupIndex {
         if table != self.table {
             return Ok(());
         }
-        let x = self.dependency.x.as_slice();
-        let a = self.dependency.a;
+        let x = self.x.as_slice();
+        let a = self.a;
         if same_entry(old, new, x, a) {
             return Ok(());
         }
         make_room(&mut self.key, x.len())?;
         let mut key = SmallVec::with_capacity(*self.key.allocator(), x.len())?;
         write_key(&mut key, new, x);
-        let rows = self.dependency.rows.as_slice();
-        put_entry(&mut self.groups, rows, key, new.as_slice()[a], row, steps)
+        put_entry(
+            &mut self.groups,
+            &self.tableau,
+            key,
+            new.as_slice()[a],
+            row,
+            steps,
+        )
     }
 
     fn remove<L: Ledger>(
@@ -201,16 +208,15 @@ impl Watch for GroupIndex {
         if table != self.table {
             return;
         }
-        let x = self.dependency.x.as_slice();
-        let a = self.dependency.a;
+        let x = self.x.as_slice();
+        let a = self.a;
         if same_entry(new, old, x, a) {
             return;
         }
         write_key(&mut self.key, old, x);
-        let rows = self.dependency.rows.as_slice();
         take_entry(
             &mut self.groups,
-            rows,
+            &self.tableau,
             &self.key,
             old.as_slice()[a],
             row,

@@ -14,6 +14,7 @@ mod index;
 mod key;
 mod leads;
 mod spread;
+mod tableau;
 mod violations;
 
 pub use index::{GroupIndex, IdCell, IdRow};

@@ -1,12 +1,9 @@
 //! How the A ids of a group spread: all that it takes, beside the key, to tell whether the group is dirty.
-ghost use Rattle.std.specs.Prelude.{◌≡◌, ◌&&◌, not, nat_eq, List};
-ghost use Rattle.std.specs.List.{list_any};
-ghost use Rattle.cfd_semantics.specs.Pattern.{matches, all_match};
+ghost use Rattle.std.specs.Prelude.{◌≡◌, List};
 ghost use Rattle.group_index.specs.Pairs.{Pair, pairs_of, IsSpread, is_mixed, is_dirty};
 
 use crate::group::Group;
-use crate::index::IdRow;
-use crate::key::matches_all;
+use crate::tableau::Tableau;
 use row_store::RowId;
 use std::collections::BTreeSet;
 use value_pool::ValueId;
@@ -43,13 +40,13 @@ impl Spread {
 
     /// Whether a row of a group with this key and such A ids violates some tableau row: it matches it on X, and has an A id
     /// that doesn't match, or two A ids, of which one doesn't match or both differ.
-    pub(crate) fn is_dirty(self, rows: &[IdRow], x: &[ValueId]) -> bool
+    pub(crate) fn is_dirty(self, rows: &Tableau, x: &[ValueId]) -> bool
         ensures { (pairs : List Pair) → IsSpread pairs self → result ≡ is_dirty rows.now x.now pairs }
     {
         match self {
             Spread::Nothing => false,
-            Spread::Alike(a) => some_differs(rows, x, a),
-            Spread::Mixed => some_matches(rows, x),
+            Spread::Alike(a) => rows.has_offended(x, Some(a)),
+            Spread::Mixed => rows.has_offended(x, None),
         }
     }
 }
@@ -68,18 +65,4 @@ fn spread_of(pairs: &BTreeSet<(ValueId, RowId)>) -> Spread
     } else {
         Spread::Mixed
     }
-}
-
-// Whether the key matches some tableau row.
-fn some_matches(rows: &[IdRow], x: &[ValueId]) -> bool
-    ensures { result ≡ list_any (λ t. all_match nat_eq t.x x.now) rows.now }
-{
-    rows.iter().any(|row| matches_all(row.x.as_slice(), x))
-}
-
-// Whether the key matches some tableau row that asks for another A id.
-fn some_differs(rows: &[IdRow], x: &[ValueId], a: ValueId) -> bool
-    ensures { result ≡ list_any (λ t. all_match nat_eq t.x x.now && not (matches nat_eq t.a a)) rows.now }
-{
-    rows.iter().any(|row| matches_all(row.x.as_slice(), x) && !row.a.matches(&a))
 }

@@ -4,5 +4,5 @@ use Rattle.group_index.proofs.index.GroupIndex.dirty.Goals as goal
 
 pub returns-clause-groups : goal.returns-clause-groups
 returns-clause-groups c =
-    let made : GroupsMade = record { table = c.self.inside.table; dependency = c.self.inside.dependency } in
+    let made : GroupsMade = record { table = c.self.inside.table; dependency = record { x = c.self.inside.x; a = c.self.inside.a; rows = c.self.inside.tableau } } in
     dirty_are_marked made c.self.inside.groups c.args.self.now c.marked.result c.self.view_is c.len-len.ensures.distinct c.self.invariant.marks c.marked.ensures.within c.marked.ensures.marked

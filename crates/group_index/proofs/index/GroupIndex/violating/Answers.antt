@@ -18,7 +18,7 @@ collect-requires-clause-settled g c = subst IsSettled (sym c.self.view_is) c.req
 
 pub returns-clause-violations : goal.returns-clause-violations
 returns-clause-violations g c t is =
-    let made : GroupsMade = record { table = c.self.inside.table; dependency = c.self.inside.dependency } in
+    let made : GroupsMade = record { table = c.self.inside.table; dependency = record { x = c.self.inside.x; a = c.self.inside.a; rows = c.self.inside.tableau } } in
     let at = ap (λ rows. slice_get rows c.args.k) c.as_slice-rows.ensures ∙ subst (λ (s : GroupSet). slice_get s.made.dependency.rows c.args.k ≡ Some t) (sym c.self.view_is) is in
     let up = IsNonDecreasingBy-from_sort_by_key (λ (v : Violation). v.row) _ c.sort_unstable_by_key.ensures.sorted (λ a r q k. search rules) in
     rw c.from.ensures (subst (λ (s : GroupSet). AreViolations s t c.sort_unstable_by_key.new.self.items) c.self.view_is

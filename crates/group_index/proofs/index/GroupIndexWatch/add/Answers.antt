@@ -11,33 +11,33 @@ use Rattle.group_index.proofs.index.GroupIndexWatch.add.Goals as goal
 
 pub same_entry-requires-clause-wide_one : goal.same_entry-requires-clause-wide_one
 same_entry-requires-clause-wide_one g c ids is =
-    let made : GroupsMade = record { table = c.self.inside.table; dependency = c.self.inside.dependency } in
+    let made : GroupsMade = record { table = c.self.inside.table; dependency = record { x = c.self.inside.x; a = c.self.inside.a; rows = c.self.inside.tableau } } in
     rw c.as_slice-x.ensures (wide_from made c.self.inside.groups c.args.self.now c.args.table ids c.self.view_is c.if-table-self.false (c.requires.wide_old ids is))
 
 pub same_entry-requires-clause-wide_other : goal.same_entry-requires-clause-wide_other
 same_entry-requires-clause-wide_other g c =
-    let made : GroupsMade = record { table = c.self.inside.table; dependency = c.self.inside.dependency } in
+    let made : GroupsMade = record { table = c.self.inside.table; dependency = record { x = c.self.inside.x; a = c.self.inside.a; rows = c.self.inside.tableau } } in
     rw c.as_slice-x.ensures (wide_from made c.self.inside.groups c.args.self.now c.args.table (ids_of c.args.new.now) c.self.view_is c.if-table-self.false c.requires.wide_new)
 
 pub returns-then-same_entry-clause-ok : goal.returns-then-same_entry-clause-ok
 returns-then-same_entry-clause-ok g c =
-    let made : GroupsMade = record { table = c.self.inside.table; dependency = c.self.inside.dependency } in
+    let made : GroupsMade = record { table = c.self.inside.table; dependency = record { x = c.self.inside.x; a = c.self.inside.a; rows = c.self.inside.tableau } } in
     let wide = wide_from made c.self.inside.groups c.args.self.now c.args.table (ids_of c.args.new.now) c.self.view_is c.if-table-self.false c.requires.wide_new in
     added_already made c.self.inside.groups c.args.self.now c.args.table c.args.row c.self.view_is c.if-table-self.false (ids_behind c.args.old) (ids_of c.args.new.now)
     (λ ids is. wide_from made c.self.inside.groups c.args.self.now c.args.table ids c.self.view_is c.if-table-self.false (c.requires.wide_old ids is)) wide
-    (ap (λ x. option_map_or (λ own. gives_alike own (ids_of c.args.new.now) x c.self.inside.dependency.a) (ids_behind c.args.old) false) (sym c.as_slice-x.ensures) ∙ sym c.same_entry.ensures ∙ c.if-same_entry.true)
+    (ap (λ x. option_map_or (λ own. gives_alike own (ids_of c.args.new.now) x c.self.inside.a) (ids_behind c.args.old) false) (sym c.as_slice-x.ensures) ∙ sym c.same_entry.ensures ∙ c.if-same_entry.true)
     c.requires.present
 
 pub write_key-requires-clause-wide : goal.write_key-requires-clause-wide
 write_key-requires-clause-wide g c =
-    let made : GroupsMade = record { table = c.self.inside.table; dependency = c.self.inside.dependency } in
-    rw c.as_slice-x.ensures (All-tail (λ attribute. attribute < length (ids_of c.args.new.now)) c.self.inside.dependency.a c.self.inside.dependency.x (wide_from made c.self.inside.groups c.args.self.now c.args.table (ids_of c.args.new.now) c.self.view_is c.if-table-self.false c.requires.wide_new))
+    let made : GroupsMade = record { table = c.self.inside.table; dependency = record { x = c.self.inside.x; a = c.self.inside.a; rows = c.self.inside.tableau } } in
+    rw c.as_slice-x.ensures (All-tail (λ attribute. attribute < length (ids_of c.args.new.now)) c.self.inside.a c.self.inside.x (wide_from made c.self.inside.groups c.args.self.now c.args.table (ids_of c.args.new.now) c.self.view_is c.if-table-self.false c.requires.wide_new))
 
 pub returns-clause-ok : goal.returns-clause-ok
 returns-clause-ok g c =
-    let made : GroupsMade = record { table = c.self.inside.table; dependency = c.self.inside.dependency } in
+    let made : GroupsMade = record { table = c.self.inside.table; dependency = record { x = c.self.inside.x; a = c.self.inside.a; rows = c.self.inside.tableau } } in
     let wide = wide_from made c.self.inside.groups c.args.self.now c.args.table (ids_of c.args.new.now) c.self.view_is c.if-table-self.false c.requires.wide_new in
     let key = c.write_key.ensures.ids ∙ ap (ids_at (ids_of c.args.new.now)) c.as_slice-x.ensures in
-    let a = ap (λ ids. slice_index ids c.self.inside.dependency.a) c.as_slice.ensures.value in
+    let a = ap (λ ids. slice_index ids c.self.inside.a) c.as_slice.ensures.value in
     put_answer c.put_entry.result c.put_entry.ensures.ok
     (added made c.self.inside.groups c.args.self.now c.args.table c.args.row c.self.view_is c.if-table-self.false c.put_entry.new.groups (ids_of c.args.new.now) _ wide (λ i. record { x = key i; a = a i; row = c.args.row }))
