@@ -1,6 +1,6 @@
 -- Rows of a tableau that are found by what they ask for.
-use Rattle.std.proofs.Common.{◌≡◌, ℕ, zero, suc, ◌+◌, ◌<◌, Bool, true, false, cond, not, ◌&&◌, ◌||◌, List, [], ◌∷◌, length, slice_get, Option, Some, None, refl, sym, ap, ◌∙◌, subst, inl, inr, arith}
-use Rattle.std.specs.Prelude.{nat_eq, nat_lt, All, Contains, filter, get_or}
+use Rattle.std.proofs.Common.{◌≡◌, ℕ, zero, suc, ◌+◌, ◌<◌, Bool, true, false, cond, ◌&&◌, ◌||◌, List, [], ◌∷◌, length, slice_get, Option, Some, None, refl, sym, ap, ◌∙◌, subst, inl, inr, arith}
+use Rattle.std.specs.Prelude.{nat_eq, Contains, filter, get_or}
 use Rattle.std.specs.List.{list_any}
 use Rattle.std.specs.Option.{option_map_or}
 use Rattle.std.specs.BTreeSet.{BTreeSet, contains}
@@ -20,7 +20,7 @@ use Rattle.group_index.specs.declared.tableau.Finder.{Finder}
 use Rattle.group_index.specs.Pairs.{Pair, has_pair, is_pair}
 use Rattle.group_index.specs.Tableaux.{FindsRow, FindsRows, IsFoundBy, IsKept, asked_by, is_asked, members_of, offends, offends_at}
 use Rattle.group_index.proofs.GroupFacts.{both_true, both_so, left_so, one_true, right_so, same_test}
-use Rattle.group_index.proofs.PairFacts.{any_same, has_from, member_from, pair_cmp, put_from_insert, set_has}
+use Rattle.group_index.proofs.PairFacts.{any_same, has_from, member_from, pair_cmp, put_from_insert}
 
 -- ---- places
 

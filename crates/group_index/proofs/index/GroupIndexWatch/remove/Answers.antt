@@ -4,7 +4,6 @@ use Rattle.std.specs.Option.{option_map_or}
 use Rattle.std.proofs.lemmas.List.Elements.{All-tail}
 use Rattle.row_store.specs.Tuple.{ids_of, ids_behind}
 use Rattle.group_index.specs.GroupSet.{GroupsMade}
-use Rattle.group_index.specs.Groups.{AreMarked}
 use Rattle.group_index.specs.Keys.{ids_at, gives_alike}
 use Rattle.group_index.proofs.WatchFacts.{wide_from, some_group, removed, removed_already}
 use Rattle.group_index.proofs.index.GroupIndexWatch.remove.Goals as goal
