@@ -1,6 +1,6 @@
 -- Some of the rows of a tableau that stand for all of them: the declaration has the same first fault with these as with
 -- all. So a reader of rows doesn't hold each one.
-use Rattle.std.specs.Prelude.{◌≡◌, ℕ, ◌<◌, ◌⊎◌, ◌||◌, Bool, IsTrue, List, length, Option, Some, None}
+use Rattle.std.specs.Prelude.{◌≡◌, ℕ, ◌<◌, ◌⊎◌, ◌||◌, Bool, IsTrue, List, length, Option, None}
 use Rattle.std.specs.Option.{is_some}
 use Rattle.text_lists.specs.Firsts.{first_in}
 use Rattle.schema_core.specs.declared.schema.Attr.{Attr}

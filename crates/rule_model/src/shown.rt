@@ -1,6 +1,6 @@
 //! The faults that rows of a tableau show one by one, so that a reader of very many rows doesn't hold each one.
 
-ghost use Rattle.std.specs.Prelude.{◌≡◌, ◌++◌, ◌∷◌, [], ◌⊎◌, List, IfOk, OnOk, false, not};
+ghost use Rattle.std.specs.Prelude.{◌≡◌, ◌++◌, ◌∷◌, [], ◌⊎◌, List, IfOk, OnOk, false};
 ghost use Rattle.std.specs.Option.{is_some};
 ghost use Rattle.schema_core.specs.Lookups.{attrs_of};
 ghost use Rattle.rule_model.specs.Faults.{is_as_wide, is_inclusion_row_as_wide, outside_in_row, outside_in_inclusion_row, repeated_in_row};
@@ -32,12 +32,14 @@ pub trait TestsRows<R> {
 }
 
 /// Over the head of a `cfd`.
+#[derive(Drop)]
 pub struct CfdTests<'a> {
     pub attrs: &'a [Attr],
     pub cfd: &'a CfdDecl,
 }
 
 /// Over the head of a `cind`.
+#[derive(Drop)]
 pub struct CindTests<'a> {
     pub lefts: &'a [Attr],
     pub rights: &'a [Attr],

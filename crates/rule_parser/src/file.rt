@@ -1,7 +1,7 @@
 //! A rule file as a rule book.
 
-ghost use Rattle.std.specs.Prelude.{◌≡◌, ◌≤◌, [], length, All, IfOk, OnOk};
-ghost use Rattle.line_grammar.specs.Faults.{IsUnlessMemory, GivesUnlessMemory, line_tells, ◌>>=◌};
+ghost use Rattle.std.specs.Prelude.{All, IfOk};
+ghost use Rattle.line_grammar.specs.Faults.{IsUnlessMemory, GivesUnlessMemory, line_tells};
 ghost use Rattle.text_lists.specs.Limits.{AreLimits};
 ghost use Rattle.schema_core.specs.Schemas.{IsValidSchema};
 ghost use Rattle.rule_model.specs.Books.{Book as AnyBook, with_decl, book_fault};
@@ -9,9 +9,9 @@ ghost use Rattle.rule_model.specs.Declarations.{IsWritten, IsWrittenRow, IsWritt
 ghost use Rattle.rule_model.specs.declared.decl.Decl.TheVariants.{Cfd, Cind};
 ghost use Rattle.rule_model.specs.FewRows.{cfd_row_tests, cind_row_tests};
 ghost use Rattle.schema_core.specs.Lookups.{attrs_of};
-ghost use Rattle.rule_parser.specs.ReadRules.{IsReadHead, HoldsUnlessMemory};
+ghost use Rattle.rule_parser.specs.ReadRules.{IsReadHead, HoldsUnlessMemory, joined};
 ghost use Rattle.rule_parser.specs.RuleLines.{row_at, inclusion_row_at};
-ghost use Rattle.rule_parser.specs.RuleFiles.{rule_causes, rows_of, some_rows, with_rows, unless_rule, no_strays, add_group, reads};
+ghost use Rattle.rule_parser.specs.RuleFiles.{rows_of, some_rows, with_rows, unless_rule, add_group, reads};
 
 use crate::fault::{ParseCause, ParseFault};
 use crate::heads::HeadLine;
@@ -126,7 +126,7 @@ impl RuleGroups {
         members: List<Line<'_>>,
     ) -> Result<(), ParseFault>
         requires { IsReadHead (Cfd cfd) }
-        ensures { GivesUnlessMemory line_tells (with_rows number members.entry (Cfd cfd) >>= λ decl. unless_rule (book_fault self.old.book decl) number (with_decl self.old.book decl)) (λ _. self.new.book) result }
+        ensures { GivesUnlessMemory line_tells (joined number self.old.book (with_rows number members.entry (Cfd cfd))) (λ _. self.new.book) result }
     {
         let held = cfd_rows(alloc, &self.book, &cfd, number, members)?;
         cfd.rows = held.rows;
@@ -142,7 +142,7 @@ impl RuleGroups {
         members: List<Line<'_>>,
     ) -> Result<(), ParseFault>
         requires { IsReadHead (Cind cind) }
-        ensures { GivesUnlessMemory line_tells (with_rows number members.entry (Cind cind) >>= λ decl. unless_rule (book_fault self.old.book decl) number (with_decl self.old.book decl)) (λ _. self.new.book) result }
+        ensures { GivesUnlessMemory line_tells (joined number self.old.book (with_rows number members.entry (Cind cind))) (λ _. self.new.book) result }
     {
         let held = cind_rows(alloc, &self.book, &cind, number, members)?;
         cind.rows = held.rows;

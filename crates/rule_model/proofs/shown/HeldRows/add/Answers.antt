@@ -1,4 +1,4 @@
-use Rattle.std.proofs.Common.{◌≡◌, ◌<◌, ◌++◌, ◌∷◌, [], length, arith, ap, sym, ◌∙◌, rules}
+use Rattle.std.proofs.Common.{◌≡◌, ◌<◌, ◌++◌, ◌∷◌, [], length, arith, ap, ◌∙◌, rules}
 use Rattle.rule_model.proofs.FewRows.{row_left, row_held_as, row_shown_as}
 use Rattle.rule_model.proofs.shown.HeldRows.add.Goals as goal
 use Rattle.rule_model.proofs.shown.HeldRows.add.Goals.{then-as_slice-most+in_ok-shown+else-eq, else-as_slice-most}
