@@ -5,3 +5,4 @@ pub mod Known
 pub mod ValidCells
 pub mod ValidRules
 pub mod Joining
+pub mod FewRows

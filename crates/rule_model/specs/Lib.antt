@@ -4,4 +4,5 @@ pub mod Rules
 pub mod Faults
 pub mod Judged
 pub mod Books
+pub mod FewRows
 pub mod Satisfied

@@ -96,6 +96,13 @@ impl RuleBook {
         &self.schema
     }
 
+    pub fn limits(&self) -> &Limits
+        ensures limits { result.now ≡ self.now.limits }
+        ensures valid { IsBook self.now }
+    {
+        &self.limits
+    }
+
     /// The declarations, in the order in which they joined.
     pub fn decls(&self) -> &List<Decl>
         ensures decls { result.now ≡ self.now.decls }

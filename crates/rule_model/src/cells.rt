@@ -117,7 +117,7 @@ fn constants_are_inside(attrs: &[Attr], names: &[Text], values: &[Text]) -> Resu
     Ok(())
 }
 
-fn row_is_inside(attrs: &[Attr], cfd: &CfdDecl, row: &CfdRow) -> Result<(), AddFault>
+pub fn row_is_inside(attrs: &[Attr], cfd: &CfdDecl, row: &CfdRow) -> Result<(), AddFault>
     ensures { Finds result (outside_in_row attrs.now cfd.now row.now) }
 {
     cells_are_inside(attrs, cfd.x.as_slice(), row.x.as_slice())?;
@@ -134,7 +134,7 @@ fn cfd_is_inside(schema: &Schema, cfd: &CfdDecl) -> Result<(), AddFault>
     Ok(())
 }
 
-fn inclusion_row_is_inside(
+pub fn inclusion_row_is_inside(
     lefts: &[Attr],
     rights: &[Attr],
     cind: &CindDecl,
@@ -198,7 +198,7 @@ fn cells_are_distinct(names: &[Text], cells: &[Cell]) -> Result<(), AddFault>
     Ok(())
 }
 
-fn row_is_distinct(cfd: &CfdDecl, row: &CfdRow) -> Result<(), AddFault>
+pub fn row_is_distinct(cfd: &CfdDecl, row: &CfdRow) -> Result<(), AddFault>
     ensures { Finds result (repeated_in_row cfd.now row.now) }
 {
     cells_are_distinct(cfd.x.as_slice(), row.x.as_slice())?;

@@ -18,6 +18,7 @@ mod names;
 mod numbering;
 pub mod rules;
 mod sets;
+pub mod shown;
 
 pub use book::RuleBook;
 pub use cind::{Cind, CindRow};
@@ -26,3 +27,4 @@ pub use dep::{Dep, DepRow};
 pub use edit_rule::{EditCell, EditRule};
 pub use fault::{AddFault, RuleFault};
 pub use judge::judge_dep;
+pub use shown::{CfdTests, CindTests, HeldRows, TestsRows};

@@ -1,5 +1,6 @@
 pub mod PairFront
 pub mod RowLists
+pub mod FewRows
 pub mod DepRows
 pub mod Pairs
 pub mod CellsAgain

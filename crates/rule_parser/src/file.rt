@@ -1,46 +1,58 @@
 //! A rule file as a rule book.
 
-ghost use Rattle.std.specs.Prelude.{◌≡◌, ◌≤◌, [], length, All, IfOk, OnOk};
+ghost use Rattle.std.specs.Prelude.{All, IfOk};
 ghost use Rattle.line_grammar.specs.Faults.{IsUnlessMemory, GivesUnlessMemory, line_tells};
 ghost use Rattle.text_lists.specs.Limits.{AreLimits};
 ghost use Rattle.schema_core.specs.Schemas.{IsValidSchema};
 ghost use Rattle.rule_model.specs.Books.{Book as AnyBook, with_decl, book_fault};
 ghost use Rattle.rule_model.specs.Declarations.{IsWritten, IsWrittenRow, IsWrittenInclusionRow};
-ghost use Rattle.rule_parser.specs.ReadRules.{IsReadHead};
+ghost use Rattle.rule_model.specs.declared.decl.Decl.TheVariants.{Cfd, Cind};
+ghost use Rattle.rule_model.specs.FewRows.{cfd_row_tests, cind_row_tests};
+ghost use Rattle.schema_core.specs.Lookups.{attrs_of};
+ghost use Rattle.rule_parser.specs.ReadRules.{IsReadHead, HoldsUnlessMemory, joined};
 ghost use Rattle.rule_parser.specs.RuleLines.{row_at, inclusion_row_at};
-ghost use Rattle.rule_parser.specs.RuleFiles.{rule_causes, rows_of, some_rows, with_rows, unless_rule, no_strays, add_group, reads};
+ghost use Rattle.rule_parser.specs.RuleFiles.{rows_of, some_rows, with_rows, unless_rule, add_group, reads};
 
 use crate::fault::{ParseCause, ParseFault};
 use crate::heads::HeadLine;
 use crate::rows::{InclusionRowLine, RowLine};
-use rule_model::{AddFault, Decl, RuleBook};
+use rule_model::{
+    AddFault, CfdDecl, CfdRow, CfdTests, CindDecl, CindRow, CindTests, Decl, HeldRows, RuleBook,
+    TestsRows,
+};
 use schema_core::{
     Gather, Group, Limits, Line, LineFault, List, Phrase, Schema, no_lines, read_groups,
 };
 use std::alloc::Global;
 
-/// The rows of lines.
-fn rows_of<P: Phrase>(alloc: Global, lines: List<Line<'_>>) -> Result<List<P::Value>, ParseFault>
-    ensures exact { IsUnlessMemory line_tells (rows_of P.reads lines.entry) result }
-    ensures fit { IfOk result (λ rows. All P.is_fit rows) }
-    ensures as_many { IfOk result (λ rows. length rows ≡ length lines.entry) }
+/// The rows of lines. Each line is read, and of more rows than so many only those are held that have a say in what is
+/// told of the declaration.
+fn rows_of<P: Phrase, T: TestsRows<P::Value>>(
+    alloc: Global,
+    tests: &T,
+    most: u64,
+    lines: List<Line<'_>>,
+) -> Result<HeldRows<P::Value>, ParseFault>
+    ensures exact { HoldsUnlessMemory (T.tests tests.now) most (rows_of P.reads lines.entry) result }
+    ensures fit { IfOk result (λ held. All P.is_fit held.rows) }
 {
-    let mut rows = List::new(alloc);
+    let mut held = HeldRows::new(alloc);
     for line in lines.into_vec() {
-        rows.push(line.read::<P, ParseCause>(alloc)?)?;
+        held.add(tests, most, line.read::<P, ParseCause>(alloc)?)?;
     }
-    Ok(rows)
+    Ok(held)
 }
 
 /// The rows behind a head of that number; one at least.
-fn some_rows<P: Phrase>(
+fn some_rows<P: Phrase, T: TestsRows<P::Value>>(
     alloc: Global,
+    tests: &T,
+    most: u64,
     number: usize,
     members: List<Line<'_>>,
-) -> Result<List<P::Value>, ParseFault>
-    ensures exact { IsUnlessMemory line_tells (some_rows P.reads number members.entry) result }
-    ensures fit { IfOk result (λ rows. All P.is_fit rows) }
-    ensures some { IfOk result (λ rows. 1 ≤ length rows) }
+) -> Result<HeldRows<P::Value>, ParseFault>
+    ensures exact { HoldsUnlessMemory (T.tests tests.now) most (some_rows P.reads number members.entry) result }
+    ensures fit { IfOk result (λ held. All P.is_fit held.rows) }
 {
     if members.as_slice().is_empty() {
         return Err(LineFault::At {
@@ -48,7 +60,39 @@ fn some_rows<P: Phrase>(
             cause: ParseCause::BadLine,
         });
     }
-    rows_of::<P>(alloc, members)
+    rows_of::<P, T>(alloc, tests, most, members)
+}
+
+/// The rows behind the head of a `cfd` that is to join a book.
+fn cfd_rows(
+    alloc: Global,
+    book: &RuleBook,
+    cfd: &CfdDecl,
+    number: usize,
+    members: List<Line<'_>>,
+) -> Result<HeldRows<CfdRow>, ParseFault>
+    ensures exact { HoldsUnlessMemory (cfd_row_tests (attrs_of book.now.schema cfd.now.table) cfd.now) book.now.limits.tableau_rows (some_rows row_at number members.entry) result }
+    ensures fit { IfOk result (λ held. All IsWrittenRow held.rows) }
+{
+    let tests = CfdTests::new(book.schema(), cfd);
+    let most = book.limits().tableau_rows;
+    some_rows::<RowLine, CfdTests<'_>>(alloc, &tests, most, number, members)
+}
+
+/// The rows behind the head of a `cind` that is to join a book.
+fn cind_rows(
+    alloc: Global,
+    book: &RuleBook,
+    cind: &CindDecl,
+    number: usize,
+    members: List<Line<'_>>,
+) -> Result<HeldRows<CindRow>, ParseFault>
+    ensures exact { HoldsUnlessMemory (cind_row_tests (attrs_of book.now.schema cind.now.left) (attrs_of book.now.schema cind.now.right) cind.now) book.now.limits.tableau_rows (some_rows inclusion_row_at number members.entry) result }
+    ensures fit { IfOk result (λ held. All IsWrittenInclusionRow held.rows) }
+{
+    let tests = CindTests::new(book.schema(), cind);
+    let most = book.limits().tableau_rows;
+    some_rows::<InclusionRowLine, CindTests<'_>>(alloc, &tests, most, number, members)
 }
 
 /// A book that groups add to.
@@ -72,6 +116,38 @@ impl RuleGroups {
             }),
         }
     }
+
+    /// Adds a `cfd` with the rows behind its head.
+    fn join_cfd(
+        &mut self,
+        alloc: Global,
+        number: usize,
+        mut cfd: CfdDecl,
+        members: List<Line<'_>>,
+    ) -> Result<(), ParseFault>
+        requires { IsReadHead (Cfd cfd) }
+        ensures { GivesUnlessMemory line_tells (joined number self.old.book (with_rows number members.entry (Cfd cfd))) (λ _. self.new.book) result }
+    {
+        let held = cfd_rows(alloc, &self.book, &cfd, number, members)?;
+        cfd.rows = held.rows;
+        self.join(number, Decl::Cfd(cfd))
+    }
+
+    /// Adds a `cind` with the rows behind its head.
+    fn join_cind(
+        &mut self,
+        alloc: Global,
+        number: usize,
+        mut cind: CindDecl,
+        members: List<Line<'_>>,
+    ) -> Result<(), ParseFault>
+        requires { IsReadHead (Cind cind) }
+        ensures { GivesUnlessMemory line_tells (joined number self.old.book (with_rows number members.entry (Cind cind))) (λ _. self.new.book) result }
+    {
+        let held = cind_rows(alloc, &self.book, &cind, number, members)?;
+        cind.rows = held.rows;
+        self.join(number, Decl::Cind(cind))
+    }
 }
 
 impl<'a> Gather<Group<'a>> for RuleGroups {
@@ -94,14 +170,8 @@ impl<'a> Gather<Group<'a>> for RuleGroups {
         let Group { head, members } = group;
         let number = head.number;
         match head.read::<HeadLine, ParseCause>(alloc)? {
-            Decl::Cfd(mut cfd) => {
-                cfd.rows = some_rows::<RowLine>(alloc, number, members)?;
-                self.join(number, Decl::Cfd(cfd))
-            }
-            Decl::Cind(mut cind) => {
-                cind.rows = some_rows::<InclusionRowLine>(alloc, number, members)?;
-                self.join(number, Decl::Cind(cind))
-            }
+            Decl::Cfd(cfd) => self.join_cfd(alloc, number, cfd, members),
+            Decl::Cind(cind) => self.join_cind(alloc, number, cind, members),
             Decl::Edit(edit) => {
                 self.join(number, Decl::Edit(edit))?;
                 no_lines(members.as_slice())

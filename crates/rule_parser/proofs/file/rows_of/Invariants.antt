@@ -1,11 +1,8 @@
-use Rattle.std.proofs.Common.{◌≡◌, ◌+◌, length, All}
+use Rattle.std.proofs.Common.{All}
 use Rattle.rule_parser.specs.RuleFiles.{rows_of}
-use Rattle.rule_parser.proofs.RowLists.{behind}
+use Rattle.rule_parser.proofs.RowLists.{ReadSoFar}
 use Rattle.rule_parser.proofs.file.rows_of.Given as goal
 
--- the rows so far are fit, and those of the lines that are left stand behind them
+-- the rows that are held are fit, and stand for all of the lines that were read
 abbrev pub invariant-loop-line : goal.invariant-loop-line
-invariant-loop-line g l =
-    (behind l.rows (rows_of g.P.Phrase.reads l.line-iterator.rest.items) ≡ rows_of g.P.Phrase.reads l.fn.lines)
-    × All g.P.Phrase.is_fit l.rows
-    × (length l.rows + length l.line-iterator.rest.items ≡ length l.fn.lines)
+invariant-loop-line g l = ReadSoFar g.P.Phrase.reads (g.T.TestsRows.tests l.tests) l.most (rows_of g.P.Phrase.reads l.fn.lines) l.line-iterator.rest.items l.held × All g.P.Phrase.is_fit l.held.rows
