@@ -1,0 +1,5 @@
+pub mod Sorting
+pub mod GroupFacts
+pub mod Renaming
+pub mod Members
+pub mod Arranging
