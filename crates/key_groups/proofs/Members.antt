@@ -34,6 +34,13 @@ module _ {K T : Type 0} (eq : K → K → Bool) (P : K → Type 0) (Q : T → Ty
       (distinct eq (map (λ item. item.0) items))
       (each-distinct eq P (map (λ item. item.0) items) (each-map IsItem P (λ item. item.0) (λ item its. its.0) items each))
 
+-- what holds of the keys alone
+module _ {K T : Type 0} (eq : K → K → Bool) (P : K → Type 0) where
+  pub each-keyed : (items : List (K × T)) → All (λ item. P item.0) items → All (λ group. P group.0) (by_key eq items)
+  each-keyed items each =
+      each-map P (λ group. P group.0) (λ key. (key, items_of eq items key)) (λ key known. known) (distinct eq (map (λ item. item.0) items))
+      (each-distinct eq P (map (λ item. item.0) items) (each-map (λ item. P item.0) P (λ item. item.0) (λ item its. its) items each))
+
 -- ---- how many items the groups have
 
 module _ {K T : Type 0} (eq : K → K → Bool) where

@@ -1,0 +1,4 @@
+pub mod IdsAt
+pub mod Listing
+pub mod Grouping
+pub mod Steps
