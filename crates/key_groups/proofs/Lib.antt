@@ -3,3 +3,4 @@ pub mod GroupFacts
 pub mod Renaming
 pub mod Members
 pub mod Arranging
+pub mod Totals

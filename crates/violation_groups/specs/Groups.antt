@@ -7,6 +7,7 @@ use Rattle.key_groups.specs.Arranged.{IsLargestFirst, IsRarestFirst}
 use Rattle.rule_model.specs.declared.dep.Dep.{Dep}
 use Rattle.rule_model.specs.declared.cind.Cind.{Cind}
 use Rattle.rule_model.specs.Books.{Book, book_cinds, book_deps}
+use Rattle.bench_core.specs.Answers.{cind_orphans, dep_violations}
 use Rattle.bench_core.specs.State.{State}
 use Rattle.violation_groups.specs.Listed.{Shared, Valued, same_shared, cind_listed, dep_listed}
 use Rattle.violation_groups.specs.declared.groups.ValueRows.{ValueRows}
@@ -54,3 +55,8 @@ AreMissing listed = IsLargestFirst missing_size (map missing_of (by_key same_sha
 pub record AreFindings (rules : Book) (state : State) (findings : Findings) : Type 0 where
   pub deps : AllZip (λ (dep : Dep) groups. AreGroups (dep_listed state dep) groups) (book_deps rules) findings.deps
   pub cinds : AllZip (λ (cind : Cind) missing. AreMissing (cind_listed state cind) missing) (book_cinds rules) findings.cinds
+
+-- The groups of each rule together have a row for each line that the list has of it.
+pub record HaveAllLines (rules : Book) (state : State) (findings : Findings) : Type 0 where
+  pub deps : AllZip (λ (dep : Dep) groups. sum_by group_size groups ≡ length (dep_violations state dep)) (book_deps rules) findings.deps
+  pub cinds : AllZip (λ (cind : Cind) missing. sum_by missing_size missing ≡ length (cind_orphans state cind)) (book_cinds rules) findings.cinds

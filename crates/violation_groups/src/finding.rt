@@ -4,7 +4,7 @@ ghost use Rattle.std.specs.Prelude.{◌≡◌, ◌<◌, IfOk, length, slice_get}
 ghost use Rattle.std.specs.List.{AllZip};
 ghost use Rattle.std.specs.Option.{ForSome};
 ghost use Rattle.rule_model.specs.Books.{book_cinds, book_deps};
-ghost use Rattle.violation_groups.specs.Groups.{AreFindings, AreGroups, AreMissing};
+ghost use Rattle.violation_groups.specs.Groups.{AreFindings, AreGroups, AreMissing, HaveAllLines};
 ghost use Rattle.violation_groups.specs.Listed.{cind_listed, dep_listed};
 
 use crate::dep_groups::groups_of;
@@ -24,8 +24,11 @@ pub fn findings<L: Ledger>(
     bench: &Bench,
     steps: &mut Steps<L>,
 ) -> Result<Findings, AllocError>
-    ensures { IfOk result (AreFindings bench.now.rules bench.now.history.present) }
+    ensures found { IfOk result (AreFindings bench.now.rules bench.now.history.present) }
+    ensures law { IfOk result (HaveAllLines bench.now.rules bench.now.history.present) }
 {
+    // The rules are what says that each table that they name is there.
+    let _deps = bench.rules().deps();
     let deps = all_groups(alloc, bench, steps)?;
     let cinds = all_missing(alloc, bench, steps)?;
     Ok(Findings { deps, cinds })

@@ -9,6 +9,6 @@ returns-in-None c =
 
 pub loop-attribute-preserved : goal.loop-attribute-preserved
 loop-attribute-preserved c =
-    ap (λ done. collects done c.args.ids.now (drop (c.loop-attribute.attribute-index + 1) c.args.attributes.now)) c.in_ok-push.ensures.items
+    ap (λ done. collects done c.args.ids.now (drop (c.loop-attribute.attribute-index + 1) c.args.attributes.now)) c.in_ok-push-in-Some.ensures.items
     ∙ collects-more c.loop-attribute.found.items c.args.ids.now c.args.attributes.now c.loop-attribute.attribute-index _ c.in-Some.id c.loop-attribute-test.true refl (sym c.in-Some.ensures)
     ∙ c.loop-attribute.invariant
