@@ -30,7 +30,7 @@ use Rattle.bench_core.specs.Answers.{cind_orphans, dep_violations, row_texts}
 use Rattle.bench_core.specs.Bench.{IsBench}
 use Rattle.bench_core.specs.State.{IsTableState, Row, State, TableState, has_id, rows_at, texts_of}
 use Rattle.bench_core.proofs.RowsById.{length-texts_of}
-use Rattle.violation_groups.specs.Listed.{cind_listed, dep_listed, listed_of, listed_orphan_of}
+use Rattle.violation_groups.specs.Listed.{Shared, Valued, cind_listed, dep_listed, listed_of, listed_orphan_of}
 
 -- ---- lists
 
@@ -53,7 +53,7 @@ module _ {T X : Type 0} (Q : X → Type 0) (gives : T → List X) (each : (t : T
   numbered-from n (t ∷ items) =
       All-append (λ (given : ℕ × X). Q given.1) (map (λ given. (n, given)) (gives t)) _
       (All-map (λ (given : ℕ × X). Q given.1) (λ given. (n, given)) (gives t) (each t))
-      (numbered-from _ items)
+      (numbered-from (n + 1) items)
 
   all-numbered : (items : List T) → All (λ (given : ℕ × X). Q given.1) (numbered gives items)
   all-numbered items = numbered-from 0 items
@@ -150,7 +150,7 @@ module _ (rules : Book) (limits : Limits) (state : State) (valid : IsBench rules
       by : (o : Option (List (List ℕ))) → row_texts state dep.table found.row ≡ o → is_some (listed_of state dep (k, found)) ≡ true
       by None there = absurd (true≢false (sym some ∙ ap is_some there))
       by (Some texts) there =
-          ap (λ o. is_some (option_and_then (λ texts. option_map (λ (sides : Sides (List ℕ)). ((k, sides.x), (sides.a, found.row))) (sides_of dep.rule texts)) o)) there
+          ap (λ (o : Option (List (List ℕ))). is_some {T = Shared × Valued} (option_and_then (λ texts. option_map (λ (sides : Sides (List ℕ)). ((k, sides.x), (sides.a, found.row))) (sides_of dep.rule texts)) o)) there
           ∙ some-mapped (λ (sides : Sides (List ℕ)). ((k, sides.x), (sides.a, found.row))) (sides_of dep.rule texts)
           (some-both (λ x a. record { x = x; a = a }) (values_at texts dep.rule.x) (slice_get texts dep.rule.a)
           (values-there texts dep.rule.x (wide-at rules limits state valid dep.table found.row texts dep.rule.x there dep-valid.x))
@@ -170,7 +170,7 @@ module _ (rules : Book) (limits : Limits) (state : State) (valid : IsBench rules
       by : (o : Option (List (List ℕ))) → row_texts state cind.left row ≡ o → is_some (listed_orphan_of state cind (k, row)) ≡ true
       by None there = absurd (true≢false (sym some ∙ ap is_some there))
       by (Some texts) there =
-          ap (λ o. is_some (option_and_then (λ texts. option_map (λ key. ((k, key), row)) (values_at texts cind.rule.x)) o)) there
+          ap (λ (o : Option (List (List ℕ))). is_some {T = Shared × ℕ} (option_and_then (λ texts. option_map (λ key. ((k, key), row)) (values_at texts cind.rule.x)) o)) there
           ∙ some-mapped (λ key. ((k, key), row)) (values_at texts cind.rule.x)
           (values-there texts cind.rule.x (wide-at rules limits state valid cind.left row texts cind.rule.x there cind-valid.x))
 
