@@ -1,3 +1,3 @@
-pub mod Arranged
 pub mod Listed
 pub mod Groups
+pub mod ByIds

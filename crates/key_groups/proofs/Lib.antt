@@ -1,0 +1,6 @@
+pub mod Sorting
+pub mod GroupFacts
+pub mod Renaming
+pub mod Members
+pub mod Arranging
+pub mod Totals

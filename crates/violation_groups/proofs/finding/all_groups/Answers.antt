@@ -1,0 +1,14 @@
+use Rattle.std.proofs.Common.{◌≡◌, List, length, take, subst, arith}
+use Rattle.std.specs.List.{AllZip}
+use Rattle.std.proofs.lemmas.List.{take_all}
+use Rattle.rule_model.specs.Books.{book_deps}
+use Rattle.rule_model.specs.declared.dep.Dep.{Dep}
+use Rattle.violation_groups.specs.Groups.{AreGroups}
+use Rattle.violation_groups.specs.Listed.{dep_listed}
+use Rattle.violation_groups.proofs.Steps.{zip-taken}
+use Rattle.violation_groups.proofs.finding.all_groups.Goals as goal
+
+pub loop-number-preserved : goal.loop-number-preserved
+loop-number-preserved g c =
+    zip-taken (λ (rule : Dep) found. AreGroups (dep_listed c.args.bench.now.history.present rule) found) (book_deps c.args.bench.now.rules) c.loop-number.number c.loop-number.all c.push.new.self c.in_ok-groups.groups
+    (omega (arith, c.loop-number-test.true, c.dep_count-number-end.ensures)) c.loop-number.invariant c.in_ok-groups.ensures c.in_ok-push.ensures.ok

@@ -1,0 +1,10 @@
+use Rattle.std.proofs.Common.{take}
+use Rattle.std.specs.List.{AllZip}
+use Rattle.rule_model.specs.Books.{book_deps}
+use Rattle.rule_model.specs.declared.dep.Dep.{Dep}
+use Rattle.violation_groups.specs.Groups.{AreGroups}
+use Rattle.violation_groups.specs.Listed.{dep_listed}
+use Rattle.violation_groups.proofs.finding.all_groups.Given as goal
+
+abbrev pub invariant-loop-number : goal.invariant-loop-number
+invariant-loop-number g l = AllZip (λ (rule : Dep) found. AreGroups (dep_listed l.bench.history.present rule) found) (take l.number (book_deps l.bench.rules)) l.all

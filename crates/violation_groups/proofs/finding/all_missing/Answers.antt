@@ -1,0 +1,14 @@
+use Rattle.std.proofs.Common.{◌≡◌, List, length, take, subst, arith}
+use Rattle.std.specs.List.{AllZip}
+use Rattle.std.proofs.lemmas.List.{take_all}
+use Rattle.rule_model.specs.Books.{book_cinds}
+use Rattle.rule_model.specs.declared.cind.Cind.{Cind}
+use Rattle.violation_groups.specs.Groups.{AreMissing}
+use Rattle.violation_groups.specs.Listed.{cind_listed}
+use Rattle.violation_groups.proofs.Steps.{zip-taken}
+use Rattle.violation_groups.proofs.finding.all_missing.Goals as goal
+
+pub loop-number-preserved : goal.loop-number-preserved
+loop-number-preserved g c =
+    zip-taken (λ (rule : Cind) found. AreMissing (cind_listed c.args.bench.now.history.present rule) found) (book_cinds c.args.bench.now.rules) c.loop-number.number c.loop-number.all c.push.new.self c.in_ok-missing.missing
+    (omega (arith, c.loop-number-test.true, c.cind_count-number-end.ensures)) c.loop-number.invariant c.in_ok-missing.ensures c.in_ok-push.ensures.ok
