@@ -39,6 +39,7 @@ module _ (texts : List (List ℕ)) (one_id : HaveOneId texts) where
       differ true same isnt =
           let equal : v ≡ w = grind (arith, nat_tests, same) in
           sym isnt ∙ (bytes_eq-Decides (text_of texts v) (text_of texts w)).1 (ap (text_of texts) equal)
+
       by : (b : Bool) → bytes_eq (text_of texts v) (text_of texts w) ≡ b → bytes_eq (text_of texts v) (text_of texts w) ≡ nat_eq v w
       by true is =
           let same = (bytes_eq-Decides (text_of texts v) (text_of texts w)).0 is in

@@ -49,12 +49,7 @@ fn each_group(
     Ok(groups)
 }
 
-fn group_of(
-    alloc: Global,
-    pool: &Pool,
-    key: Key,
-    rows: List<ValueRow>,
-) -> Result<Group, AllocError>
+fn group_of(alloc: Global, pool: &Pool, key: Key, rows: List<ValueRow>) -> Result<Group, AllocError>
     requires { IsKnownGroup pool.now (key, rows) }
     ensures { IfOk result (IsGroup (group_named pool.now (key, rows))) }
 {

@@ -28,6 +28,6 @@ returns g c =
     if_ok c.groups_of.result c.groups_of.ensures (λ found are. λ rule at.
     let same : own ≡ rule = c.index-as_slice-number.is ∙ ap (λ (l : List Dep). get_or l c.args.number own) rules ∙ get_or_from_slice_get (book_deps c.args.bench.now.rules) c.args.number rule own at in
     let told = ap (λ (texts : List (List ℕ)). map (row_named texts) c.in_ok-rows.rows.items) c.pool.ensures ∙ c.in_ok-rows.ensures.rows
-        ∙ ap (filter_map (listed_of state own)) (c.as_slice-2.ensures ∙ c.in_ok-found.ensures.violations ∙ ap (λ (o : Option Dep). option_map_or (dep_violations state) o []) at)
-        ∙ ap (λ (r : Dep). filter_map (listed_of state r) (dep_violations state rule)) same in
+    ∙ ap (filter_map (listed_of state own)) (c.as_slice-2.ensures ∙ c.in_ok-found.ensures.violations ∙ ap (λ (o : Option Dep). option_map_or (dep_violations state) o []) at)
+    ∙ ap (λ (r : Dep). filter_map (listed_of state r) (dep_violations state rule)) same in
     subst (λ l. AreGroups l found) told are)

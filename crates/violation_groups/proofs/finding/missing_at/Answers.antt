@@ -28,6 +28,6 @@ returns g c =
     if_ok c.missing_of.result c.missing_of.ensures (λ found are. λ rule at.
     let same : own ≡ rule = c.index-as_slice-number.is ∙ ap (λ (l : List Cind). get_or l c.args.number own) rules ∙ get_or_from_slice_get (book_cinds c.args.bench.now.rules) c.args.number rule own at in
     let told = ap (λ (texts : List (List ℕ)). map (keyed_named texts) c.in_ok-rows.rows.items) c.pool.ensures ∙ c.in_ok-rows.ensures.rows
-        ∙ ap (filter_map (listed_orphan_of state own)) (c.as_slice-2.ensures ∙ c.in_ok-found.ensures.orphans ∙ ap (λ (o : Option Cind). option_map_or (cind_orphans state) o []) at)
-        ∙ ap (λ (r : Cind). filter_map (listed_orphan_of state r) (cind_orphans state rule)) same in
+    ∙ ap (filter_map (listed_orphan_of state own)) (c.as_slice-2.ensures ∙ c.in_ok-found.ensures.orphans ∙ ap (λ (o : Option Cind). option_map_or (cind_orphans state) o []) at)
+    ∙ ap (λ (r : Cind). filter_map (listed_orphan_of state r) (cind_orphans state rule)) same in
     subst (λ l. AreMissing l found) told are)

@@ -16,20 +16,20 @@ returns-in_default-clause-row c =
 pub returns-in-Some-2-clause-row : goal.returns-in-Some-2-clause-row
 returns-in-Some-2-clause-row c =
     let key : Some c.in-Some-2.x.items ≡ values_at (ids_of c.in-Some.tuple.now) c.args.cind.now.rule.x =
-        ap (option_map (λ v. v.items)) (sym c.in-Some-2.is) ∙ c.in_ok-x.ensures ∙ ap (λ ids. values_at ids c.as_slice-2.result.now) c.as_slice.ensures.value ∙ ap (values_at (ids_of c.in-Some.tuple.now)) c.as_slice-2.ensures in
+    ap (option_map (λ v. v.items)) (sym c.in-Some-2.is) ∙ c.in_ok-x.ensures ∙ ap (λ ids. values_at ids c.as_slice-2.result.now) c.as_slice.ensures.value ∙ ap (values_at (ids_of c.in-Some.tuple.now)) c.as_slice-2.ensures in
     ap (option_map (orphan_named c.args.bench.now.texts c.args.k c.args.row)) key
     ∙ sym (orphan-there c.args.bench.now.history.present c.args.bench.now.texts c.args.cind.now c.store.result.now c.store.ensures.state c.args.k c.args.row (ids_of c.in-Some.tuple.now) (sym c.in-Some.ensures))
 
 pub returns-in-Some-2-clause-known : goal.returns-in-Some-2-clause-known
 returns-in-Some-2-clause-known c =
     let key : Some c.in-Some-2.x.items ≡ values_at (ids_of c.in-Some.tuple.now) c.args.cind.now.rule.x =
-        ap (option_map (λ v. v.items)) (sym c.in-Some-2.is) ∙ c.in_ok-x.ensures ∙ ap (λ ids. values_at ids c.as_slice-2.result.now) c.as_slice.ensures.value ∙ ap (values_at (ids_of c.in-Some.tuple.now)) c.as_slice-2.ensures in
+    ap (option_map (λ v. v.items)) (sym c.in-Some-2.is) ∙ c.in_ok-x.ensures ∙ ap (λ ids. values_at ids c.as_slice-2.result.now) c.as_slice.ensures.value ∙ ap (values_at (ids_of c.in-Some.tuple.now)) c.as_slice-2.ensures in
     values_at-known (HasText c.args.bench.now.texts) (ids_of c.in-Some.tuple.now) c.args.cind.now.rule.x c.in-Some-2.x.items
     (have-texts c.args.bench.now.texts (stored c.store.result.now) c.args.row (ids_of c.in-Some.tuple.now) c.store.ensures.texts (sym c.in-Some.ensures)) (sym key)
 
 pub returns-in-None-clause-row : goal.returns-in-None-clause-row
 returns-in-None-clause-row c =
     let key : None ≡ values_at (ids_of c.in-Some.tuple.now) c.args.cind.now.rule.x =
-        ap (option_map (λ v. v.items)) (sym c.in-None.is) ∙ c.in_ok-x.ensures ∙ ap (λ ids. values_at ids c.as_slice-2.result.now) c.as_slice.ensures.value ∙ ap (values_at (ids_of c.in-Some.tuple.now)) c.as_slice-2.ensures in
+    ap (option_map (λ v. v.items)) (sym c.in-None.is) ∙ c.in_ok-x.ensures ∙ ap (λ ids. values_at ids c.as_slice-2.result.now) c.as_slice.ensures.value ∙ ap (values_at (ids_of c.in-Some.tuple.now)) c.as_slice-2.ensures in
     ap (option_map (orphan_named c.args.bench.now.texts c.args.k c.args.row)) key
     ∙ sym (orphan-there c.args.bench.now.history.present c.args.bench.now.texts c.args.cind.now c.store.result.now c.store.ensures.state c.args.k c.args.row (ids_of c.in-Some.tuple.now) (sym c.in-Some.ensures))
