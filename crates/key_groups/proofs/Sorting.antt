@@ -1,14 +1,14 @@
 -- What a stable sort by sizes leaves.
-use Rattle.std.proofs.Common.{◌≡◌, ℕ, ◌<◌, ◌≤◌, Bool, true, false, not, ◌&&◌, List, [], ◌∷◌, length, filter, refl, sym, ap, subst, ◌∙◌, arith}
-use Rattle.std.specs.Prelude.{◌==◌, All, nat_lt, cond}
+use Rattle.std.proofs.Common.{◌≡◌, ℕ, ◌≤◌, Bool, true, false, not, ◌&&◌, List, [], ◌∷◌, filter, refl, sym, ap, subst, ◌∙◌, arith}
+use Rattle.std.specs.Prelude.{◌==◌, All, nat_lt}
 use Rattle.std.specs.Ordering.{is_lt, nat_cmp}
 use Rattle.std.specs.List.Sorted.{IsSortedBy, IsStableBy, ties}
-use Rattle.std.specs.Cmp.{IsStrictWeakOrder, nat_cmp_total}
+use Rattle.std.specs.Cmp.{nat_cmp_total}
 use Rattle.std.proofs.lemmas.Bool.Decides.{nat_tests}
 use Rattle.std.proofs.lemmas.List.Elements.{All-head, filter_agree, filter_passes}
 use Rattle.std.proofs.lemmas.List.Sorted.{IsStrictWeakOrder-flip, ranks_by, sorted_far}
 use Rattle.std.proofs.Common.{Result, Ok, Err, OnOk}
-use Rattle.key_groups.specs.Arranged.{IsArranged, IsLargestFirst, IsRarestFirst}
+use Rattle.key_groups.specs.Arranged.{IsLargestFirst, IsRarestFirst}
 
 -- what holds where a call succeeds
 pub on_ok_both : {A E P Q : Type 0} (r : Result A E) → OnOk r P → (P → Q) → OnOk r Q

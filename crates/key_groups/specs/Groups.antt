@@ -1,5 +1,5 @@
 -- Items by their keys.
-use Rattle.std.specs.Prelude.{ℕ, ◌==◌, Bool, not, List, [], ◌∷◌, ◌++◌, if◌then◌else◌, length, map, filter}
+use Rattle.std.specs.Prelude.{ℕ, Bool, not, List, [], ◌∷◌, ◌++◌, if◌then◌else◌, length, map, filter}
 
 -- each item once, where it first stands
 abbrev pub distinct : {T : Type 0} → (T → T → Bool) → List T → List T

@@ -1,7 +1,6 @@
 -- Groups by ids under their texts.
-use Rattle.std.proofs.Common.{◌≡◌, ℕ, Bool, true, false, ◌&&◌, List, [], ◌∷◌, length, map, refl, sym, ap, subst, ◌∙◌, arith, slice_get, Some}
+use Rattle.std.proofs.Common.{◌≡◌, ℕ, Bool, true, false, ◌&&◌, List, [], ◌∷◌, map, refl, sym, ap, subst, ◌∙◌, arith, Some}
 use Rattle.std.specs.Prelude.{All, nat_eq}
-use Rattle.std.specs.List.{AllZip}
 use Rattle.std.specs.Str.{bytes_eq}
 use Rattle.std.proofs.lemmas.Bool.Decides.{nat_tests}
 use Rattle.std.proofs.lemmas.List.{length-map}
@@ -11,16 +10,16 @@ use Rattle.value_pool.specs.Pool.{HaveOneId}
 use Rattle.cfd_semantics.specs.Renaming.{KeepsApart}
 use Rattle.cfd_semantics.specs.Tuple.{same_values}
 use Rattle.cfd_semantics.proofs.Renamed.{same_values-renamed}
-use Rattle.bench_core.specs.Stored.{HaveTexts, text_of}
+use Rattle.bench_core.specs.Stored.{text_of}
 use Rattle.key_groups.specs.Groups.{by_key, group_size}
 use Rattle.key_groups.specs.Arranged.{IsLargestFirst, IsRarestFirst}
 use Rattle.key_groups.proofs.Arranging.{arranged-renamed}
 use Rattle.key_groups.proofs.Renaming.{by_key-renamed}
-use Rattle.violation_groups.specs.Listed.{Shared, Valued, same_shared}
+use Rattle.violation_groups.specs.Listed.{same_shared}
 use Rattle.violation_groups.specs.Groups.{missing_of, missing_size, value_rows, value_size}
 use Rattle.violation_groups.specs.declared.groups.Missing.{Missing}
 use Rattle.violation_groups.specs.declared.groups.ValueRows.{ValueRows}
-use Rattle.violation_groups.specs.ByIds.{HasText, IsKnownKey, IsKnownKeyed, IsKnownRow, Key, group_named, key_named, keyed_named, missing_named, row_named, value_named, value_rows_named}
+use Rattle.violation_groups.specs.ByIds.{HasText, IsKnownKey, IsKnownKeyed, Key, group_named, key_named, keyed_named, missing_named, row_named, value_named, value_rows_named}
 
 -- the keys' own test
 abbrev pub same_key : Key → Key → Bool

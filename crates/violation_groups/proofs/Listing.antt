@@ -1,5 +1,5 @@
 -- The rows of a list, as the stores tell them.
-use Rattle.std.proofs.Common.{◌≡◌, ℕ, ◌+◌, ◌<◌, List, [], ◌∷◌, ◌++◌, length, map, take, get_or, Option, Some, None, refl, sym, ap, subst, ◌∙◌, arith, slice_get}
+use Rattle.std.proofs.Common.{◌≡◌, ℕ, ◌+◌, ◌<◌, List, [], ◌∷◌, ◌++◌, length, map, take, get_or, Option, Some, None, refl, sym, ap, subst, ◌∙◌, slice_get}
 use Rattle.std.specs.Prelude.{All, IfSome, option_map, option_and_then}
 use Rattle.std.specs.FinMap as finmap
 use Rattle.std.specs.List.{cons_option, filter_map}
@@ -14,9 +14,9 @@ use Rattle.cfd_semantics.proofs.Renamed.{values_at-renamed, values_at-known}
 use Rattle.rule_model.specs.declared.dep.Dep.{Dep}
 use Rattle.rule_model.specs.declared.cind.Cind.{Cind}
 use Rattle.bench_core.specs.State.{State, TableState, texts_of}
-use Rattle.bench_core.specs.Stored.{HaveTexts, RowsHaveTexts, stored, table_state, text_of}
+use Rattle.bench_core.specs.Stored.{HaveTexts, stored, table_state, text_of}
 use Rattle.bench_core.specs.Answers.{row_texts}
-use Rattle.bench_core.proofs.Planned.{have-texts, texts-absent, texts-there}
+use Rattle.bench_core.proofs.Planned.{texts-absent, texts-there}
 use Rattle.violation_groups.specs.Listed.{Shared, Valued, listed_of, listed_orphan_of}
 use Rattle.violation_groups.specs.ByIds.{HasText, sides_by_ids}
 

@@ -1,7 +1,7 @@
-use Rattle.std.proofs.Common.{◌≡◌, ap, ◌∙◌, List, [], ◌∷◌, ◌++◌}
+use Rattle.std.proofs.Common.{ap, ◌∙◌, [], ◌∷◌, ◌++◌}
 use Rattle.indexmap.specs.IndexMap.{set_value_at}
 use Rattle.key_groups.proofs.Sorting.{on_ok_both}
-use Rattle.key_groups.proofs.GroupFacts.{IsEntered, entered}
+use Rattle.key_groups.proofs.GroupFacts.{entered}
 use Rattle.key_groups.proofs.grouping.add.Goals as goal
 
 pub index_mut-requires : goal.index_mut-requires

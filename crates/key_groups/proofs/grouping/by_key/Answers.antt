@@ -1,4 +1,4 @@
-use Rattle.std.proofs.Common.{◌≡◌, ap, sym, ◌∙◌}
+use Rattle.std.proofs.Common.{ap, sym, ◌∙◌}
 use Rattle.key_groups.specs.Groups.{with_item}
 use Rattle.key_groups.proofs.GroupFacts.{by_key-push}
 use Rattle.key_groups.proofs.grouping.by_key.Goals as goal

@@ -1,10 +1,10 @@
-use Rattle.std.proofs.Common.{◌≡◌, ℕ, List, sym, subst, map, ap, ◌∙◌}
+use Rattle.std.proofs.Common.{ℕ, List, sym, subst, ap, ◌∙◌}
 use Rattle.std.specs.Prelude.{All, nat_eq}
 use Rattle.std.proofs.lemmas.List.Sorted.{All-permutation}
 use Rattle.key_groups.specs.Arranged.{IsRarestFirst}
 use Rattle.key_groups.specs.Groups.{by_key, group_size}
 use Rattle.key_groups.proofs.Members.{each-keyed}
-use Rattle.violation_groups.specs.ByIds.{HasText, value_rows_named}
+use Rattle.violation_groups.specs.ByIds.{HasText}
 use Rattle.violation_groups.proofs.Grouping.{values-as-told}
 use Rattle.violation_groups.proofs.Steps.{if_ok}
 use Rattle.violation_groups.proofs.dep_groups.values_of.Goals as goal

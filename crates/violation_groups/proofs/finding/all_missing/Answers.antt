@@ -1,6 +1,4 @@
-use Rattle.std.proofs.Common.{◌≡◌, List, length, take, subst, arith}
-use Rattle.std.specs.List.{AllZip}
-use Rattle.std.proofs.lemmas.List.{take_all}
+use Rattle.std.proofs.Common.{arith}
 use Rattle.rule_model.specs.Books.{book_cinds}
 use Rattle.rule_model.specs.declared.cind.Cind.{Cind}
 use Rattle.violation_groups.specs.Groups.{AreMissing}

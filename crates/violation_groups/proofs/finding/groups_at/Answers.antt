@@ -7,7 +7,7 @@ use Rattle.rule_model.specs.declared.dep.Dep.{Dep}
 use Rattle.bench_core.specs.Answers.{dep_violations}
 use Rattle.violation_groups.specs.ByIds.{IsKnownRow, row_named}
 use Rattle.violation_groups.specs.Groups.{AreGroups}
-use Rattle.violation_groups.specs.Listed.{listed_of, dep_listed}
+use Rattle.violation_groups.specs.Listed.{listed_of}
 use Rattle.violation_groups.proofs.Steps.{dep-there, if_ok}
 use Rattle.violation_groups.proofs.finding.groups_at.Goals as goal
 

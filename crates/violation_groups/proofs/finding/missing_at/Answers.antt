@@ -7,7 +7,7 @@ use Rattle.rule_model.specs.declared.cind.Cind.{Cind}
 use Rattle.bench_core.specs.Answers.{cind_orphans}
 use Rattle.violation_groups.specs.ByIds.{IsKnownKeyed, keyed_named}
 use Rattle.violation_groups.specs.Groups.{AreMissing}
-use Rattle.violation_groups.specs.Listed.{listed_orphan_of, cind_listed}
+use Rattle.violation_groups.specs.Listed.{listed_orphan_of}
 use Rattle.violation_groups.proofs.Steps.{cind-there, if_ok}
 use Rattle.violation_groups.proofs.finding.missing_at.Goals as goal
 

@@ -1,5 +1,5 @@
 use Rattle.std.proofs.Common.{◌+◌, sym, ◌∙◌, ap, drop, refl}
-use Rattle.violation_groups.proofs.IdsAt.{collects, collects-absent, collects-all, collects-more, collects-none}
+use Rattle.violation_groups.proofs.IdsAt.{collects, collects-absent, collects-more}
 use Rattle.violation_groups.proofs.listed.ids_at.Goals as goal
 
 pub returns-in-None : goal.returns-in-None

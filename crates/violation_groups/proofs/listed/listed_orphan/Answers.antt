@@ -1,9 +1,9 @@
-use Rattle.std.proofs.Common.{◌≡◌, ℕ, Option, Some, None, List, sym, ◌∙◌, ap, subst}
+use Rattle.std.proofs.Common.{◌≡◌, Some, None, sym, ◌∙◌, ap}
 use Rattle.std.specs.Prelude.{option_map}
 use Rattle.row_store.specs.Tuple.{ids_of}
 use Rattle.cfd_semantics.specs.Tuple.{values_at}
 use Rattle.cfd_semantics.proofs.Renamed.{values_at-known}
-use Rattle.bench_core.specs.Stored.{HaveTexts, stored}
+use Rattle.bench_core.specs.Stored.{stored}
 use Rattle.bench_core.proofs.Planned.{have-texts}
 use Rattle.violation_groups.specs.ByIds.{HasText}
 use Rattle.violation_groups.proofs.Listing.{orphan-absent, orphan-there, orphan_named}

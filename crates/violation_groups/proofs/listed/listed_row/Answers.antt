@@ -1,10 +1,10 @@
-use Rattle.std.proofs.Common.{◌≡◌, ℕ, Option, Some, None, List, sym, ◌∙◌, ap, subst}
+use Rattle.std.proofs.Common.{◌≡◌, Some, None, sym, ◌∙◌, ap}
 use Rattle.std.specs.Prelude.{option_map}
 use Rattle.row_store.specs.Tuple.{ids_of}
-use Rattle.bench_core.specs.Stored.{HaveTexts, stored}
+use Rattle.bench_core.specs.Stored.{stored}
 use Rattle.bench_core.proofs.Planned.{have-texts}
 use Rattle.violation_groups.specs.ByIds.{sides_by_ids}
-use Rattle.violation_groups.proofs.Listing.{AreKnown, listed-absent, listed-there, sides-known, sides_named}
+use Rattle.violation_groups.proofs.Listing.{listed-absent, listed-there, sides-known, sides_named}
 use Rattle.violation_groups.proofs.listed.listed_row.Goals as goal
 
 pub returns-in_default-clause-row : goal.returns-in_default-clause-row
