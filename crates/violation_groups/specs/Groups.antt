@@ -1,80 +1,53 @@
 -- The violations of a state in groups.
-use Rattle.std.specs.Prelude.{◌≡◌, ℕ, ◌≤◌, ◌==◌, ◌&&◌, Bool, List, map, filter, length, sum_by}
+use Rattle.std.specs.Prelude.{◌≡◌, ℕ, List, map, length, sum_by}
 use Rattle.std.specs.List.{AllZip}
 use Rattle.std.specs.Str.{bytes_eq}
-use Rattle.cfd_semantics.specs.Tuple.{same_values}
+use Rattle.key_groups.specs.Groups.{by_key, group_size as items_size}
+use Rattle.key_groups.specs.Arranged.{IsLargestFirst, IsRarestFirst}
 use Rattle.rule_model.specs.declared.dep.Dep.{Dep}
 use Rattle.rule_model.specs.declared.cind.Cind.{Cind}
 use Rattle.rule_model.specs.Books.{Book, book_cinds, book_deps}
 use Rattle.bench_core.specs.State.{State}
-use Rattle.violation_groups.specs.Arranged.{IsArranged, distinct}
-use Rattle.violation_groups.specs.Listed.{Listed, ListedOrphan, cind_listed, dep_listed}
+use Rattle.violation_groups.specs.Listed.{Shared, Valued, same_shared, cind_listed, dep_listed}
 use Rattle.violation_groups.specs.declared.groups.ValueRows.{ValueRows}
 use Rattle.violation_groups.specs.declared.groups.Group.{Group}
 use Rattle.violation_groups.specs.declared.groups.Missing.{Missing}
-use Rattle.violation_groups.specs.declared.findings.Findings.{Findings}
-
--- ---- order
-
-abbrev pub IsRarestFirst : {T : Type 0} → (T → ℕ) → List T → List T → Type 0
-IsRarestFirst = IsArranged (λ size later. size ≤ later)
-
-abbrev pub IsLargestFirst : {T : Type 0} → (T → ℕ) → List T → List T → Type 0
-IsLargestFirst = IsArranged (λ size later. later ≤ size)
+use Rattle.violation_groups.specs.declared.groups.Findings.{Findings}
 
 -- ---- the groups of a dependency
 
--- what the rows of a group share: the tableau row, and the values on the left
-abbrev pub Shared : Type 0
-Shared = ℕ × List (List ℕ)
-
-abbrev pub same_shared : Shared → Shared → Bool
-same_shared one other = one.0 == other.0 && same_values bytes_eq one.1 other.1
-
-abbrev pub shared_of : Listed → Shared
-shared_of listed = (listed.k, listed.key)
-
-abbrev pub rows_with : List Listed → List ℕ → ValueRows
-rows_with listed value = record { value = value; rows = map (λ (one : Listed). one.row) (filter (λ (one : Listed). bytes_eq one.value value) listed) }
-
--- the values on the right, each with its rows
-abbrev pub value_rows : List Listed → List ValueRows
-value_rows listed = map (rows_with listed) (distinct bytes_eq (map (λ (one : Listed). one.value) listed))
+abbrev pub value_rows : List ℕ × List ℕ → ValueRows
+value_rows found = record { value = found.0; rows = found.1 }
 
 abbrev pub value_size : ValueRows → ℕ
 value_size value = length value.rows
 
+-- the group of the rows that share something: each value on the right with its rows, the rarest first
+pub record IsGroup (found : Shared × List Valued) (group : Group) : Type 0 where
+  pub k : group.k ≡ found.0.0
+  pub key : group.key ≡ found.0.1
+  pub values : IsRarestFirst value_size (map value_rows (by_key bytes_eq found.1)) group.values
+
 abbrev pub group_size : Group → ℕ
 group_size group = sum_by value_size group.values
 
-pub record IsGroup (listed : List Listed) (shared : Shared) (group : Group) : Type 0 where
-  pub k : group.k ≡ shared.0
-  pub key : group.key ≡ shared.1
-  pub values : IsRarestFirst value_size (value_rows (filter (λ one. same_shared shared (shared_of one)) listed)) group.values
-
--- a group for all that share something, the largest first
-pub record AreGroups (listed : List Listed) (groups : List Group) : Type 0 where
-  pub found : List Group
-  pub each : AllZip (IsGroup listed) (distinct same_shared (map shared_of listed)) found
-  pub order : IsLargestFirst group_size found groups
+-- a group for all that share something, the one with the most rows first
+pub record AreGroups (listed : List (Shared × Valued)) (groups : List Group) : Type 0 where
+  pub found : List (Shared × List Valued)
+  pub order : IsLargestFirst items_size (by_key same_shared listed) found
+  pub each : AllZip IsGroup found groups
 
 -- ---- the keys that an inclusion misses
 
-abbrev pub shared_key : ListedOrphan → Shared
-shared_key orphan = (orphan.k, orphan.key)
-
-abbrev pub missing_of : List ListedOrphan → Shared → Missing
-missing_of listed shared = record {
-  k = shared.0;
-  key = shared.1;
-  rows = map (λ (one : ListedOrphan). one.row) (filter (λ one. same_shared shared (shared_key one)) listed);
-}
+abbrev pub missing_of : Shared × List ℕ → Missing
+missing_of found = record { k = found.0.0; key = found.0.1; rows = found.1 }
 
 abbrev pub missing_size : Missing → ℕ
 missing_size missing = length missing.rows
 
-abbrev pub AreMissing : List ListedOrphan → List Missing → Type 0
-AreMissing listed = IsLargestFirst missing_size (map (missing_of listed) (distinct same_shared (map shared_key listed)))
+-- each key with its rows, the one with the most rows first
+abbrev pub AreMissing : List (Shared × ℕ) → List Missing → Type 0
+AreMissing listed = IsLargestFirst missing_size (map missing_of (by_key same_shared listed))
 
 -- ---- all rules
 

@@ -27,3 +27,11 @@ pub struct Missing {
     pub key: Texts,
     pub rows: List<RowId>,
 }
+
+/// What is found: for each dependency its groups, and for each inclusion the keys that are missing. Rules stand in the
+/// order of the rule book, groups by how many rows they have, the largest first.
+#[derive(Drop)]
+pub struct Findings {
+    pub deps: List<List<Group>>,
+    pub cinds: List<List<Missing>>,
+}

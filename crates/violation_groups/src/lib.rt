@@ -3,8 +3,8 @@
 //! that have them. It is the list of the bench, arranged (`specs/Groups.antt`).
 #![tactic(auto)]
 
-mod findings;
+mod finding;
 mod groups;
 
-pub use findings::{Findings, findings};
-pub use groups::{Group, Missing, ValueRows};
+pub use finding::findings;
+pub use groups::{Findings, Group, Missing, ValueRows};
