@@ -14,7 +14,7 @@ use Rattle.rule_parser.specs.RuleText.{table_name}
 use Rattle.violation_groups.specs.Groups.{group_size, missing_size}
 use Rattle.violation_groups.specs.declared.groups.Group.{Group}
 use Rattle.violation_groups.specs.declared.groups.Missing.{Missing}
-use Rattle.violation_groups.specs.declared.findings.Findings.{Findings}
+use Rattle.violation_groups.specs.declared.groups.Findings.{Findings}
 use Rattle.view_options.specs.declared.options.ListOptions.{ListOptions}
 use Rattle.view_list.specs.Groups.{group_text, missing_text}
 use Rattle.view_list.specs.Pieces.{counted, first_of, left_out, more_text}
@@ -36,12 +36,16 @@ read_of counts table = slice_index_or counts table 0
 abbrev pub only_if : Bool → List ℕ → List ℕ
 only_if test text = if test then text else []
 
+-- `KIND RULE of TABLE: `
+abbrev pub title_text : List ℕ → List ℕ → List ℕ → List ℕ
+title_text kind name table = kind ++ codes " " ++ name ++ codes " of " ++ table ++ codes ": "
+
 -- ---- dependencies
 
 -- `dep RULE of TABLE: N rows in M groups`
 abbrev pub dep_head : Schema → Dep → List Group → List ℕ
 dep_head schema dep groups =
-    codes "dep " ++ dep.name ++ codes " of " ++ table_name schema dep.table ++ codes ": " ++ counted (sum_by group_size groups) (codes "row") ++ codes " in " ++ counted (length groups) (codes "group") ++ codes "\n"
+    title_text (codes "dep") dep.name (table_name schema dep.table) ++ counted (sum_by group_size groups) (codes "row") ++ codes " in " ++ counted (length groups) (codes "group") ++ codes "\n"
 
 abbrev pub dep_text : Option ℕ → Schema → List ℕ → Dep → List Group → List ℕ
 dep_text most schema counts dep groups =
@@ -56,7 +60,7 @@ dep_part options schema counts found =
 -- `cind RULE of TABLE: N rows with M keys missing in TABLE`
 abbrev pub cind_head : Schema → Cind → List Missing → List ℕ
 cind_head schema cind missing =
-    codes "cind " ++ cind.name ++ codes " of " ++ table_name schema cind.left ++ codes ": " ++ counted (sum_by missing_size missing) (codes "row") ++ codes " with " ++ counted (length missing) (codes "key")
+    title_text (codes "cind") cind.name (table_name schema cind.left) ++ counted (sum_by missing_size missing) (codes "row") ++ codes " with " ++ counted (length missing) (codes "key")
     ++ codes " missing in " ++ table_name schema cind.right ++ codes "\n"
 
 abbrev pub cind_text : Option ℕ → Schema → List ℕ → Cind → List Missing → List ℕ

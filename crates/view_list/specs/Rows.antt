@@ -12,7 +12,7 @@ use Rattle.rule_parser.specs.RuleText.{table_name}
 use Rattle.violation_groups.specs.declared.groups.ValueRows.{ValueRows}
 use Rattle.violation_groups.specs.declared.groups.Group.{Group}
 use Rattle.violation_groups.specs.declared.groups.Missing.{Missing}
-use Rattle.violation_groups.specs.declared.findings.Findings.{Findings}
+use Rattle.violation_groups.specs.declared.groups.Findings.{Findings}
 use Rattle.view_list.specs.Groups.{group_text, missing_text}
 use Rattle.view_list.specs.Listed.{only_if, read_of, refused_text}
 use Rattle.view_list.specs.Pieces.{id_text}
@@ -44,11 +44,16 @@ abbrev pub cind_groups : Schema → List ℕ → ℕ → Cind × List Missing �
 cind_groups schema counts row found =
     flat_map (λ (missing : Missing). only_if (has_id row missing.rows) (missing_text None (read_of counts found.0.left) schema found.0 missing)) found.1
 
--- of the dependencies of the table, and of the inclusions with it on the left
+-- those of the dependencies of the table, and of the inclusions with it on the left
+abbrev pub dep_of_row : Schema → List ℕ → ℕ → ℕ → Dep × List Group → List ℕ
+dep_of_row schema counts table row found = only_if (found.0.table == table) (dep_groups schema counts row found)
+
+abbrev pub cind_of_row : Schema → List ℕ → ℕ → ℕ → Cind × List Missing → List ℕ
+cind_of_row schema counts table row found = only_if (found.0.left == table) (cind_groups schema counts row found)
+
 abbrev pub row_body : Book → List ℕ → ℕ → ℕ → Findings → List ℕ
 row_body rules counts table row findings =
-    flat_map (λ (found : Dep × List Group). only_if (found.0.table == table) (dep_groups rules.schema counts row found)) (zip (book_deps rules) findings.deps)
-    ++ flat_map (λ (found : Cind × List Missing). only_if (found.0.left == table) (cind_groups rules.schema counts row found)) (zip (book_cinds rules) findings.cinds)
+    flat_map (dep_of_row rules.schema counts table row) (zip (book_deps rules) findings.deps) ++ flat_map (cind_of_row rules.schema counts table row) (zip (book_cinds rules) findings.cinds)
 
 abbrev pub standing_text : List ℕ → List ℕ
 standing_text [] = codes "no violations\n"

@@ -73,7 +73,8 @@ fn push_value_line(
     out.extend_from_slice(b"    ")?;
     push_value(out, attrs, attr, &value.value)?;
     out.extend_from_slice(b" ")?;
-    push_rows(out, most, read, value.rows.as_slice())
+    push_rows(out, most, read, value.rows.as_slice())?;
+    Ok(())
 }
 
 fn push_value_lines(

@@ -5,7 +5,7 @@ ghost use Rattle.std.specs.List.{flat_map};
 ghost use Rattle.rule_model.specs.Books.{book_cinds, book_deps};
 ghost use Rattle.violation_groups.specs.Groups.{group_size, missing_size, value_size};
 ghost use Rattle.view_list.specs.Groups.{group_text, missing_text};
-ghost use Rattle.view_list.specs.Listed.{cind_head, cind_part, cind_text, dep_head, dep_part, dep_text, has_rule, is_asked, is_told, list_body, list_refusal, list_text, read_of, refused_text, rule_refusal, table_refusal};
+ghost use Rattle.view_list.specs.Listed.{cind_head, cind_part, cind_text, dep_head, dep_part, dep_text, has_rule, is_asked, is_told, list_body, list_refusal, list_text, read_of, refused_text, rule_refusal, table_refusal, title_text};
 
 use crate::attrs::{attrs_at, table_name};
 use crate::groups::push_group;
@@ -46,6 +46,22 @@ pub fn read_of(counts: &[u64], table: usize) -> u64
     }
 }
 
+fn push_title(
+    out: &mut Vec<u8>,
+    kind: &[u8],
+    name: &Text,
+    table: &str,
+) -> Result<(), AllocError>
+    ensures { OnOk result (out.new.items ≡ out.old.items ++ title_text kind.now name.now table.now) }
+{
+    out.extend_from_slice(kind)?;
+    out.extend_from_slice(b" ")?;
+    out.extend_from_slice(name.as_str().as_bytes())?;
+    out.extend_from_slice(b" of ")?;
+    out.extend_from_slice(table.as_bytes())?;
+    out.extend_from_slice(b": ")
+}
+
 // ---- dependencies
 
 fn group_size(values: &[ValueRows]) -> Result<usize, AllocError>
@@ -78,11 +94,7 @@ fn push_dep_head(
     ensures { OnOk result (out.new.items ≡ out.old.items ++ dep_head schema.now dep.now groups.now) }
 {
     let size = groups_size(groups)?;
-    out.extend_from_slice(b"dep ")?;
-    out.extend_from_slice(dep.name.as_str().as_bytes())?;
-    out.extend_from_slice(b" of ")?;
-    out.extend_from_slice(table_name(schema, dep.table).as_bytes())?;
-    out.extend_from_slice(b": ")?;
+    push_title(out, b"dep", &dep.name, table_name(schema, dep.table))?;
     push_counted(out, size, b"row")?;
     out.extend_from_slice(b" in ")?;
     push_counted(out, groups.len(), b"group")?;
@@ -178,11 +190,7 @@ fn push_cind_head(
     ensures { OnOk result (out.new.items ≡ out.old.items ++ cind_head schema.now cind.now missing.now) }
 {
     let size = missing_size(missing)?;
-    out.extend_from_slice(b"cind ")?;
-    out.extend_from_slice(cind.name.as_str().as_bytes())?;
-    out.extend_from_slice(b" of ")?;
-    out.extend_from_slice(table_name(schema, cind.left).as_bytes())?;
-    out.extend_from_slice(b": ")?;
+    push_title(out, b"cind", &cind.name, table_name(schema, cind.left))?;
     push_counted(out, size, b"row")?;
     out.extend_from_slice(b" with ")?;
     push_counted(out, missing.len(), b"key")?;

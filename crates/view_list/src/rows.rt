@@ -1,12 +1,11 @@
 //! One row.
 
-ghost use Rattle.std.specs.Prelude.{◌≡◌, ◌++◌, ◌==◌, None, IfOk, OnOk, zip};
+ghost use Rattle.std.specs.Prelude.{◌≡◌, ◌++◌, None, IfOk, OnOk, codes, decimal, zip};
 ghost use Rattle.std.specs.List.{flat_map};
 ghost use Rattle.schema_core.specs.Lookups.{attrs_at};
-ghost use Rattle.rule_model.specs.Books.{book_cinds, book_deps};
 ghost use Rattle.view_list.specs.Groups.{group_text, missing_text};
 ghost use Rattle.view_list.specs.Listed.{only_if, read_of};
-ghost use Rattle.view_list.specs.Rows.{cell_line, cells_text, cind_groups, dep_groups, has_id, no_row, no_table, row_body, row_text, standing_text, stands_in};
+ghost use Rattle.view_list.specs.Rows.{cell_line, cells_text, cind_of_row, dep_of_row, has_id, no_row, no_table, row_body, row_text, standing_text, stands_in};
 
 use crate::attrs::{attrs_at, table_name};
 use crate::groups::push_group;
@@ -111,36 +110,188 @@ fn push_dep_groups(
 
 fn push_of_dep(
     out: &mut Vec<u8>,
-    rules: &RuleBook,
+    schema: &Schema,
     counts: &[u64],
     table: usize,
     row: RowId,
     dep: &Dep,
     groups: &[Group],
 ) -> Result<(), AllocError>
-    ensures { OnOk result (out.new.items ≡ out.old.items ++ only_if (dep.now.table == table) (dep_groups rules.now.schema counts.now row (dep.now, groups.now))) }
+    ensures { OnOk result (out.new.items ≡ out.old.items ++ dep_of_row schema.now counts.now table row (dep.now, groups.now)) }
 {
     if dep.table != table {
         return Ok(());
     }
     let read = read_of(counts, dep.table);
-    let attrs = attrs_at(rules.schema(), dep.table);
+    let attrs = attrs_at(schema, dep.table);
     push_dep_groups(out, read, attrs, row, dep, groups)
 }
 
 fn push_of_deps(
     out: &mut Vec<u8>,
+    schema: &Schema,
+    counts: &[u64],
+    table: usize,
+    row: RowId,
+    deps: &[Dep],
+    found: &[List<Group>],
+) -> Result<(), AllocError>
+    ensures { OnOk result (out.new.items ≡ out.old.items ++ flat_map (dep_of_row schema.now counts.now table row) (zip deps.now found.now)) }
+{
+    for i in 0..deps.len().min(found.len()) {
+        push_of_dep(out, schema, counts, table, row, &deps[i], found[i].as_slice())?;
+    }
+    Ok(())
+}
+
+fn push_if_missing(
+    out: &mut Vec<u8>,
+    read: u64,
+    schema: &Schema,
+    row: RowId,
+    cind: &Cind,
+    missing: &Missing,
+) -> Result<(), AllocError>
+    ensures { OnOk result (out.new.items ≡ out.old.items ++ only_if (has_id row missing.now.rows) (missing_text None read schema.now cind.now missing.now)) }
+{
+    if has_id(row, missing.rows.as_slice()) {
+        push_missing(out, None, read, schema, cind, missing)
+    } else {
+        Ok(())
+    }
+}
+
+fn push_cind_groups(
+    out: &mut Vec<u8>,
+    read: u64,
+    schema: &Schema,
+    row: RowId,
+    cind: &Cind,
+    missing: &[Missing],
+) -> Result<(), AllocError>
+    ensures { OnOk result (out.new.items ≡ out.old.items ++ flat_map (λ (missing : Missing). only_if (has_id row missing.rows) (missing_text None read schema.now cind.now missing)) missing.now) }
+{
+    for key in missing {
+        push_if_missing(out, read, schema, row, cind, key)?;
+    }
+    Ok(())
+}
+
+fn push_of_cind(
+    out: &mut Vec<u8>,
+    schema: &Schema,
+    counts: &[u64],
+    table: usize,
+    row: RowId,
+    cind: &Cind,
+    missing: &[Missing],
+) -> Result<(), AllocError>
+    ensures { OnOk result (out.new.items ≡ out.old.items ++ cind_of_row schema.now counts.now table row (cind.now, missing.now)) }
+{
+    if cind.left != table {
+        return Ok(());
+    }
+    let read = read_of(counts, cind.left);
+    push_cind_groups(out, read, schema, row, cind, missing)
+}
+
+fn push_of_cinds(
+    out: &mut Vec<u8>,
+    schema: &Schema,
+    counts: &[u64],
+    table: usize,
+    row: RowId,
+    cinds: &[Cind],
+    found: &[List<Missing>],
+) -> Result<(), AllocError>
+    ensures { OnOk result (out.new.items ≡ out.old.items ++ flat_map (cind_of_row schema.now counts.now table row) (zip cinds.now found.now)) }
+{
+    for i in 0..cinds.len().min(found.len()) {
+        push_of_cind(out, schema, counts, table, row, &cinds[i], found[i].as_slice())?;
+    }
+    Ok(())
+}
+
+/// The groups and the missing keys in which a row of a table stands.
+pub fn row_body(
+    alloc: Global,
     rules: &RuleBook,
     counts: &[u64],
     table: usize,
     row: RowId,
-    found: &[List<Group>],
-) -> Result<(), AllocError>
-    ensures { OnOk result (out.new.items ≡ out.old.items ++ flat_map (λ (found : Dep × List Group). only_if (found.0.table == table) (dep_groups rules.now.schema counts.now row found)) (zip (book_deps rules.now) found.now)) }
+    findings: &Findings,
+) -> Result<Vec<u8>, AllocError>
+    ensures { IfOk result (λ body. body.items ≡ row_body rules.now counts.now table row findings.now) }
 {
-    let deps = rules.deps().as_slice();
-    for i in 0..deps.len().min(found.len()) {
-        push_of_dep(out, rules, counts, table, row, &deps[i], found[i].as_slice())?;
+    let mut out = Vec::new(alloc);
+    let schema = rules.schema();
+    let (deps, cinds) = (rules.deps().as_slice(), rules.cinds().as_slice());
+    push_of_deps(&mut out, schema, counts, table, row, deps, findings.deps.as_slice())?;
+    push_of_cinds(&mut out, schema, counts, table, row, cinds, findings.cinds.as_slice())?;
+    Ok(out)
+}
+
+fn push_standing(out: &mut Vec<u8>, body: &[u8]) -> Result<(), AllocError>
+    ensures { OnOk result (out.new.items ≡ out.old.items ++ standing_text body.now) }
+{
+    if body.is_empty() {
+        return out.extend_from_slice(b"no violations\n");
     }
+    push_violations(out, body)
+}
+
+fn push_violations(out: &mut Vec<u8>, body: &[u8]) -> Result<(), AllocError>
+    ensures { OnOk result (out.new.items ≡ out.old.items ++ (codes "violations\n" ++ body.now)) }
+{
+    out.extend_from_slice(b"violations\n")?;
+    out.extend_from_slice(body)?;
     Ok(())
+}
+
+/// The whole text of a row with these values, by what is told of the rules.
+pub fn row_text(
+    alloc: Global,
+    schema: &Schema,
+    counts: &[u64],
+    table: usize,
+    row: RowId,
+    texts: &Texts,
+    body: &[u8],
+) -> Result<Vec<u8>, AllocError>
+    ensures { IfOk result (λ text. text.items ≡ row_text schema.now counts.now table row texts.now body.now) }
+{
+    let mut out = Vec::new(alloc);
+    push_cells(&mut out, schema, counts, table, row, texts.as_slice())?;
+    push_standing(&mut out, body)?;
+    Ok(out)
+}
+
+// ---- a row that is not there
+
+/// The line that refuses a table that isn't there.
+pub fn no_table(alloc: Global, table: &Text) -> Result<Vec<u8>, AllocError>
+    ensures { IfOk result (λ line. line.items ≡ no_table table.now) }
+{
+    let mut out = Vec::new(alloc);
+    push_refused(&mut out, table, b"UnknownTable")?;
+    Ok(out)
+}
+
+fn unknown_row(alloc: Global, row: RowId) -> Result<Vec<u8>, AllocError>
+    ensures { IfOk result (λ cause. cause.items ≡ codes "UnknownRow " ++ decimal row) }
+{
+    let mut out = Vec::new(alloc);
+    out.extend_from_slice(b"UnknownRow ")?;
+    push_number(&mut out, row)?;
+    Ok(out)
+}
+
+/// The line that refuses a row that isn't there.
+pub fn no_row(alloc: Global, table: &Text, row: RowId) -> Result<Vec<u8>, AllocError>
+    ensures { IfOk result (λ line. line.items ≡ no_row table.now row) }
+{
+    let cause = unknown_row(alloc, row)?;
+    let mut out = Vec::new(alloc);
+    push_refused(&mut out, table, &cause)?;
+    Ok(out)
 }

@@ -36,7 +36,8 @@ fn push_further(
     ensures { OnOk result (out.new.items ≡ out.old.items ++ flat_map (further (value_text attrs.now)) (zip places.now values.now)) }
 {
     for i in 0..places.len().min(values.len()) {
-        push_next(out, attrs, places[i], &values[i])?;
+        let attr = places[i];
+        push_next(out, attrs, attr, &values[i])?;
     }
     Ok(())
 }
@@ -73,19 +74,27 @@ pub fn push_values(
 }
 
 /// The same of two lists, one behind the other.
+#[tactic(auto, using(crate::proofs::Pairs::further_both))]
 pub fn push_both(
     out: &mut Vec<u8>,
     attrs: &[Attr],
-    key: (&[usize], &[Text]),
-    pattern: (&[usize], &[Text]),
+    places: &[usize],
+    values: &[Text],
+    more_places: &[usize],
+    more_values: &[Text],
 ) -> Result<(), AllocError>
-    ensures { OnOk result (out.new.items ≡ out.old.items ++ values_text attrs.now (zip key.0.now key.1.now ++ zip pattern.0.now pattern.1.now)) }
+    ensures { OnOk result (out.new.items ≡ out.old.items ++ values_text attrs.now (zip places.now values.now ++ zip more_places.now more_values.now)) }
 {
-    if key.0.is_empty() || key.1.is_empty() {
-        return push_values(out, attrs, pattern.0, pattern.1);
-    }
-    push_values(out, attrs, key.0, key.1)?;
-    push_further(out, attrs, pattern.0, pattern.1)
+    let Some((place, places)) = places.split_first() else {
+        return push_values(out, attrs, more_places, more_values);
+    };
+    let Some((value, values)) = values.split_first() else {
+        return push_values(out, attrs, more_places, more_values);
+    };
+    push_value(out, attrs, *place, value)?;
+    push_further(out, attrs, places, values)?;
+    push_further(out, attrs, more_places, more_values)?;
+    Ok(())
 }
 
 fn push_set(out: &mut Vec<u8>, cell: &Cell) -> Result<(), AllocError>
