@@ -39,10 +39,10 @@ group_text most read attrs dep group =
 
 -- ---- rows whose key is missing
 
--- `RULE.K: ATTR VALUE, ..: no row of TABLE has ATTR VALUE, ..`: the key and the constants of both sides
+-- `RULE.K: ATTR VALUE, ..: TABLE lacks ATTR VALUE, ..`: the key, with the constants of either side
 abbrev pub missing_line : Schema → Cind → Missing → InclusionRow (List ℕ) → List ℕ
 missing_line schema cind missing row =
-    place_text cind.name missing.k ++ values_text (attrs_at schema cind.left) (zip cind.rule.x missing.key ++ zip cind.rule.xp row.xp) ++ codes ": no row of " ++ table_name schema cind.right ++ codes " has "
+    place_text cind.name missing.k ++ values_text (attrs_at schema cind.left) (zip cind.rule.x missing.key ++ zip cind.rule.xp row.xp) ++ codes ": " ++ table_name schema cind.right ++ codes " lacks "
     ++ values_text (attrs_at schema cind.right) (zip cind.rule.y missing.key ++ zip cind.rule.yp row.yp) ++ codes "\n"
 
 abbrev pub missing_at : Schema → Cind → Missing → List ℕ

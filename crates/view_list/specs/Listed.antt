@@ -57,15 +57,18 @@ dep_part options schema counts found =
 
 -- ---- inclusions
 
--- `cind RULE of TABLE: N rows with M keys missing in TABLE`
+-- `cind RULE of TABLE: N rows with M keys not in TABLE`
 abbrev pub cind_head : Schema → Cind → List Missing → List ℕ
 cind_head schema cind missing =
     title_text (codes "cind") cind.name (table_name schema cind.left) ++ counted (sum_by missing_size missing) (codes "row") ++ codes " with " ++ counted (length missing) (codes "key")
-    ++ codes " missing in " ++ table_name schema cind.right ++ codes "\n"
+    ++ codes " not in " ++ table_name schema cind.right ++ codes "\n"
+
+abbrev pub keys_text : Option ℕ → Schema → List ℕ → Cind → List Missing → List ℕ
+keys_text most schema counts cind missing =
+    flat_map (missing_text most (read_of counts cind.left) schema cind) (first_of most missing) ++ more_text (codes "  ") (left_out most (length missing)) (codes "\n")
 
 abbrev pub cind_text : Option ℕ → Schema → List ℕ → Cind → List Missing → List ℕ
-cind_text most schema counts cind missing =
-    cind_head schema cind missing ++ flat_map (missing_text most (read_of counts cind.left) schema cind) (first_of most missing) ++ more_text (codes "  ") (left_out most (length missing)) (codes "\n")
+cind_text most schema counts cind missing = cind_head schema cind missing ++ keys_text most schema counts cind missing
 
 abbrev pub cind_part : ListOptions → Schema → List ℕ → Cind × List Missing → List ℕ
 cind_part options schema counts found =

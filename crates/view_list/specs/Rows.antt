@@ -57,7 +57,7 @@ row_body rules counts table row findings =
 
 abbrev pub standing_text : List ℕ → List ℕ
 standing_text [] = codes "no violations\n"
-standing_text (byte ∷ bytes) = codes "violations\n" ++ byte ∷ bytes
+standing_text (byte ∷ bytes) = codes "breaks\n" ++ byte ∷ bytes
 
 -- the whole text, by what is told of the rules
 abbrev pub row_text : Schema → List ℕ → ℕ → ℕ → List (List ℕ) → List ℕ → List ℕ

@@ -5,7 +5,7 @@ ghost use Rattle.std.specs.List.{flat_map};
 ghost use Rattle.rule_model.specs.Books.{book_cinds, book_deps};
 ghost use Rattle.violation_groups.specs.Groups.{group_size, missing_size, value_size};
 ghost use Rattle.view_list.specs.Groups.{group_text, missing_text};
-ghost use Rattle.view_list.specs.Listed.{cind_head, cind_part, cind_text, dep_head, dep_part, dep_text, has_rule, is_asked, is_told, list_body, list_refusal, list_text, read_of, refused_text, rule_refusal, table_refusal, title_text};
+ghost use Rattle.view_list.specs.Listed.{cind_head, cind_part, cind_text, dep_head, dep_part, dep_text, has_rule, is_asked, is_told, keys_text, list_body, list_refusal, list_text, read_of, refused_text, rule_refusal, table_refusal, title_text};
 
 use crate::attrs::{attrs_at, table_name};
 use crate::groups::push_group;
@@ -46,12 +46,7 @@ pub fn read_of(counts: &[u64], table: usize) -> u64
     }
 }
 
-fn push_title(
-    out: &mut Vec<u8>,
-    kind: &[u8],
-    name: &Text,
-    table: &str,
-) -> Result<(), AllocError>
+fn push_title(out: &mut Vec<u8>, kind: &[u8], name: &Text, table: &str) -> Result<(), AllocError>
     ensures { OnOk result (out.new.items ≡ out.old.items ++ title_text kind.now name.now table.now) }
 {
     out.extend_from_slice(kind)?;
@@ -141,13 +136,13 @@ fn push_dep_part(
     schema: &Schema,
     counts: &[u64],
     dep: &Dep,
-    groups: &[Group],
+    groups: &List<Group>,
 ) -> Result<(), AllocError>
     ensures { OnOk result (out.new.items ≡ out.old.items ++ dep_part options.now schema.now counts.now (dep.now, groups.now)) }
 {
     let table = table_name(schema, dep.table);
-    if is_told(options, &dep.name, table, groups.len()) {
-        push_dep(out, options.first, schema, counts, dep, groups)
+    if is_told(options, &dep.name, table, groups.as_slice().len()) {
+        push_dep(out, options.first, schema, counts, dep, groups.as_slice())
     } else {
         Ok(())
     }
@@ -164,7 +159,7 @@ fn push_deps(
     ensures { OnOk result (out.new.items ≡ out.old.items ++ flat_map (dep_part options.now schema.now counts.now) (zip deps.now found.now)) }
 {
     for i in 0..deps.len().min(found.len()) {
-        push_dep_part(out, options, schema, counts, &deps[i], found[i].as_slice())?;
+        push_dep_part(out, options, schema, counts, &deps[i], &found[i])?;
     }
     Ok(())
 }
@@ -194,7 +189,7 @@ fn push_cind_head(
     push_counted(out, size, b"row")?;
     out.extend_from_slice(b" with ")?;
     push_counted(out, missing.len(), b"key")?;
-    out.extend_from_slice(b" missing in ")?;
+    out.extend_from_slice(b" not in ")?;
     out.extend_from_slice(table_name(schema, cind.right).as_bytes())?;
     out.extend_from_slice(b"\n")
 }
@@ -215,6 +210,22 @@ fn push_keys(
     Ok(())
 }
 
+fn push_all_keys(
+    out: &mut Vec<u8>,
+    most: Option<u64>,
+    schema: &Schema,
+    counts: &[u64],
+    cind: &Cind,
+    missing: &[Missing],
+) -> Result<(), AllocError>
+    ensures { OnOk result (out.new.items ≡ out.old.items ++ keys_text most schema.now counts.now cind.now missing.now) }
+{
+    let left = left_out(most, missing.len());
+    let read = read_of(counts, cind.left);
+    push_keys(out, most, read, schema, cind, first_of(missing, most))?;
+    push_more(out, b"  ", left, b"\n")
+}
+
 fn push_cind(
     out: &mut Vec<u8>,
     most: Option<u64>,
@@ -225,11 +236,8 @@ fn push_cind(
 ) -> Result<(), AllocError>
     ensures { OnOk result (out.new.items ≡ out.old.items ++ cind_text most schema.now counts.now cind.now missing.now) }
 {
-    let left = left_out(most, missing.len());
-    let read = read_of(counts, cind.left);
     push_cind_head(out, schema, cind, missing)?;
-    push_keys(out, most, read, schema, cind, first_of(missing, most))?;
-    push_more(out, b"  ", left, b"\n")
+    push_all_keys(out, most, schema, counts, cind, missing)
 }
 
 fn push_cind_part(
@@ -238,13 +246,13 @@ fn push_cind_part(
     schema: &Schema,
     counts: &[u64],
     cind: &Cind,
-    missing: &[Missing],
+    missing: &List<Missing>,
 ) -> Result<(), AllocError>
     ensures { OnOk result (out.new.items ≡ out.old.items ++ cind_part options.now schema.now counts.now (cind.now, missing.now)) }
 {
     let table = table_name(schema, cind.left);
-    if is_told(options, &cind.name, table, missing.len()) {
-        push_cind(out, options.first, schema, counts, cind, missing)
+    if is_told(options, &cind.name, table, missing.as_slice().len()) {
+        push_cind(out, options.first, schema, counts, cind, missing.as_slice())
     } else {
         Ok(())
     }
@@ -261,14 +269,7 @@ fn push_cinds(
     ensures { OnOk result (out.new.items ≡ out.old.items ++ flat_map (cind_part options.now schema.now counts.now) (zip cinds.now found.now)) }
 {
     for i in 0..cinds.len().min(found.len()) {
-        push_cind_part(
-            out,
-            options,
-            schema,
-            counts,
-            &cinds[i],
-            found[i].as_slice(),
-        )?;
+        push_cind_part(out, options, schema, counts, &cinds[i], &found[i])?;
     }
     Ok(())
 }
@@ -288,8 +289,22 @@ pub fn list_body(
     let schema = rules.schema();
     let (deps, cinds) = (findings.deps.as_slice(), findings.cinds.as_slice());
     let mut out = Vec::new(alloc);
-    push_deps(&mut out, options, schema, counts, rules.deps().as_slice(), deps)?;
-    push_cinds(&mut out, options, schema, counts, rules.cinds().as_slice(), cinds)?;
+    push_deps(
+        &mut out,
+        options,
+        schema,
+        counts,
+        rules.deps().as_slice(),
+        deps,
+    )?;
+    push_cinds(
+        &mut out,
+        options,
+        schema,
+        counts,
+        rules.cinds().as_slice(),
+        cinds,
+    )?;
     Ok(out)
 }
 
@@ -308,7 +323,9 @@ fn push_told(out: &mut Vec<u8>, body: &[u8]) -> Result<(), AllocError>
     if body.is_empty() {
         return out.extend_from_slice(b"no violations\n");
     }
-    out.extend_from_slice(b"Rows are told by their ids; the id of a row that was read is the number of its record.\n")?;
+    out.extend_from_slice(
+        b"Rows are told by their ids; the id of a row that was read is the number of its record.\n",
+    )?;
     out.extend_from_slice(body)
 }
 

@@ -55,9 +55,9 @@ fn push_missing_line(
 {
     push_place(out, &cind.name, missing.k)?;
     push_left(out, schema, cind, missing, row)?;
-    out.extend_from_slice(b": no row of ")?;
+    out.extend_from_slice(b": ")?;
     out.extend_from_slice(table_name(schema, cind.right).as_bytes())?;
-    out.extend_from_slice(b" has ")?;
+    out.extend_from_slice(b" lacks ")?;
     push_right(out, schema, cind, missing, row)?;
     out.extend_from_slice(b"\n")
 }

@@ -115,7 +115,7 @@ fn push_of_dep(
     table: usize,
     row: RowId,
     dep: &Dep,
-    groups: &[Group],
+    groups: &List<Group>,
 ) -> Result<(), AllocError>
     ensures { OnOk result (out.new.items ≡ out.old.items ++ dep_of_row schema.now counts.now table row (dep.now, groups.now)) }
 {
@@ -124,7 +124,7 @@ fn push_of_dep(
     }
     let read = read_of(counts, dep.table);
     let attrs = attrs_at(schema, dep.table);
-    push_dep_groups(out, read, attrs, row, dep, groups)
+    push_dep_groups(out, read, attrs, row, dep, groups.as_slice())
 }
 
 fn push_of_deps(
@@ -139,7 +139,7 @@ fn push_of_deps(
     ensures { OnOk result (out.new.items ≡ out.old.items ++ flat_map (dep_of_row schema.now counts.now table row) (zip deps.now found.now)) }
 {
     for i in 0..deps.len().min(found.len()) {
-        push_of_dep(out, schema, counts, table, row, &deps[i], found[i].as_slice())?;
+        push_of_dep(out, schema, counts, table, row, &deps[i], &found[i])?;
     }
     Ok(())
 }
@@ -184,7 +184,7 @@ fn push_of_cind(
     table: usize,
     row: RowId,
     cind: &Cind,
-    missing: &[Missing],
+    missing: &List<Missing>,
 ) -> Result<(), AllocError>
     ensures { OnOk result (out.new.items ≡ out.old.items ++ cind_of_row schema.now counts.now table row (cind.now, missing.now)) }
 {
@@ -192,7 +192,7 @@ fn push_of_cind(
         return Ok(());
     }
     let read = read_of(counts, cind.left);
-    push_cind_groups(out, read, schema, row, cind, missing)
+    push_cind_groups(out, read, schema, row, cind, missing.as_slice())
 }
 
 fn push_of_cinds(
@@ -207,7 +207,7 @@ fn push_of_cinds(
     ensures { OnOk result (out.new.items ≡ out.old.items ++ flat_map (cind_of_row schema.now counts.now table row) (zip cinds.now found.now)) }
 {
     for i in 0..cinds.len().min(found.len()) {
-        push_of_cind(out, schema, counts, table, row, &cinds[i], found[i].as_slice())?;
+        push_of_cind(out, schema, counts, table, row, &cinds[i], &found[i])?;
     }
     Ok(())
 }
@@ -226,8 +226,24 @@ pub fn row_body(
     let mut out = Vec::new(alloc);
     let schema = rules.schema();
     let (deps, cinds) = (rules.deps().as_slice(), rules.cinds().as_slice());
-    push_of_deps(&mut out, schema, counts, table, row, deps, findings.deps.as_slice())?;
-    push_of_cinds(&mut out, schema, counts, table, row, cinds, findings.cinds.as_slice())?;
+    push_of_deps(
+        &mut out,
+        schema,
+        counts,
+        table,
+        row,
+        deps,
+        findings.deps.as_slice(),
+    )?;
+    push_of_cinds(
+        &mut out,
+        schema,
+        counts,
+        table,
+        row,
+        cinds,
+        findings.cinds.as_slice(),
+    )?;
     Ok(out)
 }
 
@@ -237,15 +253,8 @@ fn push_standing(out: &mut Vec<u8>, body: &[u8]) -> Result<(), AllocError>
     if body.is_empty() {
         return out.extend_from_slice(b"no violations\n");
     }
-    push_violations(out, body)
-}
-
-fn push_violations(out: &mut Vec<u8>, body: &[u8]) -> Result<(), AllocError>
-    ensures { OnOk result (out.new.items ≡ out.old.items ++ (codes "violations\n" ++ body.now)) }
-{
-    out.extend_from_slice(b"violations\n")?;
-    out.extend_from_slice(body)?;
-    Ok(())
+    out.extend_from_slice(b"breaks\n")?;
+    out.extend_from_slice(body)
 }
 
 /// The whole text of a row with these values, by what is told of the rules.

@@ -42,12 +42,7 @@ fn push_further(
     Ok(())
 }
 
-fn push_next(
-    out: &mut Vec<u8>,
-    attrs: &[Attr],
-    attr: usize,
-    value: &Text,
-) -> Result<(), AllocError>
+fn push_next(out: &mut Vec<u8>, attrs: &[Attr], attr: usize, value: &Text) -> Result<(), AllocError>
     ensures { OnOk result (out.new.items ≡ out.old.items ++ further (value_text attrs.now) (attr, value.now)) }
 {
     out.extend_from_slice(b", ")?;
