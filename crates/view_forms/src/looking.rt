@@ -54,8 +54,9 @@ fn bench_of<L: Ledger>(
 fn counts_of(alloc: Global, bench: &Bench) -> Result<List<u64>, AllocError>
     ensures { IfOk result (λ counts. counts ≡ counts_of bench.now.history.present) }
 {
+    let tables = table_count(bench);
     let mut counts = List::new(alloc);
-    for table in 0..table_count(bench) {
+    for table in 0..tables {
         counts.push(count_of(bench, table))?;
     }
     Ok(counts)
