@@ -1,5 +1,5 @@
 -- The form `list PROJECT` of `cfdview`: the violations of a project, in groups.
-use Rattle.std.specs.Prelude.{◌≡◌, ℕ, List, [], ◌∷◌}
+use Rattle.std.specs.Prelude.{ℕ, List, [], ◌∷◌}
 use Rattle.text_lists.specs.declared.limits.Limits.{Limits}
 use Rattle.rule_model.specs.Books.{Book}
 use Rattle.bench_core.specs.History.{History}

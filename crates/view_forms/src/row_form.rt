@@ -6,7 +6,7 @@ ghost use Rattle.schema_core.specs.Schemas.{table_place};
 ghost use Rattle.bench_core.specs.Answers.{row_texts};
 ghost use Rattle.cli_output.specs.Output.{Ends, IsWhole, Output, UsesDevices, Writes};
 ghost use Rattle.project_forms.specs.Project.{read_of};
-ghost use Rattle.view_forms.specs.RowForm.{AreReplies, questions, row_at, row_in, row_of, row_outputs, row_task, row_with};
+ghost use Rattle.view_forms.specs.RowForm.{AreReplies, questions, row_in, row_of, row_outputs, row_task, row_with};
 
 use crate::looking::{Looked, look};
 use crate::row_values::row_texts;

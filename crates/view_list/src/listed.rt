@@ -1,8 +1,7 @@
 //! All violations, or those that are asked for.
 
-ghost use Rattle.std.specs.Prelude.{◌≡◌, ◌++◌, ◌==◌, ◌&&◌, Bool, [], IfOk, OnOk, is_some, length, not, sum_by, zip, if◌then◌else◌, codes};
+ghost use Rattle.std.specs.Prelude.{◌≡◌, ◌++◌, [], IfOk, OnOk, sum_by, zip, if◌then◌else◌};
 ghost use Rattle.std.specs.List.{flat_map};
-ghost use Rattle.rule_model.specs.Books.{book_cinds, book_deps};
 ghost use Rattle.violation_groups.specs.Groups.{group_size, missing_size, value_size};
 ghost use Rattle.view_list.specs.Groups.{group_text, missing_text};
 ghost use Rattle.view_list.specs.Listed.{cind_head, cind_part, cind_text, dep_head, dep_part, dep_text, has_rule, is_asked, is_told, keys_text, list_body, list_refusal, list_text, read_of, refused_text, rule_refusal, table_refusal, title_text};

@@ -1,6 +1,6 @@
 //! Counts, ids, and lists that are cut.
 
-ghost use Rattle.std.specs.Prelude.{◌≡◌, ◌++◌, ◌+◌, ◌==◌, [], if◌then◌else◌, codes, IfOk, OnOk, length};
+ghost use Rattle.std.specs.Prelude.{◌≡◌, ◌++◌, ◌+◌, ◌==◌, [], if◌then◌else◌, codes, IfOk, OnOk};
 ghost use Rattle.std.specs.List.{flat_map};
 ghost use Rattle.view_list.specs.Pieces.{commas, counted, first_of, further, id_text, left_out, more_text, origin_text, rows_text};
 

@@ -2,9 +2,8 @@
 
 ghost use Rattle.std.specs.Prelude.{◌≡◌, ◌++◌, None, IfOk, OnOk, codes, decimal, zip};
 ghost use Rattle.std.specs.List.{flat_map};
-ghost use Rattle.schema_core.specs.Lookups.{attrs_at};
 ghost use Rattle.view_list.specs.Groups.{group_text, missing_text};
-ghost use Rattle.view_list.specs.Listed.{only_if, read_of};
+ghost use Rattle.view_list.specs.Listed.{only_if};
 ghost use Rattle.view_list.specs.Rows.{cell_line, cells_text, cind_of_row, dep_of_row, has_id, no_row, no_table, row_body, row_text, standing_text, stands_in};
 
 use crate::attrs::{attrs_at, table_name};

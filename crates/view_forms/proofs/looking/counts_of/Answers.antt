@@ -1,5 +1,5 @@
-use Rattle.std.proofs.Common.{length, ◌∙◌, arith}
-use Rattle.std.proofs.lemmas.List.{length-map, take_all}
+use Rattle.std.proofs.Common.{◌∙◌, arith}
+use Rattle.std.proofs.lemmas.List.{take_all}
 use Rattle.view_forms.specs.Looking.{counts_of}
 use Rattle.view_forms.proofs.Counts.{counts-long, counts-more}
 use Rattle.view_forms.proofs.looking.counts_of.Goals as goal

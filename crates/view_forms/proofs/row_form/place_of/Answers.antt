@@ -1,4 +1,4 @@
-use Rattle.std.proofs.Common.{◌≡◌, ℕ, List, length, ap, sym, ◌∙◌}
+use Rattle.std.proofs.Common.{◌≡◌, List, length, ap, sym, ◌∙◌}
 use Rattle.std.specs.List.{HoldsAt}
 use Rattle.std.proofs.lemmas.Slice.Zip.{AllZip-long}
 use Rattle.schema_core.specs.declared.schema.Schema.{Schema}
