@@ -1,0 +1,38 @@
+-- The form `list PROJECT` of `cfdview`: the violations of a project, in groups.
+use Rattle.std.specs.Prelude.{ℕ, List, [], ◌∷◌}
+use Rattle.text_lists.specs.declared.limits.Limits.{Limits}
+use Rattle.rule_model.specs.Books.{Book}
+use Rattle.bench_core.specs.History.{History}
+use Rattle.bench_core.specs.State.{State}
+use Rattle.violation_groups.specs.Groups.{AreFindings}
+use Rattle.violation_groups.specs.declared.groups.Findings.{Findings}
+use Rattle.view_options.specs.declared.options.ListOptions.{ListOptions}
+use Rattle.view_list.specs.Listed.{list_body, list_refusal, list_text}
+use Rattle.cli_output.specs.Output.{Only, Outputs, Task}
+use Rattle.cli_output.specs.declared.status.Status.TheVariants.{Refused}
+use Rattle.project_forms.specs.Project.{ProjectRead, fetch_project}
+use Rattle.view_forms.specs.Looking.{LooksAt, counts_of, status_of}
+
+-- the line that refuses what is asked for, where there is one, and else what is told of the rules
+abbrev pub told_unless : List ℕ → List ℕ → Outputs
+told_unless [] body = Only (list_text body) (status_of body)
+told_unless (byte ∷ bytes) body = Only (byte ∷ bytes) Refused
+
+-- the violations of a state, so many rows having been read of each table
+abbrev pub list_of : Book → List ℕ → State → ListOptions → Outputs
+list_of rules counts state options bytes status =
+    (findings : Findings) × AreFindings rules state findings × told_unless (list_refusal rules options) (list_body rules counts options findings) bytes status
+
+abbrev pub list_outputs : ListOptions → ProjectRead → Outputs
+list_outputs options project bytes status =
+    let start = project.tables in
+    (last : History) × LooksAt options.loaded project last × list_of start.rules (counts_of start.history.present) last.present options bytes status
+
+-- the schema, the rules, the script and 64 tables are fetched at most
+abbrev pub list_task : Limits → ListOptions → Task
+list_task limits options = record {
+  Found = ProjectRead;
+  fetching = fetch_project limits options.project;
+  outputs = list_outputs options;
+  most_fetches = 67;
+}

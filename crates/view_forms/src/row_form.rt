@@ -1,0 +1,247 @@
+//! The form `row PROJECT TABLE ROW`.
+
+ghost use Rattle.std.specs.Prelude.{◌≡◌, ◌++◌, ◌<◌, List, ℕ, IfOk, IfSome, OnOk, length};
+ghost use Rattle.text_lists.specs.Limits.{AreLimits};
+ghost use Rattle.schema_core.specs.Schemas.{table_place};
+ghost use Rattle.bench_core.specs.Answers.{row_texts};
+ghost use Rattle.cli_output.specs.Output.{Ends, IsWhole, Output, UsesDevices, Writes};
+ghost use Rattle.project_forms.specs.Project.{read_of};
+ghost use Rattle.view_forms.specs.RowForm.{AreReplies, questions, row_in, row_of, row_outputs, row_task, row_with};
+
+use crate::looking::{Looked, look};
+use crate::row_values::row_texts;
+use crate::shown::{Shown, refused, status_of};
+use bench_core::Bench;
+use cli_output::{Status, end_by, end_with};
+use probe_steps::Steps;
+use project_forms::{Project, fetch_project};
+use schema_core::{Limits, List, Texts};
+use session::{Command, serve};
+use shelf_io::{MemorySink, Shelf, Sink};
+use std::alloc::{AllocError, Global};
+use std::marker::Brand;
+use std::sync::ledger::{Blank, Ledger};
+use view_list::{no_row, no_table, row_body, row_text};
+use view_options::RowOptions;
+use violation_groups::findings;
+
+/// How many bytes the answer to a fix may have. It has fewer: at most 64 values are told twice, each of at most 65,535
+/// bytes that may all have to be escaped.
+const ANSWER_BYTES: usize = 20_000_000;
+
+/// Tells a row of a project, and the groups of violations in which it stands; where somebody vouches for attributes, also
+/// what a fix would be answered.
+pub fn row_project<S: Shelf, O: Sink>(
+    alloc: Global,
+    options: &RowOptions,
+    shelf: &mut S,
+    out: &mut O,
+    limits: &Limits,
+) -> Status
+    requires { AreLimits limits.now }
+    ensures written { Writes (Output limits.now (row_task limits.now options.now) (S.told shelf.old).holding) result (O.told out.old).written (O.told out.new).written }
+    ensures devices { UsesDevices limits.now (row_task limits.now options.now) result (S.told shelf.old) (S.told shelf.new) (O.told out.old) (O.told out.new) }
+{
+    row_opened::<S, O, Brand>(alloc, options, shelf, out, limits, Blank::new(1))
+}
+
+/// The same, with a counter of index probes that is opened for this call. Nothing reads it.
+fn row_opened<S: Shelf, O: Sink, L: Ledger>(
+    alloc: Global,
+    options: &RowOptions,
+    shelf: &mut S,
+    out: &mut O,
+    limits: &Limits,
+    blank: Blank,
+) -> Status
+    requires limits { AreLimits limits.now }
+    requires name { blank.name ≡ L.name }
+    requires parts { blank.parts ≡ L.parts }
+    requires some { 0 < blank.parts }
+    ensures written { Writes (Output limits.now (row_task limits.now options.now) (S.told shelf.old).holding) result (O.told out.old).written (O.told out.new).written }
+    ensures devices { UsesDevices limits.now (row_task limits.now options.now) result (S.told shelf.old) (S.told shelf.new) (O.told out.old) (O.told out.new) }
+{
+    let mut steps = Steps::<L>::open(blank);
+    row_counted(alloc, options, shelf, out, limits, &mut steps)
+}
+
+fn row_counted<S: Shelf, O: Sink, L: Ledger>(
+    alloc: Global,
+    options: &RowOptions,
+    shelf: &mut S,
+    out: &mut O,
+    limits: &Limits,
+    steps: &mut Steps<L>,
+) -> Status
+    requires { AreLimits limits.now }
+    ensures written { Writes (Output limits.now (row_task limits.now options.now) (S.told shelf.old).holding) result (O.told out.old).written (O.told out.new).written }
+    ensures devices { UsesDevices limits.now (row_task limits.now options.now) result (S.told shelf.old) (S.told shelf.new) (O.told out.old) (O.told out.new) }
+{
+    let mut left = limits.all_bytes;
+    match fetch_project(alloc, shelf, &options.project, limits, &mut left, steps) {
+        Ok(project) => row(alloc, project, options, out, steps),
+        Err(stop) => end_by(alloc, &stop, out),
+    }
+}
+
+fn row<O: Sink, L: Ledger>(
+    alloc: Global,
+    project: Project,
+    options: &RowOptions,
+    out: &mut O,
+    steps: &mut Steps<L>,
+) -> Status
+    ensures { Ends (row_outputs options.now (read_of project)) result (O.told out.old) (O.told out.new) }
+{
+    match look(alloc, project, options.loaded, steps) {
+        Ok(mut looked) => tell(alloc, &mut looked, options, out, steps),
+        Err(AllocError) => Status::Memory,
+    }
+}
+
+fn tell<O: Sink, L: Ledger>(
+    alloc: Global,
+    looked: &mut Looked,
+    options: &RowOptions,
+    out: &mut O,
+    steps: &mut Steps<L>,
+) -> Status
+    ensures { Ends (row_of looked.old.bench.rules looked.old.bench.limits looked.old.counts looked.old.bench.history options.now) result (O.told out.old) (O.told out.new) }
+{
+    let counts = looked.counts.as_slice();
+    match row_shown(alloc, &mut looked.bench, counts, options, steps) {
+        Ok(shown) => end_with(out, &shown.text, shown.status),
+        Err(AllocError) => Status::Memory,
+    }
+}
+
+fn row_shown<L: Ledger>(
+    alloc: Global,
+    bench: &mut Bench,
+    counts: &[u64],
+    options: &RowOptions,
+    steps: &mut Steps<L>,
+) -> Result<Shown, AllocError>
+    ensures told { IfOk result (λ shown. row_of bench.old.rules bench.old.limits counts.now bench.old.history options.now shown.text.items shown.status) }
+    ensures whole { IfOk result (λ shown. IsWhole shown.status) }
+{
+    match place_of(bench, options) {
+        Some(table) => row_in(alloc, bench, counts, table, options, steps),
+        None => Ok(refused(no_table(alloc, &options.table)?)),
+    }
+}
+
+/// The table that is asked for, by its number.
+fn place_of(bench: &Bench, options: &RowOptions) -> Option<usize>
+    ensures place { result ≡ table_place bench.now.rules.schema options.now.table }
+    ensures within { IfSome result (λ table. table < length bench.now.history.present) }
+{
+    bench.rules().schema().table_named(options.table.as_str())
+}
+
+fn row_in<L: Ledger>(
+    alloc: Global,
+    bench: &mut Bench,
+    counts: &[u64],
+    table: usize,
+    options: &RowOptions,
+    steps: &mut Steps<L>,
+) -> Result<Shown, AllocError>
+    requires { table < length bench.old.history.present }
+    ensures told { IfOk result (λ shown. row_in bench.old.rules bench.old.limits counts.now bench.old.history options.now table (row_texts bench.old.history.present table options.now.row) shown.text.items shown.status) }
+    ensures whole { IfOk result (λ shown. IsWhole shown.status) }
+{
+    let texts = row_texts(alloc, bench, table, options.row)?;
+    row_with(alloc, bench, counts, table, &texts, options, steps)
+}
+
+fn row_with<L: Ledger>(
+    alloc: Global,
+    bench: &mut Bench,
+    counts: &[u64],
+    table: usize,
+    texts: &Option<Texts>,
+    options: &RowOptions,
+    steps: &mut Steps<L>,
+) -> Result<Shown, AllocError>
+    ensures told { IfOk result (λ shown. row_in bench.old.rules bench.old.limits counts.now bench.old.history options.now table texts.now shown.text.items shown.status) }
+    ensures whole { IfOk result (λ shown. IsWhole shown.status) }
+{
+    match texts {
+        Some(texts) => row_there(alloc, bench, counts, table, texts, options, steps),
+        None => Ok(refused(no_row(alloc, &options.table, options.row)?)),
+    }
+}
+
+/// Tells a row that is there.
+fn row_there<L: Ledger>(
+    alloc: Global,
+    bench: &mut Bench,
+    counts: &[u64],
+    table: usize,
+    texts: &Texts,
+    options: &RowOptions,
+    steps: &mut Steps<L>,
+) -> Result<Shown, AllocError>
+    ensures told { IfOk result (λ shown. row_with bench.old.rules bench.old.limits counts.now bench.old.history options.now table texts.now shown.text.items shown.status) }
+    ensures whole { IfOk result (λ shown. IsWhole shown.status) }
+{
+    let found = findings(alloc, bench, steps)?;
+    let body = row_body(alloc, bench.rules(), counts, table, options.row, &found)?;
+    let schema = bench.rules().schema();
+    let mut text = row_text(alloc, schema, counts, table, options.row, texts, &body)?;
+    push_answers(alloc, &mut text, bench, options, steps)?;
+    let status = status_of(&body);
+    Ok(Shown { text, status })
+}
+
+/// Tells what a fix of the row would be answered, where somebody vouches for attributes.
+fn push_answers<L: Ledger>(
+    alloc: Global,
+    out: &mut Vec<u8>,
+    bench: &mut Bench,
+    options: &RowOptions,
+    steps: &mut Steps<L>,
+) -> Result<(), AllocError>
+    ensures { OnOk result ((replies : List ℕ) × AreReplies bench.old.rules bench.old.limits bench.old.history options.now replies × (out.new.items ≡ out.old.items ++ replies)) }
+{
+    let sink = answers(alloc, bench, options, steps)?;
+    out.extend_from_slice(sink.written())?;
+    Ok(())
+}
+
+fn answers<L: Ledger>(
+    alloc: Global,
+    bench: &mut Bench,
+    options: &RowOptions,
+    steps: &mut Steps<L>,
+) -> Result<MemorySink, AllocError>
+    ensures { IfOk result (λ sink. AreReplies bench.old.rules bench.old.limits bench.old.history options.now sink.bytes) }
+{
+    let commands = questions(alloc, options)?;
+    let mut sink = MemorySink::with_room(alloc, ANSWER_BYTES, Vec::new(alloc))?;
+    match serve(alloc, bench, &commands, &mut sink, steps) {
+        Ok(()) => Ok(sink),
+        Err(_) => Err(AllocError),
+    }
+}
+
+fn questions(alloc: Global, options: &RowOptions) -> Result<List<Command>, AllocError>
+    ensures { IfOk result (λ commands. commands ≡ questions options.now) }
+{
+    let mut commands = List::new(alloc);
+    if !options.vouch.as_slice().is_empty() {
+        commands.push(fix_of(options)?)?;
+    }
+    Ok(commands)
+}
+
+fn fix_of(options: &RowOptions) -> Result<Command, AllocError>
+    ensures { IfOk result (λ fix. fix ≡ Command.Fix options.now.table options.now.row options.now.vouch) }
+{
+    Ok(Command::Fix {
+        table: options.table.clone()?,
+        row: options.row,
+        vouched: options.vouch.copied()?,
+    })
+}

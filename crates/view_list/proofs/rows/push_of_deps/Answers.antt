@@ -1,0 +1,12 @@
+use Rattle.std.proofs.Common.{arith}
+use Rattle.view_list.specs.Rows.{dep_of_row}
+use Rattle.view_list.proofs.Pairs.{pairs_step, pairs_all}
+use Rattle.view_list.proofs.rows.push_of_deps.Goals as goal
+
+pub loop-i-preserved : goal.loop-i-preserved
+loop-i-preserved c =
+    pairs_step (dep_of_row c.args.schema.now c.args.counts.now c.args.table c.args.row) c.args.out.now.items c.loop-i.out.items _ c.args.deps.now c.args.found.now c.loop-i.i c.index-deps-i.result c.index-found-i.result (omega (arith, c.min-i-end.ensures, c.loop-i-test.true)) (omega (arith, c.min-i-end.ensures, c.loop-i-test.true))
+    c.index-deps-i.is c.index-found-i.is c.loop-i.invariant c.in_ok-push_of_dep.ensures
+
+pub returns : goal.returns
+returns c = pairs_all (dep_of_row c.args.schema.now c.args.counts.now c.args.table c.args.row) c.args.out.now.items c.loop-i.out.items c.args.deps.now c.args.found.now c.loop-i.i (omega (arith, c.min-i-end.ensures, c.loop-i-test.false)) c.loop-i.invariant

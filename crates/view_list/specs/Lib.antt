@@ -1,0 +1,4 @@
+pub mod Pieces
+pub mod Groups
+pub mod Listed
+pub mod Rows
