@@ -1,0 +1,5 @@
+pub mod Markup
+pub mod Totals
+pub mod Words
+pub mod Rows
+pub mod Groups
