@@ -20,18 +20,21 @@ use Rattle.page_text.specs.declared.rows.Shown.{Shown}
 abbrev pub value_row : Shown → ValueRows → List ℕ
 value_row shown value = markup piece.FirstCell ++ marked value.value ++ markup piece.CellEnd ++ rows_cells shown value.rows
 
-abbrev pub values_rows : Shown → List ValueRows → List ℕ
+unfoldable pub values_rows : Shown → List ValueRows → List ℕ
 values_rows shown values =
     flat_map (value_row shown) (take shown.first values) ++ more_text piece.WideCell shown.first (length values) piece.LastCellEnd
 
 -- what the rows of a group share, and what is asked of them
-abbrev pub caption : List Attr → Dep → Group → List ℕ
+unfoldable pub caption : List Attr → Dep → Group → List ℕ
 caption attrs dep group =
     line_name dep.name group.k ++ attr_codes attrs dep.rule.x ++ markup piece.Equals ++ flat_map bold group.key ++ wanted_of (slice_get dep.rule.rows group.k)
 
+unfoldable pub group_head : List Attr → Dep → Group → List ℕ
+group_head attrs dep group =
+    markup piece.GroupTable ++ caption attrs dep group ++ markup piece.CaptionEnd ++ attr_code (slice_get attrs dep.rule.a) ++ markup piece.Columns
+
 abbrev pub group_text : List Attr → Dep → Shown → Group → List ℕ
-group_text attrs dep shown group =
-    markup piece.GroupTable ++ caption attrs dep group ++ markup piece.CaptionEnd ++ attr_code (slice_get attrs dep.rule.a) ++ markup piece.Columns ++ values_rows shown group.values ++ markup piece.TableEnd
+group_text attrs dep shown group = group_head attrs dep group ++ values_rows shown group.values ++ markup piece.TableEnd
 
 abbrev pub groups_text : List Attr → Dep → Shown → List Group → List ℕ
 groups_text attrs dep shown groups =
@@ -44,7 +47,7 @@ abbrev pub missing_row : Cind → Shown → Missing → List ℕ
 missing_row cind shown missing =
     markup piece.FirstCell ++ line_name cind.name missing.k ++ flat_map marked missing.key ++ markup piece.CellEnd ++ rows_cells shown missing.rows
 
-abbrev pub missing_rows : Cind → Shown → List Missing → List ℕ
+unfoldable pub missing_rows : Cind → Shown → List Missing → List ℕ
 missing_rows cind shown all =
     flat_map (missing_row cind shown) (take shown.first all) ++ more_text piece.WideCell shown.first (length all) piece.LastCellEnd
 

@@ -18,5 +18,5 @@ abbrev pub ids_text : Shown → List ℕ → List ℕ
 ids_text shown rows = flat_map (id_text shown) (take shown.first rows) ++ more_text piece.More shown.first (length rows) piece.MoreEnd
 
 -- how many rows these are, and their ids
-abbrev pub rows_cells : Shown → List ℕ → List ℕ
+unfoldable pub rows_cells : Shown → List ℕ → List ℕ
 rows_cells shown rows = number_cell (length rows) ++ markup piece.Cell ++ ids_text shown rows ++ markup piece.LastCellEnd

@@ -47,7 +47,7 @@ cind_words tables cind =
 -- ---- tableau rows
 
 -- by the name of the rule and its number, which counts from 1
-abbrev pub line_name : List ℕ → ℕ → List ℕ
+unfoldable pub line_name : List ℕ → ℕ → List ℕ
 line_name name k = between (markup piece.Small) name (markup piece.Dot) ++ decimal (k + 1) ++ markup piece.SmallEnd
 
 -- what is asked of the value on the right side

@@ -1,7 +1,7 @@
 //! The groups of a dependency.
 ghost use Rattle.std.specs.Prelude.{◌≡◌, ◌++◌, OnOk};
 ghost use Rattle.std.specs.List.{flat_map};
-ghost use Rattle.page_text.specs.Groups.{caption, group_text, groups_text, value_row, values_rows};
+ghost use Rattle.page_text.specs.Groups.{caption, group_head, group_text, groups_text, value_row, values_rows};
 
 use crate::markup::{Piece, push, push_more_in};
 use crate::rows::{Shown, push_rows};
@@ -56,17 +56,31 @@ fn push_group(
 ) -> Result<(), AllocError>
     ensures { OnOk result (out.new.items ≡ out.old.items ++ group_text attrs.now dep.now shown group.now) }
 {
-    push(out, Piece::GroupTable)?;
-    push_caption(out, attrs, dep, group)?;
-    push(out, Piece::CaptionEnd)?;
-    push_attr(out, attrs, dep.rule.a)?;
-    push(out, Piece::Columns)?;
+    push_group_head(out, attrs, dep, group)?;
     push_values(out, shown, group.values.as_slice())?;
     push(out, Piece::TableEnd)?;
     Ok(())
 }
 
+#[tactic(auto, unfolding(crate::specs::Groups::group_head))]
+fn push_group_head(
+    out: &mut Vec<u8>,
+    attrs: &[Attr],
+    dep: &Dep,
+    group: &Group,
+) -> Result<(), AllocError>
+    ensures { OnOk result (out.new.items ≡ out.old.items ++ group_head attrs.now dep.now group.now) }
+{
+    push(out, Piece::GroupTable)?;
+    push_caption(out, attrs, dep, group)?;
+    push(out, Piece::CaptionEnd)?;
+    push_attr(out, attrs, dep.rule.a)?;
+    push(out, Piece::Columns)?;
+    Ok(())
+}
+
 // What the rows of the group share.
+#[tactic(auto, unfolding(crate::specs::Groups::caption))]
 fn push_caption(
     out: &mut Vec<u8>,
     attrs: &[Attr],
@@ -83,6 +97,7 @@ fn push_caption(
     Ok(())
 }
 
+#[tactic(auto, unfolding(crate::specs::Groups::values_rows))]
 fn push_values(out: &mut Vec<u8>, shown: Shown, values: &[ValueRows]) -> Result<(), AllocError>
     ensures { OnOk result (out.new.items ≡ out.old.items ++ values_rows shown values.now) }
 {

@@ -29,6 +29,7 @@ pub fn push_missing_table(
     Ok(())
 }
 
+#[tactic(auto, unfolding(crate::specs::Groups::missing_rows))]
 fn push_missing_rows(
     out: &mut Vec<u8>,
     cind: &Cind,

@@ -20,10 +20,11 @@ pub struct Shown {
 #[derive(Debug, Drop)]
 pub struct RowCounts {
     pub read: List<usize>,
-    pub now: List<usize>,
+    pub present: List<usize>,
 }
 
 /// Appends how many rows these are, and their ids.
+#[tactic(auto, unfolding(crate::specs::Rows::rows_cells))]
 pub fn push_rows(out: &mut Vec<u8>, shown: Shown, rows: &[u64]) -> Result<(), AllocError>
     ensures { OnOk result (out.new.items ≡ out.old.items ++ rows_cells shown rows.now) }
 {

@@ -121,6 +121,7 @@ fn push_side(
 }
 
 /// Tells a tableau row by the name of its rule and its number, which counts from 1.
+#[tactic(auto, unfolding(crate::specs::Words::line_name))]
 pub fn push_line_name(out: &mut Vec<u8>, name: &Text, k: usize) -> Result<(), AllocError>
     ensures { OnOk result (out.new.items ≡ out.old.items ++ line_name name.now k) }
 {
