@@ -1,0 +1,52 @@
+-- The form `page PROJECT` of `cfdview`: a project as a page.
+use Rattle.std.specs.Prelude.{◌≡◌, ◌↔◌, ℕ, Bool, true, false, List}
+use Rattle.text_lists.specs.declared.limits.Limits.{Limits}
+use Rattle.rule_model.specs.Books.{Book}
+use Rattle.bench_core.specs.History.{History}
+use Rattle.bench_core.specs.State.{State}
+use Rattle.violation_report.specs.Listing.{IsSatisfied, listing}
+use Rattle.violation_groups.specs.Groups.{AreFindings}
+use Rattle.violation_groups.specs.declared.Findings.{Findings}
+use Rattle.page_text.specs.Page.{page_text}
+use Rattle.page_text.specs.declared.Options.{Options}
+use Rattle.page_text.specs.declared.RowCounts.{RowCounts}
+use Rattle.cli_output.specs.Output.{Outputs, Task}
+use Rattle.cli_output.specs.declared.status.Status.TheVariants.{Clean}
+use Rattle.project_forms.specs.Project.{LeadsTo, ProjectRead, fetch_project}
+use Rattle.project_forms.specs.Transcripts.{found_status}
+use Rattle.view_page.specs.Counts.{row_counts}
+
+-- ---- the state that is shown
+
+-- the tables as they were read, or those that the script leaves
+abbrev pub IsShown : Bool → ProjectRead → History → Type 0
+IsShown true project last = last ≡ project.tables.history
+IsShown false project last = LeadsTo project last
+
+-- ---- its page
+
+-- the page of what is found in a state
+abbrev pub IsTextOn : List ℕ → Options → RowCounts → Book → State → List ℕ → Type 0
+IsTextOn name options rows rules state text =
+    (findings : Findings) × AreFindings rules state findings × (text ≡ page_text name options rules rows findings)
+
+-- The page of a state, with so many rows read, and its status: Clean exactly where its rows satisfy all rules.
+abbrev pub IsPageOf : List ℕ → Options → List ℕ → Book → State → Outputs
+IsPageOf name options read rules state bytes status =
+    IsTextOn name options (record { read = read; present = row_counts state }) rules state bytes × (status ≡ found_status (listing rules state)) × (status ≡ Clean ↔ IsSatisfied rules state)
+
+-- ---- what is written
+
+abbrev pub page_outputs : List ℕ → Options → ProjectRead → Outputs
+page_outputs name options project bytes status =
+    let start = project.tables in
+    (last : History) × IsShown options.loaded project last × IsPageOf name options (row_counts start.history.present) start.rules last.present bytes status
+
+-- the schema, the rules, the script and 64 tables are fetched at most
+abbrev pub page_task : Limits → List ℕ → Options → Task
+page_task limits project options = record {
+  Found = ProjectRead;
+  fetching = fetch_project limits project;
+  outputs = page_outputs project options;
+  most_fetches = 67;
+}
