@@ -1,5 +1,5 @@
 -- The form `page PROJECT` of `cfdview`: a project as a page.
-use Rattle.std.specs.Prelude.{◌≡◌, ◌↔◌, ℕ, Bool, true, false, List}
+use Rattle.std.specs.Prelude.{◌≡◌, ◌↔◌, ℕ, Bool, true, false, List, Option, None, Some}
 use Rattle.text_lists.specs.declared.limits.Limits.{Limits}
 use Rattle.rule_model.specs.Books.{Book}
 use Rattle.bench_core.specs.History.{History}
@@ -10,6 +10,7 @@ use Rattle.violation_groups.specs.declared.Findings.{Findings}
 use Rattle.page_text.specs.Page.{page_text}
 use Rattle.page_text.specs.declared.Options.{Options}
 use Rattle.page_text.specs.declared.RowCounts.{RowCounts}
+use Rattle.view_options.specs.declared.options.PageOptions.{PageOptions}
 use Rattle.cli_output.specs.Output.{Outputs, Task}
 use Rattle.cli_output.specs.declared.status.Status.TheVariants.{Clean}
 use Rattle.project_forms.specs.Project.{LeadsTo, ProjectRead, fetch_project}
@@ -22,6 +23,14 @@ use Rattle.view_page.specs.Counts.{row_counts}
 abbrev pub IsShown : Bool → ProjectRead → History → Type 0
 IsShown true project last = last ≡ project.tables.history
 IsShown false project last = LeadsTo project last
+
+-- how many of each kind are shown: all, where no number is given, since no list is longer
+abbrev pub first_shown : Option ℕ → ℕ
+first_shown None = 18446744073709551615
+first_shown (Some first) = first
+
+abbrev pub options_of : PageOptions → Options
+options_of options = record { first = first_shown options.first; loaded = options.loaded }
 
 -- ---- its page
 
@@ -37,16 +46,16 @@ IsPageOf name options read rules state bytes status =
 
 -- ---- what is written
 
-abbrev pub page_outputs : List ℕ → Options → ProjectRead → Outputs
-page_outputs name options project bytes status =
+abbrev pub page_outputs : PageOptions → ProjectRead → Outputs
+page_outputs options project bytes status =
     let start = project.tables in
-    (last : History) × IsShown options.loaded project last × IsPageOf name options (row_counts start.history.present) start.rules last.present bytes status
+    (last : History) × IsShown options.loaded project last × IsPageOf options.project (options_of options) (row_counts start.history.present) start.rules last.present bytes status
 
 -- the schema, the rules, the script and 64 tables are fetched at most
-abbrev pub page_task : Limits → List ℕ → Options → Task
-page_task limits project options = record {
+abbrev pub page_task : Limits → PageOptions → Task
+page_task limits options = record {
   Found = ProjectRead;
-  fetching = fetch_project limits project;
-  outputs = page_outputs project options;
+  fetching = fetch_project limits options.project;
+  outputs = page_outputs options;
   most_fetches = 67;
 }

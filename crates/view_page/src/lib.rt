@@ -7,4 +7,3 @@ mod form;
 mod shown;
 
 pub use form::page_project;
-pub use page_text::Options;

@@ -8,7 +8,7 @@ use Rattle.view_page.proofs.form.answer.Goals as goal
 
 pub returns-in-Ok : goal.returns-in-Ok
 returns-in-Ok g c =
-    let outputs = page_outputs c.args.name.now c.args.options (read_of c.args.project) in
+    let outputs = page_outputs c.args.options.now (read_of c.args.project) in
     let page = c.in-Ok.page in
     Ends-wider (Only c.deref.result.now page.status) outputs
     (λ (bytes : List ℕ) (status : Status) o. subst (λ s. outputs bytes s) (sym o.1) (subst (λ b. outputs b page.status) (sym o.0) (subst (λ b. outputs b page.status) (sym c.deref.ensures.value) c.in-Ok.ensures.page)))
