@@ -1,1 +1,2 @@
 mod RowCounts
+mod Statuses

@@ -1,5 +1,5 @@
 -- The form `page PROJECT` of `cfdview`: a project as a page.
-use Rattle.std.specs.Prelude.{◌≡◌, ◌↔◌, ℕ, Bool, true, false, List, Option, None, Some}
+use Rattle.std.specs.Prelude.{◌≡◌, ◌↔◌, ℕ, Bool, true, false, List, [], ◌∷◌, Option, None, Some}
 use Rattle.text_lists.specs.declared.limits.Limits.{Limits}
 use Rattle.rule_model.specs.Books.{Book}
 use Rattle.bench_core.specs.History.{History}
@@ -12,9 +12,9 @@ use Rattle.page_text.specs.declared.Options.{Options}
 use Rattle.page_text.specs.declared.RowCounts.{RowCounts}
 use Rattle.view_options.specs.declared.options.PageOptions.{PageOptions}
 use Rattle.cli_output.specs.Output.{Outputs, Task}
-use Rattle.cli_output.specs.declared.status.Status.TheVariants.{Clean}
+use Rattle.cli_output.specs.declared.status.Status.{Status}
+use Rattle.cli_output.specs.declared.status.Status.TheVariants.{Clean, Findings as Found}
 use Rattle.project_forms.specs.Project.{LeadsTo, ProjectRead, fetch_project}
-use Rattle.project_forms.specs.Transcripts.{found_status}
 use Rattle.view_page.specs.Counts.{row_counts}
 
 -- ---- the state that is shown
@@ -39,10 +39,15 @@ abbrev pub IsTextOn : List ℕ → Options → RowCounts → Book → State → 
 IsTextOn name options rows rules state text =
     (findings : Findings) × AreFindings rules state findings × (text ≡ page_text name options rules rows findings)
 
+-- the status by what the list holds
+abbrev pub status_for : {X : Type 0} → List X → Status
+status_for [] = Clean
+status_for (line ∷ lines) = Found
+
 -- The page of a state, with so many rows read, and its status: Clean exactly where its rows satisfy all rules.
 abbrev pub IsPageOf : List ℕ → Options → List ℕ → Book → State → Outputs
 IsPageOf name options read rules state bytes status =
-    IsTextOn name options (record { read = read; present = row_counts state }) rules state bytes × (status ≡ found_status (listing rules state)) × (status ≡ Clean ↔ IsSatisfied rules state)
+    IsTextOn name options (record { read = read; present = row_counts state }) rules state bytes × (status ≡ status_for (listing rules state)) × (status ≡ Clean ↔ IsSatisfied rules state)
 
 -- ---- what is written
 

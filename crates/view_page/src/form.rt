@@ -1,12 +1,11 @@
 //! The form.
-ghost use Rattle.std.specs.Prelude.{◌≡◌, ◌<◌, IfOk};
+ghost use Rattle.std.specs.Prelude.{◌≡◌, ◌↔◌, ◌<◌, IfOk};
 ghost use Rattle.text_lists.specs.Limits.{AreLimits};
-ghost use Rattle.violation_report.specs.Listing.{listing};
+ghost use Rattle.violation_report.specs.Listing.{IsSatisfied, listing};
 ghost use Rattle.cli_output.specs.Output.{Ends, IsWhole, Output, UsesDevices, Writes};
 ghost use Rattle.project_forms.specs.Project.{read_of};
-ghost use Rattle.project_forms.specs.Transcripts.{found_status};
 ghost use Rattle.view_page.specs.Counts.{row_counts};
-ghost use Rattle.view_page.specs.PageForm.{IsPageOf, IsTextOn, page_outputs, page_task};
+ghost use Rattle.view_page.specs.PageForm.{IsPageOf, IsTextOn, page_outputs, page_task, status_for};
 
 use crate::counts::row_counts;
 use crate::shown::{bench_shown, options_of};
@@ -155,7 +154,8 @@ fn text_on<L: Ledger>(
 }
 
 fn status_on(bench: &Bench) -> Status
-    ensures status { result ≡ found_status (listing bench.now.rules bench.now.history.present) }
+    ensures status { result ≡ status_for (listing bench.now.rules bench.now.history.present) }
+    ensures law { result ≡ Status.Clean ↔ IsSatisfied bench.now.rules bench.now.history.present }
     ensures whole { IsWhole result }
 {
     if is_clean(bench) {
