@@ -1,2 +1,3 @@
 mod RowCounts
 mod Statuses
+mod Pages

@@ -1,4 +1,3 @@
-use Rattle.html_text.specs.Escaped.{escaped}
 use Rattle.html_text.proofs.OnlyText.{IsOnlyText-escaped}
 use Rattle.html_text.proofs.escaping.push_escaped.Goals as goal
 
