@@ -1,0 +1,2 @@
+mod OnlyText
+pub mod Places

@@ -1,0 +1,3 @@
+mod RowCounts
+mod Statuses
+mod Pages
