@@ -7,3 +7,4 @@ mod numbers;
 mod words;
 
 pub use form::{Form, form_of};
+pub use numbers::number_within;

@@ -19,6 +19,8 @@ pub struct CaseFile {
 #[derive(Drop)]
 pub struct Case {
     pub name: Text,
+    /// None: the first of those that there are.
+    pub program: Option<Text>,
     /// None: the standard ones.
     pub limits: Option<Limits>,
     pub failing_fetches: Vec<u64>,
@@ -34,6 +36,7 @@ impl Case {
     pub fn new(alloc: Global, name: &str) -> Result<Case, AllocError> {
         Ok(Case {
             name: Text::new(alloc, name)?,
+            program: None,
             limits: None,
             failing_fetches: Vec::new(alloc),
             failing_puts: Vec::new(alloc),
@@ -42,6 +45,14 @@ impl Case {
             status: 0,
             written: Vec::new(alloc),
         })
+    }
+
+    /// The name of the program that is called, where the case names one.
+    pub fn program(&self) -> Option<&str> {
+        match &self.program {
+            Some(program) => Some(program.as_str()),
+            None => None,
+        }
     }
 
     /// A shelf with the files.

@@ -12,10 +12,15 @@ use std::process::ExitCode;
 use std::{fs, io};
 use text_lists::{Limits, Texts};
 
-/// What the calls of cases are made of. Each gives the number of its status.
-pub trait Program {
+/// The programs that cases call, by their names. A case that names none calls the first of them. Each call gives the
+/// number of its status.
+pub trait Programs {
+    /// Whether there is a program of that name.
+    fn has(&self, program: Option<&str>) -> bool;
+
     fn run(
         &self,
+        program: Option<&str>,
         alloc: Global,
         words: &Texts,
         shelf: &mut MemoryShelf,
@@ -25,6 +30,7 @@ pub trait Program {
     /// The same under other limits.
     fn run_with(
         &self,
+        program: Option<&str>,
         alloc: Global,
         words: &Texts,
         shelf: &mut MemoryShelf,
@@ -36,8 +42,8 @@ pub trait Program {
 
 /// Judges the cases of all files of the working folder whose names end in `.cases`, by rising names. Failures and the
 /// verdict go to standard output, the number of cases to standard error.
-pub fn run_folder<P: Program>(rt: HostRuntime, program: &P) -> ExitCode {
-    match judge_folder(rt, program) {
+pub fn run_folder<P: Programs>(rt: HostRuntime, programs: &P) -> ExitCode {
+    match judge_folder(rt, programs) {
         Ok(true) => ExitCode::SUCCESS,
         Ok(false) => ExitCode::from(1),
         Err(error) => {
@@ -47,7 +53,7 @@ pub fn run_folder<P: Program>(rt: HostRuntime, program: &P) -> ExitCode {
     }
 }
 
-fn judge_folder<P: Program>(rt: HostRuntime, program: &P) -> io::Result<bool> {
+fn judge_folder<P: Programs>(rt: HostRuntime, programs: &P) -> io::Result<bool> {
     let names = case_files(rt)?;
     let mut shelf = FolderShelf::new(rt.alloc(), rt);
     let mut report = Report::new(rt.stdout());
@@ -55,7 +61,7 @@ fn judge_folder<P: Program>(rt: HostRuntime, program: &P) -> io::Result<bool> {
         let name = name.as_str();
         let before = report.cases();
         let bytes = shelf.fetch(name, usize::MAX).map_err(error_of)?;
-        judge_file(rt.alloc(), program, name, &bytes, &mut report)?;
+        judge_file(rt.alloc(), programs, name, &bytes, &mut report)?;
         if report.cases() == before {
             report.no_case(name)?;
         }
@@ -89,9 +95,9 @@ fn error_of(fault: FetchFault) -> io::Error {
     }
 }
 
-fn judge_file<P: Program, W: Write + Drop>(
+fn judge_file<P: Programs, W: Write + Drop>(
     alloc: Global,
-    program: &P,
+    programs: &P,
     name: &str,
     bytes: &[u8],
     report: &mut Report<W>,
@@ -102,30 +108,34 @@ fn judge_file<P: Program, W: Write + Drop>(
         number = number.saturating_add(1);
         match reader.take(line)? {
             Reading::More => {}
-            Reading::Case(case) => judge_case(alloc, program, name, &case, report)?,
+            Reading::Case(case) => judge_case(alloc, programs, name, &case, report)?,
             Reading::Unreadable => report.unreadable(name, number, line)?,
         }
     }
     match reader.take(b"")? {
         Reading::More => Ok(()),
-        Reading::Case(case) => judge_case(alloc, program, name, &case, report),
+        Reading::Case(case) => judge_case(alloc, programs, name, &case, report),
         Reading::Unreadable => report.unreadable(name, number, b""),
     }
 }
 
-fn judge_case<P: Program, W: Write + Drop>(
+fn judge_case<P: Programs, W: Write + Drop>(
     alloc: Global,
-    program: &P,
+    programs: &P,
     file: &str,
     case: &Case,
     report: &mut Report<W>,
 ) -> io::Result<()> {
+    let program = case.program();
+    if !programs.has(program) {
+        return report.no_program(file, case);
+    }
     let mut shelf = case.shelf(alloc)?;
     let mut out = case.sink(alloc)?;
     let status = match &case.limits {
-        None => program.run(alloc, &case.words, &mut shelf, &mut out),
+        None => programs.run(program, alloc, &case.words, &mut shelf, &mut out),
         Some(limits) if are_limits(limits) => {
-            program.run_with(alloc, &case.words, &mut shelf, &mut out, *limits)
+            programs.run_with(program, alloc, &case.words, &mut shelf, &mut out, *limits)
         }
         Some(_) => return report.wrong_limits(file, case),
     };

@@ -1,6 +1,6 @@
 //! Reads a file of cases line by line. Cases are parted by empty lines. A case whose line can't be read is passed over.
 //!
-//! A case is its lines in this order: `case NAME`; `program cfdbench`, which may be left out; `limit NAME NUMBER` and
+//! A case is its lines in this order: `case NAME`; `program NAME`, which may be left out; `limit NAME NUMBER` and
 //! `fail fetch NUMBER` or `fail put NUMBER`; `word TEXT`; `file NAME`, each with its content below it; `status NUMBER`,
 //! with what is to be written below it. Content is lines that begin with `|`, a last one that begins with `\` and has
 //! no line feed, and two lines that stand for many: `repeat NUMBER |TEXT` for so many lines, `#` being the number of
@@ -156,7 +156,7 @@ impl Draft {
         }
         let (kind, rest) = named(line)?;
         match kind {
-            "program" => self.enter(Part::Program, rest == "cfdbench"),
+            "program" => self.add_program(rest),
             "limit" => self.add_limit(rest),
             "fail" => self.add_failure(rest),
             "word" => self.add_word(rest),
@@ -179,6 +179,12 @@ impl Draft {
         } else {
             Err(LineFault::Unreadable)
         }
+    }
+
+    fn add_program(&mut self, name: &str) -> Result<(), LineFault> {
+        self.enter(Part::Program, true)?;
+        self.case.program = Some(Text::new(self.alloc, name)?);
+        Ok(())
     }
 
     fn add_limit(&mut self, rest: &str) -> Result<(), LineFault> {

@@ -69,6 +69,15 @@ impl<W: Write + Drop> Report<W> {
         writeln!(self.out, "{file}: {name}: no call takes these limits")
     }
 
+    /// A case of a program that there isn't.
+    pub fn no_program(&mut self, file: &str, case: &Case) -> io::Result<()>
+        ensures { Rose self.old.failures self.new.failures }
+    {
+        self.failures = self.failures.saturating_add(1);
+        let name = case.name.as_str();
+        writeln!(self.out, "{file}: {name}: there is no such program")
+    }
+
     /// A file or folder in which no case could be judged.
     pub fn no_case(&mut self, name: &str) -> io::Result<()>
         ensures { Rose self.old.failures self.new.failures }

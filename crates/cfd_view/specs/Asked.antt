@@ -1,43 +1,48 @@
 -- What the words of a call of `cfdview` ask for.
-use Rattle.std.specs.Prelude.{ℕ, Bool, true, false, List, [], ◌∷◌, Ok, codes}
-use Rattle.std.specs.Str.{bytes_eq}
+use Rattle.std.specs.Prelude.{◌≡◌, ℕ, List, [], Ok}
 use Rattle.text_lists.specs.declared.limits.Limits.{Limits}
-use Rattle.cli_output.specs.declared.status.Status.TheVariants.{Usage}
+use Rattle.cli_output.specs.declared.status.Status.TheVariants.{Clean, Usage}
 use Rattle.cli_output.specs.Fetching.{given}
 use Rattle.cli_output.specs.Output.{Only, Task}
 use Rattle.view_check.specs.CheckForm.{check_task}
 use Rattle.view_schema.specs.SchemaForm.{schema_task}
+use Rattle.view_words.specs.Asking.{asked_of}
+use Rattle.view_words.specs.declared.form.Asked.{Asked}
+use Rattle.view_words.specs.declared.form.Asked.TheVariants as asked
+use Rattle.view_words.specs.declared.form.Form.{Form}
+use Rattle.view_words.specs.declared.form.Form.TheVariants as form
 
--- the line that is written where the words have no form
-abbrev pub usage_line : List ℕ
-usage_line = codes "usage: check PROJECT | schema FILE..\n"
-
+-- nothing is written where the words ask for nothing that there is
 abbrev pub usage_task : Task
 usage_task = record {
   Found = Unit {0};
   fetching = given (Ok tt);
-  outputs = λ _. Only usage_line Usage;
+  outputs = λ _. Only [] Usage;
   most_fetches = 0;
 }
 
--- behind `schema` stands one file at least
-abbrev pub schema_of : Limits → List (List ℕ) → Task
-schema_of limits [] = usage_task
-schema_of limits (file ∷ files) = schema_task limits (file ∷ files)
+-- some text is written where they ask for help
+abbrev pub help_task : Task
+help_task = record {
+  Found = Unit {0};
+  fetching = given (Ok tt);
+  outputs = λ _ bytes status. status ≡ Clean;
+  most_fetches = 0;
+}
 
--- behind `check` stands one project
-abbrev pub check_of : Limits → List (List ℕ) → Task
-check_of limits [] = usage_task
-check_of limits (project ∷ []) = check_task limits project
-check_of limits (project ∷ other ∷ others) = usage_task
+-- what a form asks for
+abbrev pub form_task : Limits → Form → Task
+form_task limits (form.List options) = usage_task
+form_task limits (form.Row options) = usage_task
+form_task limits (form.Check project) = check_task limits project
+form_task limits (form.Schema files) = schema_task limits files
+form_task limits (form.Page options) = usage_task
 
--- by whether the first word is `schema`, or `check`
-abbrev pub behind : Limits → List (List ℕ) → Bool → Bool → Task
-behind limits others true is_check = schema_of limits others
-behind limits others false true = check_of limits others
-behind limits others false false = usage_task
+abbrev pub asked_task : Limits → Asked → Task
+asked_task limits (asked.Form form) = form_task limits form
+asked_task limits asked.Help = help_task
+asked_task limits asked.Nothing = usage_task
 
 -- what the words ask for
 abbrev pub task_of : Limits → List (List ℕ) → Task
-task_of limits [] = usage_task
-task_of limits (first ∷ others) = behind limits others (bytes_eq first (codes "schema")) (bytes_eq first (codes "check"))
+task_of limits words = asked_task limits (asked_of words)

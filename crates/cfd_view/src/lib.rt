@@ -6,3 +6,4 @@ mod program;
 
 pub use cli_output::Status;
 pub use program::{run, run_with};
+pub use view_words::fault_text;

@@ -1,20 +1,19 @@
 //! The top call.
-ghost use Rattle.std.specs.Prelude.{◌≡◌, ◌∷◌, codes};
-ghost use Rattle.std.specs.Str.{bytes_eq};
+ghost use Rattle.std.specs.Prelude.{◌≡◌};
 ghost use Rattle.text_lists.specs.Limits.{AreLimits, standard};
 ghost use Rattle.cli_output.specs.Output.{Output, UsesDevices, Writes};
-ghost use Rattle.cfd_view.specs.Asked.{behind, check_of, schema_of, task_of, usage_line, usage_task};
+ghost use Rattle.cfd_view.specs.Asked.{asked_task, form_task, help_task, task_of, usage_task};
 
 use cli_output::{Status, end_with};
-use schema_core::{Limits, Text, Texts};
+use schema_core::{Limits, Texts};
 use shelf_io::{Shelf, Sink};
-use std::alloc::Global;
+use std::alloc::{AllocError, Global};
 use view_check::look_at_project;
 use view_schema::draft_schema;
+use view_words::{Asked, Form, asked_of, help_text};
 
-const USAGE: &str = "usage: check PROJECT | schema FILE..\n";
-
-/// Does what the words ask for, under the standard limits. The words are those after the program's name.
+/// Does what the words ask for, under the standard limits. The words are those after the program's name. What is wrong
+/// with words for which the status is `Usage` is told by `fault_text`, and no byte of it goes to the sink.
 pub fn run<S: Shelf, O: Sink>(alloc: Global, words: &Texts, shelf: &mut S, out: &mut O) -> Status
     ensures written { Writes (Output standard (task_of standard words.now) (S.told shelf.old).holding) result (O.told out.old).written (O.told out.new).written }
     ensures devices { UsesDevices standard (task_of standard words.now) result (S.told shelf.old) (S.told shelf.new) (O.told out.old) (O.told out.new) }
@@ -38,72 +37,73 @@ pub fn run_with<S: Shelf, O: Sink>(
     // Nothing is fetched that isn't asked for, and a fault is told only where a device counted one.
     ensures devices { UsesDevices limits (task_of limits words.now) result (S.told shelf.old) (S.told shelf.new) (O.told out.old) (O.told out.new) }
 {
-    match words.as_slice() {
-        [] => usage(shelf, out, &limits),
-        [first, others @ ..] => answer(alloc, first, others, shelf, out, &limits),
+    match asked_of(alloc, words.as_slice()) {
+        Ok(asked) => answer(alloc, words, &asked, shelf, out, &limits),
+        Err(AllocError) => Status::Memory,
     }
 }
 
-/// Does what the words behind the first one ask for.
+/// Does what was asked for by the words.
 fn answer<S: Shelf, O: Sink>(
     alloc: Global,
-    first: &Text,
-    others: &[Text],
+    words: &Texts,
+    asked: &Asked,
     shelf: &mut S,
     out: &mut O,
     limits: &Limits,
 ) -> Status
     requires { AreLimits limits.now }
-    ensures written { Writes (Output limits.now (behind limits.now others.now (bytes_eq first.now (codes "schema")) (bytes_eq first.now (codes "check"))) (S.told shelf.old).holding) result (O.told out.old).written (O.told out.new).written }
-    ensures devices { UsesDevices limits.now (behind limits.now others.now (bytes_eq first.now (codes "schema")) (bytes_eq first.now (codes "check"))) result (S.told shelf.old) (S.told shelf.new) (O.told out.old) (O.told out.new) }
+    ensures written { Writes (Output limits.now (asked_task limits.now asked.now) (S.told shelf.old).holding) result (O.told out.old).written (O.told out.new).written }
+    ensures devices { UsesDevices limits.now (asked_task limits.now asked.now) result (S.told shelf.old) (S.told shelf.new) (O.told out.old) (O.told out.new) }
 {
-    let is_schema = first.is("schema");
-    let is_check = first.is("check");
-    match (is_schema, is_check) {
-        (true, _) => schema(alloc, others, shelf, out, limits),
-        (false, true) => check(alloc, others, shelf, out, limits),
-        (false, false) => usage(shelf, out, limits),
+    match asked {
+        Asked::Form(form) => answer_form(alloc, form, shelf, out, limits),
+        Asked::Help => help(alloc, words, shelf, out, limits),
+        Asked::Nothing => usage(shelf, out, limits),
     }
 }
 
-fn schema<S: Shelf, O: Sink>(
+fn answer_form<S: Shelf, O: Sink>(
     alloc: Global,
-    files: &[Text],
+    form: &Form,
     shelf: &mut S,
     out: &mut O,
     limits: &Limits,
 ) -> Status
     requires { AreLimits limits.now }
-    ensures written { Writes (Output limits.now (schema_of limits.now files.now) (S.told shelf.old).holding) result (O.told out.old).written (O.told out.new).written }
-    ensures devices { UsesDevices limits.now (schema_of limits.now files.now) result (S.told shelf.old) (S.told shelf.new) (O.told out.old) (O.told out.new) }
+    ensures written { Writes (Output limits.now (form_task limits.now form.now) (S.told shelf.old).holding) result (O.told out.old).written (O.told out.new).written }
+    ensures devices { UsesDevices limits.now (form_task limits.now form.now) result (S.told shelf.old) (S.told shelf.new) (O.told out.old) (O.told out.new) }
 {
-    match files {
-        [] => usage(shelf, out, limits),
-        [_, ..] => draft_schema(alloc, files, shelf, out, limits),
+    match form {
+        Form::List(_) => usage(shelf, out, limits),
+        Form::Row(_) => usage(shelf, out, limits),
+        Form::Check { project } => look_at_project(alloc, project, shelf, out, limits),
+        Form::Schema { files } => draft_schema(alloc, files.as_slice(), shelf, out, limits),
+        Form::Page(_) => usage(shelf, out, limits),
     }
 }
 
-fn check<S: Shelf, O: Sink>(
+/// Writes the help that the words ask for, or the version.
+fn help<S: Shelf, O: Sink>(
     alloc: Global,
-    words: &[Text],
-    shelf: &mut S,
+    words: &Texts,
+    shelf: &S,
     out: &mut O,
     limits: &Limits,
 ) -> Status
-    requires { AreLimits limits.now }
-    ensures written { Writes (Output limits.now (check_of limits.now words.now) (S.told shelf.old).holding) result (O.told out.old).written (O.told out.new).written }
-    ensures devices { UsesDevices limits.now (check_of limits.now words.now) result (S.told shelf.old) (S.told shelf.new) (O.told out.old) (O.told out.new) }
+    ensures written { Writes (Output limits.now help_task (S.told shelf.now).holding) result (O.told out.old).written (O.told out.new).written }
+    ensures devices { UsesDevices limits.now help_task result (S.told shelf.now) (S.told shelf.now) (O.told out.old) (O.told out.new) }
 {
-    match words {
-        [project] => look_at_project(alloc, project, shelf, out, limits),
-        [] | [_, _, ..] => usage(shelf, out, limits),
+    match help_text(alloc, words.as_slice()) {
+        Ok(text) => end_with(out, text.as_bytes(), Status::Clean),
+        Err(AllocError) => Status::Memory,
     }
 }
 
-/// Tells which words have a form.
-fn usage<S: Shelf, O: Sink>(shelf: &S, out: &mut O, limits: &Limits) -> Status
-    ensures written { Writes (Output limits.now usage_task (S.told shelf.now).holding) result (O.told out.old).written (O.told out.new).written }
-    ensures devices { UsesDevices limits.now usage_task result (S.told shelf.now) (S.told shelf.now) (O.told out.old) (O.told out.new) }
+/// Writes nothing.
+fn usage<S: Shelf, O: Sink>(_shelf: &S, _out: &O, _limits: &Limits) -> Status
+    ensures written { Writes (Output _limits.now usage_task (S.told _shelf.now).holding) result (O.told _out.now).written (O.told _out.now).written }
+    ensures devices { UsesDevices _limits.now usage_task result (S.told _shelf.now) (S.told _shelf.now) (O.told _out.now) (O.told _out.now) }
 {
-    end_with(out, USAGE.as_bytes(), Status::Usage)
+    Status::Usage
 }

@@ -2,13 +2,13 @@
 //! status's number.
 #![tactic(auto)]
 
-use cfd_view::{Status, run};
+use cfd_view::{Status, fault_text, run};
 use shelf_io::{FolderShelf, StdSink};
 use std::alloc::AllocError;
-use std::env;
 use std::io::ErrorKind;
 use std::process::ExitCode;
 use std::rt::{Env, Files};
+use std::{env, io};
 use text_lists::{List, Text, Texts};
 
 // The words after the program's name. Where one of them isn't UTF-8 there are none, which have no form either.
@@ -26,9 +26,18 @@ fn words_of<R: Env + AllocGlobal>(rt: &R) -> Result<Texts, AllocError> {
     Ok(words)
 }
 
-// One line on standard error where the status alone says how the call ended.
-fn tell<R: Files>(rt: HostRuntime, status: Status, shelf: &FolderShelf<R>) {
+// What is wrong with words that ask for nothing that there is.
+fn tell_fault(rt: HostRuntime, words: &Texts) -> io::Result<()> {
+    match fault_text(rt.alloc(), words.as_slice()) {
+        Ok(text) => eprint!(rt; "{text}"),
+        Err(AllocError) => eprintln!(rt; "cfdview: the words have no form"),
+    }
+}
+
+// What is said on standard error where the status alone says how the call ended.
+fn tell<R: Files>(rt: HostRuntime, words: &Texts, status: Status, shelf: &FolderShelf<R>) {
     let _told = match (status, shelf.unread()) {
+        (Status::Usage, _) => tell_fault(rt, words),
         (Status::ReadFault, Some(unread)) => {
             eprintln!(rt; "cfdview: {}: {}", unread.name, unread.error)
         }
@@ -46,7 +55,7 @@ fn main(rt: HostRuntime) -> ExitCode {
             let mut shelf = FolderShelf::new(alloc, rt);
             let mut out = StdSink::new(rt);
             let status = run(alloc, &words, &mut shelf, &mut out);
-            tell(rt, status, &shelf);
+            tell(rt, &words, status, &shelf);
             status
         }
         Err(AllocError) => Status::Memory,

@@ -1,31 +1,43 @@
-//! The cases of a folder, made by the call of this repository's program.
+//! The cases of a folder, made by the calls of this repository's programs.
 #![tactic(auto)]
 
 ghost use Rattle.text_lists.specs.Limits.{AreLimits};
 
-use case_files::{Program, run_folder};
-use cfd_cli::{run, run_with};
+use case_files::{Programs, run_folder};
 use shelf_io::{MemoryShelf, MemorySink};
 use std::alloc::Global;
 use std::process::ExitCode;
 use text_lists::{Limits, Texts};
 
-/// The program of this repository.
-struct Cfdbench;
+/// The programs of this repository.
+struct OurPrograms;
 
-impl Program for Cfdbench {
+impl Programs for OurPrograms {
+    fn has(&self, program: Option<&str>) -> bool {
+        match program {
+            Some(name) => name == "cfdbench" || name == "cfdview",
+            None => true,
+        }
+    }
+
     fn run(
         &self,
+        program: Option<&str>,
         alloc: Global,
         words: &Texts,
         shelf: &mut MemoryShelf,
         out: &mut MemorySink,
     ) -> u8 {
-        run(alloc, words, shelf, out).number()
+        if program == Some("cfdview") {
+            cfd_view::run(alloc, words, shelf, out).number()
+        } else {
+            cfd_cli::run(alloc, words, shelf, out).number()
+        }
     }
 
     fn run_with(
         &self,
+        program: Option<&str>,
         alloc: Global,
         words: &Texts,
         shelf: &mut MemoryShelf,
@@ -34,11 +46,15 @@ impl Program for Cfdbench {
     ) -> u8
         requires { AreLimits limits }
     {
-        run_with(alloc, words, shelf, out, limits).number()
+        if program == Some("cfdview") {
+            cfd_view::run_with(alloc, words, shelf, out, limits).number()
+        } else {
+            cfd_cli::run_with(alloc, words, shelf, out, limits).number()
+        }
     }
 }
 
-/// Makes the calls of all cases in the working folder, and tells which of them the program answers otherwise.
+/// Makes the calls of all cases in the working folder, and tells which of them a program answers otherwise.
 pub fn run_cases(rt: HostRuntime) -> ExitCode {
-    run_folder(rt, &Cfdbench)
+    run_folder(rt, &OurPrograms)
 }

@@ -1,16 +1,12 @@
-use Rattle.std.proofs.Common.{refl, ◌∙◌}
+use Rattle.std.proofs.Common.{Ok, refl}
 use Rattle.cli_output.specs.declared.status.Status.TheVariants.{Usage}
 use Rattle.cli_output.specs.Output.{Only}
-use Rattle.cli_output.proofs.Outputs.{Writes-wider, output-found}
-use Rattle.cfd_view.specs.Asked.{usage_line, usage_task}
+use Rattle.cli_output.proofs.Outputs.{output-found}
+use Rattle.shelf_io.proofs.Transcripts.{Appends-nothing}
+use Rattle.cfd_view.specs.Asked.{usage_task}
 use Rattle.cfd_view.proofs.program.usage.Goals as goal
 
 pub returns-clause-written : goal.returns-clause-written
 returns-clause-written g c =
-    let limits = c.args.limits.now in
-    let holding = (g.S.Shelf.told c.args.shelf.now).holding in
-    let before = (g.O.Sink.told c.args.out.now).written in
-    let after = (g.O.Sink.told c.end_with.new.out).written in
-    let status = c.end_with.result in
-    let line = Writes-wider (Only c.as_bytes.result.now Usage) (Only usage_line Usage) (λ bytes s o. (o.0 ∙ c.as_bytes.ensures.value, o.1)) status before after c.end_with.ensures.ends.writes in
-    output-found limits usage_task holding tt (λ files told. refl) status before after line
+    let told = (g.O.Sink.told c.args._out.now).written in
+    output-found c.args._limits.now usage_task (g.S.Shelf.told c.args._shelf.now).holding tt (λ files told. refl) Usage told told (Appends-nothing told (refl, refl))
