@@ -41,11 +41,13 @@ content() {
     fi
 }
 
-# The name, the wanted status, the file that has what is wanted, the folder of the files, and the words of the call.
+# The name, the wanted status, the file that has what is wanted, the folder of the files, and the words of the call, which is
+# one of cfdbench where no other program is set.
 case_of() {
     name=$1 status=$2 wanted=$3 folder=$4
     shift 4
     printf '\ncase %s\n' "$name"
+    [ -z "${program-}" ] || echo "program $program"
     for word; do
         echo "word $word"
     done
@@ -86,6 +88,9 @@ cases() {
         check mended.schema implied.cert
 
     case_of 'the readme: the first page' 1 "$made/top/written" "$made/top" run shop.schema
+    program=cfdview
+    case_of 'the readme: what people are shown' 1 "$made/seen/shown" "$made/top" list shop.schema
+    program=
     case_of 'the readme: the example first' 1 "$made/first/written" first run shop.schema
     case_of 'the page on formats: a session' 0 "$made/session/transcript" "$made/session" run shop.schema
     case_of 'the page on formats: a day of three editors' 0 "$made/desk/transcript" "$made/desk" \
