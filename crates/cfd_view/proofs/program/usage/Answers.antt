@@ -1,4 +1,4 @@
-use Rattle.std.proofs.Common.{Ok, refl}
+use Rattle.std.proofs.Common.{refl}
 use Rattle.cli_output.specs.declared.status.Status.TheVariants.{Usage}
 use Rattle.cli_output.specs.Output.{Only}
 use Rattle.cli_output.proofs.Outputs.{output-found}
