@@ -2,9 +2,12 @@
 use Rattle.std.specs.Prelude.{◌≡◌, ℕ, zero, suc, Bool, true, false, ◌&&◌, List, [], ◌∷◌, ◌++◌, length, slice_get, is_none, ◌==◌, if◌then◌else◌, Option, None, Some, codes, decimal}
 use Rattle.std.specs.List.{flat_map, list_all, list_any}
 use Rattle.text_lists.specs.declared.limits.Limits.{Limits}
+use Rattle.line_grammar.specs.Spelling.{comma_separated, line_text, mark, name, number}
+use Rattle.line_grammar.specs.declared.tokens.Mark.TheVariants.{Dot}
+use Rattle.line_grammar.specs.declared.writing.Part.{Part}
 use Rattle.schema_core.specs.declared.schema.Attr.{Attr}
 use Rattle.schema_core.specs.declared.schema.Table.{Table}
-use Rattle.rule_model.specs.Books.{book_edits}
+use Rattle.rule_model.specs.Books.{Book, book_edits}
 use Rattle.rule_model.specs.declared.edit_rule.EditCell.{EditCell}
 use Rattle.rule_model.specs.declared.edit_rule.EditRule.{EditRule}
 use Rattle.table_flaws.specs.Flaws.{flaws_of}
@@ -16,9 +19,9 @@ use Rattle.cli_output.specs.Output.{Only, Outputs, Task}
 use Rattle.view_check.specs.Seen.{fetch_seen}
 use Rattle.view_check.specs.Shown.{off_text}
 use Rattle.view_check.specs.Verdicts.{AreVerdicts}
+use Rattle.view_check.specs.declared.cited.RowName.{RowName}
 use Rattle.view_check.specs.declared.verdicts.Verdict.{Verdict}
 use Rattle.view_check.specs.declared.verdicts.Verdict.TheVariants.{Holds, Never, Open}
-use Rattle.view_check.specs.declared.fetching.Project.{Project}
 use Rattle.view_check.specs.declared.fetching.Seen.{Seen}
 use Rattle.view_check.specs.declared.fetching.Seen.TheVariants.{Off, Whole}
 
@@ -102,15 +105,26 @@ edits_clean all rules = list_all (λ (rule : EditRule). is_none (why_never all r
 
 -- ---- tables that no row can satisfy
 
+-- `RULE.K`
+abbrev pub row_parts : RowName → List Part
+row_parts row = name row.rule ∷ mark Dot ∷ number row.row ∷ []
+
+abbrev pub by_line : List RowName → List ℕ
+by_line rows = codes "  by " ++ line_text (comma_separated row_parts rows) ++ codes "\n"
+
+-- and by which tableau rows
+abbrev pub never_text : Table → List RowName → List ℕ
+never_text table rows = (codes "table " ++ table.name) ++ codes ": no row can satisfy its dependencies\n" ++ by_line rows
+
 -- nothing is told of a table whose dependencies some row satisfies
 abbrev pub verdict_line : Table → Verdict → List ℕ
 verdict_line table Holds = []
-verdict_line table Never = codes "table " ++ table.name ++ codes ": no row can satisfy its dependencies\n"
+verdict_line table (Never rows) = never_text table rows
 verdict_line table Open = codes "table " ++ table.name ++ codes ": not settled whether a row can satisfy its dependencies\n"
 
 abbrev pub is_good : Verdict → Bool
 is_good Holds = true
-is_good Never = false
+is_good (Never rows) = false
 is_good Open = false
 
 abbrev pub verdict_part : Option Table → Option Verdict → List ℕ
@@ -122,17 +136,15 @@ abbrev pub verdicts_text : List Table → List Verdict → ℕ → List ℕ
 verdicts_text tables verdicts zero = []
 verdicts_text tables verdicts (suc place) = verdicts_text tables verdicts place ++ verdict_part (slice_get tables place) (slice_get verdicts place)
 
--- ---- the project
+-- ---- the project, by its rules and the rows of its tables
 
-abbrev pub whole_text : Project → List Verdict → List ℕ
-whole_text project verdicts =
-    tables_text project.rules.schema.tables project.tables (length project.rules.schema.tables) ++ verdicts_text project.rules.schema.tables verdicts (length project.rules.schema.tables)
-    ++ edits_text project.tables (book_edits project.rules)
+abbrev pub whole_text : Book → List (List (List (List ℕ))) → List Verdict → List ℕ
+whole_text rules all verdicts =
+    tables_text rules.schema.tables all (length rules.schema.tables) ++ verdicts_text rules.schema.tables verdicts (length rules.schema.tables)
+    ++ edits_text all (book_edits rules)
 
-abbrev pub is_clean : Project → List Verdict → Bool
-is_clean project verdicts =
-    tables_clean project.rules.schema.tables project.tables (length project.rules.schema.tables) && list_all is_good verdicts
-    && edits_clean project.tables (book_edits project.rules)
+abbrev pub is_clean : Book → List (List (List (List ℕ))) → List Verdict → Bool
+is_clean rules all verdicts = tables_clean rules.schema.tables all (length rules.schema.tables) && list_all is_good verdicts && edits_clean all (book_edits rules)
 
 -- nothing is off, or something is
 abbrev pub status_of : Bool → Status
@@ -140,14 +152,13 @@ status_of true = Clean
 status_of false = Findings
 
 -- what is told, with the status that goes with it
-abbrev pub IsTold : Project → List ℕ → Status → Type 0
-IsTold project bytes status =
-    (verdicts : List Verdict) × AreVerdicts project.rules verdicts × (bytes ≡ whole_text project verdicts) × (status ≡ status_of (is_clean project verdicts))
+abbrev pub IsTold : Book → List (List (List (List ℕ))) → List ℕ → Status → Type 0
+IsTold rules all bytes status = (verdicts : List Verdict) × AreVerdicts rules verdicts × (bytes ≡ whole_text rules all verdicts) × (status ≡ status_of (is_clean rules all verdicts))
 
 -- ---- what is written
 
 abbrev pub check_outputs : Limits → Seen → Outputs
-check_outputs limits (Whole project) = IsTold project
+check_outputs limits (Whole project) = IsTold project.rules project.tables
 check_outputs limits (Off refusal bytes) = Only (off_text limits refusal bytes) Refused
 
 -- schema, rules and tables are fetched, and once more a file that is refused

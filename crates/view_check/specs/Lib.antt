@@ -1,4 +1,5 @@
 pub mod Seen
 pub mod Shown
+pub mod Cited
 pub mod Verdicts
 pub mod CheckForm

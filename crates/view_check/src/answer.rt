@@ -14,6 +14,7 @@ use crate::items::item;
 use crate::shown::off_text;
 use crate::verdicts::{Verdict, are_good, push_verdicts, verdicts};
 use cli_output::{Refusal, Status, Stop, end_by, end_with};
+use rule_model::RuleBook;
 use schema_core::{Limits, List, Table, Text, Texts, push_number};
 use shelf_io::{Shelf, Sink};
 use std::alloc::{AllocError, Global};
@@ -64,9 +65,9 @@ fn tell_off<O: Sink>(
 }
 
 fn tell_whole<O: Sink>(alloc: Global, project: &Project, out: &mut O) -> Status
-    ensures { Ends (IsTold project.now) result (O.told out.old) (O.told out.new) }
+    ensures { Ends (IsTold project.now.rules project.now.tables) result (O.told out.old) (O.told out.new) }
 {
-    match whole_text(alloc, project) {
+    match told_of(alloc, &project.rules, project.tables.as_slice()) {
         Ok(told) => end_with(out, &told.text, told.status),
         Err(AllocError) => end_by(alloc, &Stop::Memory, out),
     }
@@ -74,9 +75,9 @@ fn tell_whole<O: Sink>(alloc: Global, project: &Project, out: &mut O) -> Status
 
 /// What is told of a project, and how the call ends.
 #[derive(Drop)]
-struct Told {
-    text: Vec<u8>,
-    status: Status,
+pub struct Told {
+    pub text: Vec<u8>,
+    pub status: Status,
 }
 
 fn status_of(clean: bool) -> Status
@@ -90,13 +91,15 @@ fn status_of(clean: bool) -> Status
     }
 }
 
-fn whole_text(alloc: Global, project: &Project) -> Result<Told, AllocError>
-    ensures told { IfOk result (λ told. IsTold project.now told.text.items told.status) }
+/// What is off in a project that was read: its rules, and the rows of its tables in the order of the schema. Where the
+/// rows of a table are missing, nothing is told of them.
+pub fn told_of(alloc: Global, rules: &RuleBook, tables: &[List<Texts>]) -> Result<Told, AllocError>
+    ensures told { IfOk result (λ told. IsTold rules.now tables.now told.text.items told.status) }
     ensures whole { IfOk result (λ told. IsWhole told.status) }
 {
-    let verdicts = verdicts(alloc, &project.rules)?;
+    let verdicts = verdicts(alloc, rules)?;
     let mut text = Vec::new(alloc);
-    let clean = push_whole(alloc, &mut text, project, verdicts.as_slice())?;
+    let clean = push_whole(alloc, &mut text, rules, tables, verdicts.as_slice())?;
     let status = status_of(clean);
     Ok(Told { text, status })
 }
@@ -104,17 +107,17 @@ fn whole_text(alloc: Global, project: &Project) -> Result<Told, AllocError>
 fn push_whole(
     alloc: Global,
     out: &mut Vec<u8>,
-    project: &Project,
+    rules: &RuleBook,
+    all: &[List<Texts>],
     verdicts: &[Verdict],
 ) -> Result<bool, AllocError>
-    ensures text { OnOk result (out.new.items ≡ out.old.items ++ whole_text project.now verdicts.now) }
-    ensures clean { IfOk result (λ clean. clean ≡ is_clean project.now verdicts.now) }
+    ensures text { OnOk result (out.new.items ≡ out.old.items ++ whole_text rules.now all.now verdicts.now) }
+    ensures clean { IfOk result (λ clean. clean ≡ is_clean rules.now all.now verdicts.now) }
 {
-    let tables = project.rules.schema().tables.as_slice();
-    let all = project.tables.as_slice();
+    let tables = rules.schema().tables.as_slice();
     let even = push_tables(alloc, out, tables, all)?;
     push_verdicts(out, tables, verdicts)?;
-    let apply = push_edits(out, all, project.rules.edits().as_slice())?;
+    let apply = push_edits(out, all, rules.edits().as_slice())?;
     Ok(even && are_good(verdicts) && apply)
 }
 

@@ -4,12 +4,14 @@
 
 mod answer;
 mod bounds;
+mod cited;
 mod edits;
 mod fetching;
 mod items;
 mod shown;
 mod verdicts;
 
-pub use answer::look_at_project;
+pub use answer::{Told, look_at_project, told_of};
+pub use cited::RowName;
 pub use fetching::{Project, Seen};
 pub use verdicts::Verdict;

@@ -1,26 +1,32 @@
 //! Whether some row can satisfy the dependencies of a table.
-ghost use Rattle.std.specs.Prelude.{◌≡◌, ◌++◌, IfOk, OnOk, codes, length};
+ghost use Rattle.std.specs.Prelude.{◌≡◌, ◌++◌, IfOk, IfSome, OnOk, codes, length};
 ghost use Rattle.std.specs.List.{AllZip, list_all};
 ghost use Rattle.std.specs.Option.{option_copied};
-ghost use Rattle.view_check.specs.CheckForm.{is_good, verdict_line, verdict_part, verdicts_text};
+ghost use Rattle.schema_core.specs.Schemas.{table_place};
+ghost use Rattle.case_tree.specs.CaseTree.{Refutes};
+ghost use Rattle.cfd_consistency.specs.Consistent.{IsConsistent};
+ghost use Rattle.cfd_consistency.specs.Question.{question};
+ghost use Rattle.view_check.specs.CheckForm.{by_line, is_good, never_text, row_parts, verdict_line, verdict_part, verdicts_text};
 ghost use Rattle.view_check.specs.Verdicts.{AreVerdicts, IsVerdictFor};
 
+use crate::cited::{RowName, cited_rows};
 use crate::items::item;
+use case_tree::Tree;
 use cfd_consistency::{Consistency, consistent};
 use rule_model::RuleBook;
-use schema_core::{List, Table};
+use schema_core::{List, Table, Writes, push_list, push_number};
 use std::alloc::{AllocError, Global};
 
 /// How many leaves a search for an answer may have.
 const BUDGET: u64 = 100_000;
 
 /// What is known of the dependencies of a table.
-#[derive(Clone, Copy, Debug, PartialEq, Eq)]
+#[derive(Debug, Drop)]
 pub enum Verdict {
     /// Some row, alone, satisfies them.
     Holds,
-    /// No row does.
-    Never,
+    /// No row does, by these tableau rows.
+    Never(List<RowName>),
     /// The search ended before there was an answer.
     Open,
 }
@@ -52,11 +58,22 @@ fn verdict_on(alloc: Global, rules: &RuleBook, table: &Table) -> Result<Verdict,
 {
     match consistent(alloc, rules, table.name.as_str(), BUDGET) {
         Ok(Consistency::Witness(_)) => Ok(Verdict::Holds),
-        Ok(Consistency::Never(_)) => Ok(Verdict::Never),
+        Ok(Consistency::Never(tree)) => never(alloc, rules, table, &tree),
         Ok(Consistency::Spent(_)) => Ok(Verdict::Open),
         // Each of the tables has its name, so only memory can be missing.
         Err(_) => Err(AllocError),
     }
+}
+
+fn never(alloc: Global, rules: &RuleBook, table: &Table, tree: &Tree) -> Result<Verdict, AllocError>
+    requires { IfSome (table_place rules.now.schema table.now.name) (λ place. Refutes (question rules.now place) tree.now × ¬ IsConsistent rules.now place) }
+    ensures { IfOk result (IsVerdictFor rules.now table.now) }
+{
+    let rows = match rules.schema().table_named(table.name.as_str()) {
+        Some(place) => cited_rows(alloc, rules, &table.name, place, tree.nodes())?,
+        None => List::new(alloc),
+    };
+    Ok(Verdict::Never(rows))
 }
 
 /// Tells the tables whose dependencies no row is known to satisfy.
@@ -83,24 +100,50 @@ fn push_part(
     ensures { OnOk result (out.new.items ≡ out.old.items ++ verdict_part (option_copied table.entry) (option_copied verdict.entry)) }
 {
     match (table, verdict) {
-        (Some(table), Some(verdict)) => push_verdict(out, table, *verdict),
+        (Some(table), Some(verdict)) => push_verdict(out, table, verdict),
         _ => Ok(()),
     }
 }
 
-fn push_verdict(out: &mut Vec<u8>, table: &Table, verdict: Verdict) -> Result<(), AllocError>
-    ensures { OnOk result (out.new.items ≡ out.old.items ++ verdict_line table.now verdict) }
+fn push_verdict(out: &mut Vec<u8>, table: &Table, verdict: &Verdict) -> Result<(), AllocError>
+    ensures { OnOk result (out.new.items ≡ out.old.items ++ verdict_line table.now verdict.now) }
 {
     match verdict {
         Verdict::Holds => Ok(()),
-        Verdict::Never => {
-            push_table(out, table)?;
-            out.extend_from_slice(b": no row can satisfy its dependencies\n")
-        }
+        Verdict::Never(rows) => push_never(out, table, rows.as_slice()),
         Verdict::Open => {
             push_table(out, table)?;
             out.extend_from_slice(b": not settled whether a row can satisfy its dependencies\n")
         }
+    }
+}
+
+fn push_never(out: &mut Vec<u8>, table: &Table, rows: &[RowName]) -> Result<(), AllocError>
+    ensures { OnOk result (out.new.items ≡ out.old.items ++ never_text table.now rows.now) }
+{
+    push_table(out, table)?;
+    out.extend_from_slice(b": no row can satisfy its dependencies\n")?;
+    push_by(out, rows)
+}
+
+fn push_by(out: &mut Vec<u8>, rows: &[RowName]) -> Result<(), AllocError>
+    ensures { OnOk result (out.new.items ≡ out.old.items ++ by_line rows.now) }
+{
+    out.extend_from_slice(b"  by ")?;
+    push_list::<RowNames, RowName>(out, rows)?;
+    out.extend_from_slice(b"\n")
+}
+
+/// Tableau rows by the names of their rules.
+struct RowNames;
+
+impl Writes<RowName> for RowNames {
+    ghost written = { row_parts };
+
+    fn push(out: &mut Vec<u8>, row: &RowName) -> Result<(), AllocError> {
+        out.extend_from_slice(row.rule.as_str().as_bytes())?;
+        out.push(b'.')?;
+        push_number(out, row.row as u64)
     }
 }
 
@@ -116,18 +159,18 @@ pub fn are_good(verdicts: &[Verdict]) -> bool
     ensures { result ≡ list_all is_good verdicts.now }
 {
     for verdict in verdicts {
-        if !is_good(*verdict) {
+        if !is_good(verdict) {
             return false;
         }
     }
     true
 }
 
-fn is_good(verdict: Verdict) -> bool
-    ensures { result ≡ is_good verdict }
+fn is_good(verdict: &Verdict) -> bool
+    ensures { result ≡ is_good verdict.now }
 {
     match verdict {
         Verdict::Holds => true,
-        Verdict::Never | Verdict::Open => false,
+        Verdict::Never(_) | Verdict::Open => false,
     }
 }
