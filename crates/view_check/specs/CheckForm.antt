@@ -2,6 +2,7 @@
 use Rattle.std.specs.Prelude.{◌≡◌, ℕ, zero, suc, Bool, true, false, ◌&&◌, List, [], ◌∷◌, ◌++◌, length, slice_get, is_none, ◌==◌, if◌then◌else◌, Option, None, Some, codes, decimal}
 use Rattle.std.specs.List.{flat_map, list_all, list_any}
 use Rattle.text_lists.specs.declared.limits.Limits.{Limits}
+use Rattle.line_grammar.specs.Tokens.{quoted}
 use Rattle.line_grammar.specs.Spelling.{comma_separated, line_text, mark, name, number}
 use Rattle.line_grammar.specs.declared.tokens.Mark.TheVariants.{Dot}
 use Rattle.line_grammar.specs.declared.writing.Part.{Part}
@@ -20,6 +21,9 @@ use Rattle.view_check.specs.Seen.{fetch_seen}
 use Rattle.view_check.specs.Shown.{off_text}
 use Rattle.view_check.specs.Verdicts.{AreVerdicts}
 use Rattle.view_check.specs.declared.cited.RowName.{RowName}
+use Rattle.view_check.specs.declared.values.MayStand.{MayStand}
+use Rattle.view_check.specs.declared.values.MayStand.TheVariants as may
+use Rattle.view_check.specs.declared.values.ValueVerdict.{ValueVerdict}
 use Rattle.view_check.specs.declared.verdicts.Verdict.{Verdict}
 use Rattle.view_check.specs.declared.verdicts.Verdict.TheVariants.{Holds, Never, Open}
 use Rattle.view_check.specs.declared.fetching.Seen.{Seen}
@@ -116,16 +120,41 @@ by_line rows = codes "  by " ++ line_text (comma_separated row_parts rows) ++ co
 abbrev pub never_text : Table → List RowName → List ℕ
 never_text table rows = (codes "table " ++ table.name) ++ codes ": no row can satisfy its dependencies\n" ++ by_line rows
 
--- nothing is told of a table whose dependencies some row satisfies
+-- the words about a value
+abbrev pub value_words : Table → List ℕ → ValueVerdict → List ℕ
+value_words table words verdict =
+    (codes "table " ++ table.name) ++ words ++ attr_name (slice_get table.attrs verdict.attr) ++ codes " " ++ quoted verdict.value ++ codes " can satisfy its dependencies\n"
+
+abbrev pub value_told : Table → ValueVerdict → MayStand → List ℕ
+value_told table verdict may.Yes = []
+value_told table verdict may.Never = value_words table (codes ": no row with ") verdict
+value_told table verdict may.Open = value_words table (codes ": not settled whether a row with ") verdict
+
+-- nothing is told of a value that can stand
+abbrev pub value_line : Table → ValueVerdict → List ℕ
+value_line table verdict = value_told table verdict verdict.may
+
+abbrev pub is_yes : MayStand → Bool
+is_yes may.Yes = true
+is_yes may.Never = false
+is_yes may.Open = false
+
+abbrev pub may_stand : ValueVerdict → Bool
+may_stand verdict = is_yes verdict.may
+
+abbrev pub open_text : Table → List ValueVerdict → List ℕ
+open_text table values = (codes "table " ++ table.name) ++ codes ": not settled whether a row can satisfy its dependencies\n" ++ flat_map (value_line table) values
+
+-- of a table whose dependencies some row satisfies only values are told
 abbrev pub verdict_line : Table → Verdict → List ℕ
-verdict_line table Holds = []
+verdict_line table (Holds values) = flat_map (value_line table) values
 verdict_line table (Never rows) = never_text table rows
-verdict_line table Open = codes "table " ++ table.name ++ codes ": not settled whether a row can satisfy its dependencies\n"
+verdict_line table (Open values) = open_text table values
 
 abbrev pub is_good : Verdict → Bool
-is_good Holds = true
+is_good (Holds values) = list_all may_stand values
 is_good (Never rows) = false
-is_good Open = false
+is_good (Open values) = false
 
 abbrev pub verdict_part : Option Table → Option Verdict → List ℕ
 verdict_part None verdict = []

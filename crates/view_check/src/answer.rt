@@ -1,16 +1,17 @@
 //! What is told of a project.
-ghost use Rattle.std.specs.Prelude.{◌≡◌, ◌++◌, ◌&&◌, IfOk, OnOk, length, slice_get};
+ghost use Rattle.std.specs.Prelude.{◌≡◌, ◌++◌, ◌&&◌, IfOk, OnOk, length};
 ghost use Rattle.std.specs.List.{flat_map};
 ghost use Rattle.std.specs.Option.{option_copied};
 ghost use Rattle.text_lists.specs.Limits.{AreLimits};
 ghost use Rattle.table_flaws.specs.declared.flaws.Flaw.TheVariants.{Long, Repeated, Spaced};
 ghost use Rattle.cli_output.specs.Output.{Ends, IsWhole, Only, Output, UsesDevices, Writes};
 ghost use Rattle.view_check.specs.Shown.{off_text};
-ghost use Rattle.view_check.specs.CheckForm.{IsTold, attr_name, check_outputs, check_task, count_line, flaw_line, has_no_flaw, is_clean, part_clean, part_text, row_words, status_of, table_text, tables_clean, tables_text, whole_text};
+ghost use Rattle.view_check.specs.CheckForm.{IsTold, check_outputs, check_task, count_line, flaw_line, has_no_flaw, is_clean, part_clean, part_text, row_words, status_of, table_text, tables_clean, tables_text, whole_text};
 
 use crate::edits::push_edits;
 use crate::fetching::{Project, Seen, fetch_seen};
 use crate::items::item;
+use crate::names::push_name;
 use crate::shown::off_text;
 use crate::verdicts::{Verdict, are_good, push_verdicts, verdicts};
 use cli_output::{Refusal, Status, Stop, end_by, end_with};
@@ -235,13 +236,4 @@ fn push_row(out: &mut Vec<u8>, table: &Table, row: usize) -> Result<(), AllocErr
     out.extend_from_slice(b" row ")?;
     push_number(out, row as u64)?;
     out.extend_from_slice(b": ")
-}
-
-fn push_name(out: &mut Vec<u8>, table: &Table, attr: usize) -> Result<(), AllocError>
-    ensures { OnOk result (out.new.items ≡ out.old.items ++ attr_name (slice_get table.now.attrs attr)) }
-{
-    match item(table.attrs.as_slice(), attr) {
-        Some(attr) => out.extend_from_slice(attr.name.as_str().as_bytes()),
-        None => Ok(()),
-    }
 }

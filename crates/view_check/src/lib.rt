@@ -8,10 +8,13 @@ mod cited;
 mod edits;
 mod fetching;
 mod items;
+mod names;
 mod shown;
+mod values;
 mod verdicts;
 
 pub use answer::{Told, look_at_project, told_of};
 pub use cited::RowName;
 pub use fetching::{Project, Seen};
+pub use values::{MayStand, ValueVerdict};
 pub use verdicts::Verdict;

@@ -1,16 +1,18 @@
 //! Whether some row can satisfy the dependencies of a table.
-ghost use Rattle.std.specs.Prelude.{◌≡◌, ◌++◌, IfOk, IfSome, OnOk, codes, length};
+ghost use Rattle.std.specs.Prelude.{◌≡◌, ◌++◌, IfOk, IfSome, OnOk, length};
 ghost use Rattle.std.specs.List.{AllZip, list_all};
 ghost use Rattle.std.specs.Option.{option_copied};
 ghost use Rattle.schema_core.specs.Schemas.{table_place};
 ghost use Rattle.case_tree.specs.CaseTree.{Refutes};
 ghost use Rattle.cfd_consistency.specs.Consistent.{IsConsistent};
 ghost use Rattle.cfd_consistency.specs.Question.{question};
-ghost use Rattle.view_check.specs.CheckForm.{by_line, is_good, never_text, row_parts, verdict_line, verdict_part, verdicts_text};
-ghost use Rattle.view_check.specs.Verdicts.{AreVerdicts, IsVerdictFor};
+ghost use Rattle.view_check.specs.CheckForm.{by_line, is_good, never_text, open_text, row_parts, verdict_line, verdict_part, verdicts_text};
+ghost use Rattle.view_check.specs.Verdicts.{AreVerdicts, IsOpen, IsVerdictFor};
 
 use crate::cited::{RowName, cited_rows};
 use crate::items::item;
+use crate::names::push_table;
+use crate::values::{ValueVerdict, may_all_stand, push_values_told, value_verdicts};
 use case_tree::Tree;
 use cfd_consistency::{Consistency, consistent};
 use rule_model::RuleBook;
@@ -18,17 +20,17 @@ use schema_core::{List, Table, Writes, push_list, push_number};
 use std::alloc::{AllocError, Global};
 
 /// How many leaves a search for an answer may have.
-const BUDGET: u64 = 100_000;
+pub const BUDGET: u64 = 100_000;
 
 /// What is known of the dependencies of a table.
 #[derive(Debug, Drop)]
 pub enum Verdict {
-    /// Some row, alone, satisfies them.
-    Holds,
+    /// Some row, alone, satisfies them; and what is known of the values of the domains.
+    Holds(List<ValueVerdict>),
     /// No row does, by these tableau rows.
     Never(List<RowName>),
-    /// The search ended before there was an answer.
-    Open,
+    /// The search ended before there was an answer; and what is known of the values of the domains.
+    Open(List<ValueVerdict>),
 }
 
 /// A verdict for each table of the rules.
@@ -57,12 +59,28 @@ fn verdict_on(alloc: Global, rules: &RuleBook, table: &Table) -> Result<Verdict,
     ensures { IfOk result (IsVerdictFor rules.now table.now) }
 {
     match consistent(alloc, rules, table.name.as_str(), BUDGET) {
-        Ok(Consistency::Witness(_)) => Ok(Verdict::Holds),
+        Ok(Consistency::Witness(_)) => holds(alloc, rules, table),
         Ok(Consistency::Never(tree)) => never(alloc, rules, table, &tree),
-        Ok(Consistency::Spent(_)) => Ok(Verdict::Open),
+        Ok(Consistency::Spent(_)) => open(alloc, rules, table),
         // Each of the tables has its name, so only memory can be missing.
         Err(_) => Err(AllocError),
     }
+}
+
+fn holds(alloc: Global, rules: &RuleBook, table: &Table) -> Result<Verdict, AllocError>
+    requires { IfSome (table_place rules.now.schema table.now.name) (IsConsistent rules.now) }
+    ensures { IfOk result (IsVerdictFor rules.now table.now) }
+{
+    let values = value_verdicts(alloc, rules, table)?;
+    Ok(Verdict::Holds(values))
+}
+
+fn open(alloc: Global, rules: &RuleBook, table: &Table) -> Result<Verdict, AllocError>
+    requires { IfSome (table_place rules.now.schema table.now.name) (IsOpen rules.now) }
+    ensures { IfOk result (IsVerdictFor rules.now table.now) }
+{
+    let values = value_verdicts(alloc, rules, table)?;
+    Ok(Verdict::Open(values))
 }
 
 fn never(alloc: Global, rules: &RuleBook, table: &Table, tree: &Tree) -> Result<Verdict, AllocError>
@@ -109,13 +127,18 @@ fn push_verdict(out: &mut Vec<u8>, table: &Table, verdict: &Verdict) -> Result<(
     ensures { OnOk result (out.new.items ≡ out.old.items ++ verdict_line table.now verdict.now) }
 {
     match verdict {
-        Verdict::Holds => Ok(()),
+        Verdict::Holds(values) => push_values_told(out, table, values.as_slice()),
         Verdict::Never(rows) => push_never(out, table, rows.as_slice()),
-        Verdict::Open => {
-            push_table(out, table)?;
-            out.extend_from_slice(b": not settled whether a row can satisfy its dependencies\n")
-        }
+        Verdict::Open(values) => push_open(out, table, values.as_slice()),
     }
+}
+
+fn push_open(out: &mut Vec<u8>, table: &Table, values: &[ValueVerdict]) -> Result<(), AllocError>
+    ensures { OnOk result (out.new.items ≡ out.old.items ++ open_text table.now values.now) }
+{
+    push_table(out, table)?;
+    out.extend_from_slice(b": not settled whether a row can satisfy its dependencies\n")?;
+    push_values_told(out, table, values)
 }
 
 fn push_never(out: &mut Vec<u8>, table: &Table, rows: &[RowName]) -> Result<(), AllocError>
@@ -147,13 +170,6 @@ impl Writes<RowName> for RowNames {
     }
 }
 
-fn push_table(out: &mut Vec<u8>, table: &Table) -> Result<(), AllocError>
-    ensures { OnOk result (out.new.items ≡ out.old.items ++ (codes "table " ++ table.now.name)) }
-{
-    out.extend_from_slice(b"table ")?;
-    out.extend_from_slice(table.name.as_str().as_bytes())
-}
-
 /// Whether some row satisfies those of each table.
 pub fn are_good(verdicts: &[Verdict]) -> bool
     ensures { result ≡ list_all is_good verdicts.now }
@@ -170,7 +186,7 @@ fn is_good(verdict: &Verdict) -> bool
     ensures { result ≡ is_good verdict.now }
 {
     match verdict {
-        Verdict::Holds => true,
-        Verdict::Never(_) | Verdict::Open => false,
+        Verdict::Holds(values) => may_all_stand(values.as_slice()),
+        Verdict::Never(_) | Verdict::Open(_) => false,
     }
 }
