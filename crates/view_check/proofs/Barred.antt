@@ -1,7 +1,7 @@
 -- A value stands in a row that satisfies the dependencies of its table, or these imply the dependency that bars it.
 use Rattle.std.proofs.Common.{inl, inr, ◌≡◌, ◌⊎◌, ℕ, ◌<◌, Bool, true, false, List, [], ◌∷◌, length, Option, Some, None, Result, Ok, Err, ◌+◌, ◌++◌, append_assoc, get_or, map, take, refl, sym, ap, ◌∙◌, subst, arith}
 use Rattle.std.specs.Prelude.{Contains, IfOk, not, ◌||◌, slice_get}
-use Rattle.std.specs.List.{All, AllPairs}
+use Rattle.std.specs.List.{All}
 use Rattle.std.specs.Option.{option_map_or}
 use Rattle.std.specs.Str.{bytes_eq}
 use Rattle.std.proofs.lemmas.Bool.{and_parts, cases_Bool}
@@ -10,7 +10,6 @@ use Rattle.std.proofs.lemmas.List.Elements.{All-cons, All-nil, Contains-get_or}
 use Rattle.std.proofs.lemmas.Option.{none-some, slice_get-get_or}
 use Rattle.text_lists.specs.Names.{IsConstant}
 use Rattle.text_lists.specs.Repeats.{AreDistinct}
-use Rattle.cfd_semantics.specs.declared.pattern.Pattern.{Pattern}
 use Rattle.cfd_semantics.specs.declared.pattern.Pattern.TheVariants.{Is, NotIn}
 use Rattle.cfd_semantics.specs.declared.dependency.TableauRow.{TableauRow}
 use Rattle.cfd_semantics.specs.Pattern.{all_match}

@@ -3,13 +3,11 @@ use Rattle.std.specs.Prelude.{◌≡◌, ℕ, ◌+◌, Bool, false, ◌==◌, �
 use Rattle.std.specs.List.{enumerate_from, flat_map, list_any}
 use Rattle.std.specs.Str.{bytes_eq}
 use Rattle.cfd_semantics.specs.declared.dependency.TableauRow.{TableauRow}
-use Rattle.rule_model.specs.declared.decl.CfdRow.{CfdRow}
 use Rattle.rule_model.specs.declared.decl.Decl.{Decl}
 use Rattle.rule_model.specs.declared.decl.Decl.TheVariants as decls
 use Rattle.rule_model.specs.declared.dep.Dep.{Dep}
 use Rattle.rule_model.specs.Books.{Book, book_deps}
 use Rattle.case_tree.specs.CaseTree.{Refutes}
-use Rattle.case_tree.specs.declared.tree.Reason.{Reason}
 use Rattle.case_tree.specs.declared.tree.Reason.TheVariants.{Clause, NoneOf, Two}
 use Rattle.case_tree.specs.declared.tree.Node.{Node}
 use Rattle.case_tree.specs.declared.tree.Node.TheVariants.{Leaf, Split, Unclosed}

@@ -1,4 +1,6 @@
 pub mod Seen
+pub mod Hints
+pub mod Forms
 pub mod Shown
 pub mod Cited
 pub mod ValueVerdicts

@@ -9,7 +9,7 @@ ghost use Rattle.view_check.specs.Shown.{off_text};
 ghost use Rattle.view_check.specs.CheckForm.{IsTold, check_outputs, check_task, count_line, flaw_line, has_no_flaw, is_clean, part_clean, part_text, row_words, status_of, table_text, tables_clean, tables_text, whole_text};
 
 use crate::edits::push_edits;
-use crate::fetching::{Project, Seen, fetch_seen};
+use crate::fetching::{Anew, Project, Seen, fetch_seen};
 use crate::items::item;
 use crate::names::push_name;
 use crate::shown::off_text;
@@ -46,7 +46,7 @@ fn answer<O: Sink>(alloc: Global, limits: &Limits, seen: &Seen, out: &mut O) -> 
 {
     match seen {
         Seen::Whole(project) => tell_whole(alloc, project, out),
-        Seen::Off { refusal, bytes } => tell_off(alloc, limits, refusal, bytes, out),
+        Seen::Off { refusal, anew } => tell_off(alloc, limits, refusal, anew, out),
     }
 }
 
@@ -54,12 +54,12 @@ fn tell_off<O: Sink>(
     alloc: Global,
     limits: &Limits,
     refusal: &Refusal,
-    bytes: &Option<List<u8>>,
+    anew: &Anew,
     out: &mut O,
 ) -> Status
-    ensures { Ends (Only (off_text limits.now refusal.now bytes.now) Status.Refused) result (O.told out.old) (O.told out.new) }
+    ensures { Ends (Only (off_text limits.now refusal.now anew.now) Status.Refused) result (O.told out.old) (O.told out.new) }
 {
-    match off_text(alloc, limits, refusal, bytes) {
+    match off_text(alloc, limits, refusal, anew) {
         Ok(text) => end_with(out, &text, Status::Refused),
         Err(AllocError) => end_by(alloc, &Stop::Memory, out),
     }
@@ -118,7 +118,7 @@ fn push_whole(
     let tables = rules.schema().tables.as_slice();
     let even = push_tables(alloc, out, tables, all)?;
     push_verdicts(out, tables, verdicts)?;
-    let apply = push_edits(out, all, rules.edits().as_slice())?;
+    let apply = push_edits(out, rules.schema(), all, rules.edits().as_slice())?;
     Ok(even && are_good(verdicts) && apply)
 }
 

@@ -7,6 +7,8 @@ mod bounds;
 mod cited;
 mod edits;
 mod fetching;
+mod forms;
+mod hints;
 mod items;
 mod names;
 mod shown;
@@ -15,6 +17,6 @@ mod verdicts;
 
 pub use answer::{Told, look_at_project, told_of};
 pub use cited::RowName;
-pub use fetching::{Project, Seen};
+pub use fetching::{Anew, Project, Seen};
 pub use values::{MayStand, ValueVerdict};
 pub use verdicts::Verdict;
