@@ -3,3 +3,4 @@ mod Zips
 mod ItemAt
 mod Parts
 mod Ends
+mod Barred

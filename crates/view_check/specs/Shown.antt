@@ -22,6 +22,9 @@ use Rattle.cli_output.specs.declared.refusal.LineFlaw.{LineFlaw}
 use Rattle.cli_output.specs.declared.refusal.LineFlaw.TheVariants as flaw
 use Rattle.cli_output.specs.declared.refusal.Refusal.{Refusal}
 use Rattle.cli_output.specs.Refusals.{limit_text, refusal_line}
+use Rattle.view_check.specs.Forms.{form_text}
+use Rattle.view_check.specs.Hints.{hint_text, room_text}
+use Rattle.view_check.specs.declared.fetching.Anew.{Anew}
 
 -- ---- a line
 
@@ -46,6 +49,9 @@ line_at (Some number) (Some bytes) = line_shown number (slice_get (lines bytes) 
 
 -- the record of a table file that a fault names, where its fields are texts
 abbrev pub record_of : TableFault → Option ℕ
+record_of (table.HeaderColumn name) = Some 0
+record_of (table.HeaderRepeats name) = Some 0
+record_of (table.HeaderLacks name) = Some 0
 record_of (table.Width at) = Some at
 record_of (table.TextTooLong at) = Some at
 record_of (table.NotInDomain at attr) = Some at
@@ -108,7 +114,8 @@ bound_shown limits (Some most) = codes "at most " ++ decimal (limit_value limits
 
 -- ---- all of it
 
--- the line that tells a refusal, as everywhere, and what stands where it points
-abbrev pub off_text : Limits → Refusal → Option (List ℕ) → List ℕ
-off_text limits refusal bytes =
-    refusal_line refusal.what refusal.cause ++ line_at (line_in refusal.cause) bytes ++ record_at (record_in refusal.cause) bytes ++ bound_shown limits (limit_in refusal.cause)
+-- the line that tells a refusal, as everywhere; what stands where it points, and what may stand there
+abbrev pub off_text : Limits → Refusal → Anew → List ℕ
+off_text limits refusal anew =
+    refusal_line refusal.what refusal.cause ++ line_at (line_in refusal.cause) anew.bytes ++ record_at (record_in refusal.cause) anew.bytes ++ bound_shown limits (limit_in refusal.cause)
+    ++ room_text limits refusal.cause anew.bytes ++ form_text refusal.cause anew.bytes ++ hint_text refusal.what refusal.cause anew.bytes anew.schema

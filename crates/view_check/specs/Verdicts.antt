@@ -7,17 +7,24 @@ use Rattle.rule_model.specs.Books.{Book}
 use Rattle.case_search.specs.Enough.{enough_of}
 use Rattle.cfd_consistency.specs.Consistent.{IsConsistent}
 use Rattle.cfd_consistency.specs.Question.{question}
+use Rattle.view_check.specs.Cited.{AreCited}
+use Rattle.view_check.specs.ValueVerdicts.{AreValueVerdicts}
 use Rattle.view_check.specs.declared.verdicts.Verdict.{Verdict}
 use Rattle.view_check.specs.declared.verdicts.Verdict.TheVariants.{Holds, Never, Open}
 
--- Some row does, or none does. It may be left open only where the leaves of a search may be too many.
-abbrev pub IsVerdict : Book → ℕ → Verdict → Type 0
-IsVerdict rules table Holds = IsConsistent rules table
-IsVerdict rules table Never = ¬ IsConsistent rules table
-IsVerdict rules table Open = 100000 < enough_of (question rules table).cells
+-- It may be left open, since the leaves of a search may be too many.
+abbrev pub IsOpen : Book → ℕ → Type 0
+IsOpen rules table = 100000 < enough_of (question rules table).cells
+
+-- Some row does; or none does, and some tree that shows it cites these tableau rows; or it is left open. Where not all rows
+-- are out, the values of the domains are looked at, too. The table goes by its name and its number.
+abbrev pub IsVerdict : Book → List ℕ → ℕ → Verdict → Type 0
+IsVerdict rules name table (Holds values) = IsConsistent rules table × AreValueVerdicts rules table values
+IsVerdict rules name table (Never rows) = (¬ IsConsistent rules table) × AreCited rules name table rows
+IsVerdict rules name table (Open values) = IsOpen rules table × AreValueVerdicts rules table values
 
 abbrev pub IsVerdictFor : Book → Table → Verdict → Type 0
-IsVerdictFor rules table verdict = IfSome (table_place rules.schema table.name) (λ place. IsVerdict rules place verdict)
+IsVerdictFor rules table verdict = IfSome (table_place rules.schema table.name) (λ place. IsVerdict rules table.name place verdict)
 
 -- one for each table
 abbrev pub AreVerdicts : Book → List Verdict → Type 0

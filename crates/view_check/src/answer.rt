@@ -1,19 +1,21 @@
 //! What is told of a project.
-ghost use Rattle.std.specs.Prelude.{◌≡◌, ◌++◌, ◌&&◌, IfOk, OnOk, length, slice_get};
+ghost use Rattle.std.specs.Prelude.{◌≡◌, ◌++◌, ◌&&◌, IfOk, OnOk, length};
 ghost use Rattle.std.specs.List.{flat_map};
 ghost use Rattle.std.specs.Option.{option_copied};
 ghost use Rattle.text_lists.specs.Limits.{AreLimits};
 ghost use Rattle.table_flaws.specs.declared.flaws.Flaw.TheVariants.{Long, Repeated, Spaced};
 ghost use Rattle.cli_output.specs.Output.{Ends, IsWhole, Only, Output, UsesDevices, Writes};
 ghost use Rattle.view_check.specs.Shown.{off_text};
-ghost use Rattle.view_check.specs.CheckForm.{IsTold, attr_name, check_outputs, check_task, count_line, flaw_line, has_no_flaw, is_clean, part_clean, part_text, row_words, status_of, table_text, tables_clean, tables_text, whole_text};
+ghost use Rattle.view_check.specs.CheckForm.{IsTold, check_outputs, check_task, count_line, flaw_line, has_no_flaw, is_clean, part_clean, part_text, row_words, status_of, table_text, tables_clean, tables_text, whole_text};
 
 use crate::edits::push_edits;
-use crate::fetching::{Project, Seen, fetch_seen};
+use crate::fetching::{Anew, Project, Seen, fetch_seen};
 use crate::items::item;
+use crate::names::push_name;
 use crate::shown::off_text;
 use crate::verdicts::{Verdict, are_good, push_verdicts, verdicts};
 use cli_output::{Refusal, Status, Stop, end_by, end_with};
+use rule_model::RuleBook;
 use schema_core::{Limits, List, Table, Text, Texts, push_number};
 use shelf_io::{Shelf, Sink};
 use std::alloc::{AllocError, Global};
@@ -44,7 +46,7 @@ fn answer<O: Sink>(alloc: Global, limits: &Limits, seen: &Seen, out: &mut O) -> 
 {
     match seen {
         Seen::Whole(project) => tell_whole(alloc, project, out),
-        Seen::Off { refusal, bytes } => tell_off(alloc, limits, refusal, bytes, out),
+        Seen::Off { refusal, anew } => tell_off(alloc, limits, refusal, anew, out),
     }
 }
 
@@ -52,21 +54,21 @@ fn tell_off<O: Sink>(
     alloc: Global,
     limits: &Limits,
     refusal: &Refusal,
-    bytes: &Option<List<u8>>,
+    anew: &Anew,
     out: &mut O,
 ) -> Status
-    ensures { Ends (Only (off_text limits.now refusal.now bytes.now) Status.Refused) result (O.told out.old) (O.told out.new) }
+    ensures { Ends (Only (off_text limits.now refusal.now anew.now) Status.Refused) result (O.told out.old) (O.told out.new) }
 {
-    match off_text(alloc, limits, refusal, bytes) {
+    match off_text(alloc, limits, refusal, anew) {
         Ok(text) => end_with(out, &text, Status::Refused),
         Err(AllocError) => end_by(alloc, &Stop::Memory, out),
     }
 }
 
 fn tell_whole<O: Sink>(alloc: Global, project: &Project, out: &mut O) -> Status
-    ensures { Ends (IsTold project.now) result (O.told out.old) (O.told out.new) }
+    ensures { Ends (IsTold project.now.rules project.now.tables) result (O.told out.old) (O.told out.new) }
 {
-    match whole_text(alloc, project) {
+    match told_of(alloc, &project.rules, project.tables.as_slice()) {
         Ok(told) => end_with(out, &told.text, told.status),
         Err(AllocError) => end_by(alloc, &Stop::Memory, out),
     }
@@ -74,9 +76,9 @@ fn tell_whole<O: Sink>(alloc: Global, project: &Project, out: &mut O) -> Status
 
 /// What is told of a project, and how the call ends.
 #[derive(Drop)]
-struct Told {
-    text: Vec<u8>,
-    status: Status,
+pub struct Told {
+    pub text: Vec<u8>,
+    pub status: Status,
 }
 
 fn status_of(clean: bool) -> Status
@@ -90,13 +92,15 @@ fn status_of(clean: bool) -> Status
     }
 }
 
-fn whole_text(alloc: Global, project: &Project) -> Result<Told, AllocError>
-    ensures told { IfOk result (λ told. IsTold project.now told.text.items told.status) }
+/// What is off in a project that was read: its rules, and the rows of its tables in the order of the schema. Where the
+/// rows of a table are missing, nothing is told of them.
+pub fn told_of(alloc: Global, rules: &RuleBook, tables: &[List<Texts>]) -> Result<Told, AllocError>
+    ensures told { IfOk result (λ told. IsTold rules.now tables.now told.text.items told.status) }
     ensures whole { IfOk result (λ told. IsWhole told.status) }
 {
-    let verdicts = verdicts(alloc, &project.rules)?;
+    let verdicts = verdicts(alloc, rules)?;
     let mut text = Vec::new(alloc);
-    let clean = push_whole(alloc, &mut text, project, verdicts.as_slice())?;
+    let clean = push_whole(alloc, &mut text, rules, tables, verdicts.as_slice())?;
     let status = status_of(clean);
     Ok(Told { text, status })
 }
@@ -104,17 +108,17 @@ fn whole_text(alloc: Global, project: &Project) -> Result<Told, AllocError>
 fn push_whole(
     alloc: Global,
     out: &mut Vec<u8>,
-    project: &Project,
+    rules: &RuleBook,
+    all: &[List<Texts>],
     verdicts: &[Verdict],
 ) -> Result<bool, AllocError>
-    ensures text { OnOk result (out.new.items ≡ out.old.items ++ whole_text project.now verdicts.now) }
-    ensures clean { IfOk result (λ clean. clean ≡ is_clean project.now verdicts.now) }
+    ensures text { OnOk result (out.new.items ≡ out.old.items ++ whole_text rules.now all.now verdicts.now) }
+    ensures clean { IfOk result (λ clean. clean ≡ is_clean rules.now all.now verdicts.now) }
 {
-    let tables = project.rules.schema().tables.as_slice();
-    let all = project.tables.as_slice();
+    let tables = rules.schema().tables.as_slice();
     let even = push_tables(alloc, out, tables, all)?;
     push_verdicts(out, tables, verdicts)?;
-    let apply = push_edits(out, all, project.rules.edits().as_slice())?;
+    let apply = push_edits(out, rules.schema(), all, rules.edits().as_slice())?;
     Ok(even && are_good(verdicts) && apply)
 }
 
@@ -232,13 +236,4 @@ fn push_row(out: &mut Vec<u8>, table: &Table, row: usize) -> Result<(), AllocErr
     out.extend_from_slice(b" row ")?;
     push_number(out, row as u64)?;
     out.extend_from_slice(b": ")
-}
-
-fn push_name(out: &mut Vec<u8>, table: &Table, attr: usize) -> Result<(), AllocError>
-    ensures { OnOk result (out.new.items ≡ out.old.items ++ attr_name (slice_get table.now.attrs attr)) }
-{
-    match item(table.attrs.as_slice(), attr) {
-        Some(attr) => out.extend_from_slice(attr.name.as_str().as_bytes()),
-        None => Ok(()),
-    }
 }

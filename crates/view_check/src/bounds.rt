@@ -1,12 +1,14 @@
 //! The limit that a file passed.
-ghost use Rattle.std.specs.Prelude.{◌≡◌, ◌++◌, OnOk};
+ghost use Rattle.std.specs.Prelude.{◌≡◌, ◌++◌, OnOk, Some};
 ghost use Rattle.cli_output.specs.Refusals.{limit_text};
+ghost use Rattle.view_check.specs.Hints.{bytes_line, room_text, rows_line, size_line, table_room};
 ghost use Rattle.view_check.specs.Shown.{bound_shown, limit_in, limit_in_line, limit_in_rule, limit_in_rules, limit_in_schema, limit_value};
 
 use cli_output::{Cause, LineFlaw};
+use csv_tables::TableFault;
 use rule_model::RuleFault;
 use rule_parser::ParseCause;
-use schema_core::{Limit, Limits, SchemaCause, push_number};
+use schema_core::{Limit, Limits, List, SchemaCause, push_number};
 use std::alloc::AllocError;
 
 /// Tells how many there may be, where there are too many.
@@ -22,6 +24,69 @@ pub fn push_bound(out: &mut Vec<u8>, limits: &Limits, cause: &Cause) -> Result<(
     out.extend_from_slice(limit_word(limit).as_bytes())?;
     out.push(b'\n')?;
     Ok(())
+}
+
+/// Tells how many bytes or rows there may be, where there are too many.
+pub fn push_room(
+    out: &mut Vec<u8>,
+    limits: &Limits,
+    cause: &Cause,
+    bytes: &Option<List<u8>>,
+) -> Result<(), AllocError>
+    ensures { OnOk result (out.new.items ≡ out.old.items ++ room_text limits.now cause.now bytes.now) }
+{
+    match cause {
+        Cause::TooLarge => {
+            push_bytes(out, limits)?;
+            push_size(out, bytes)
+        }
+        Cause::Table(fault) => push_table_room(out, limits, fault),
+        _ => Ok(()),
+    }
+}
+
+fn push_bytes(out: &mut Vec<u8>, limits: &Limits) -> Result<(), AllocError>
+    ensures { OnOk result (out.new.items ≡ out.old.items ++ bytes_line limits.now) }
+{
+    out.extend_from_slice(b"at most ")?;
+    push_number(out, limits.file_bytes)?;
+    out.extend_from_slice(b" bytes in a file, and ")?;
+    push_number(out, limits.all_bytes)?;
+    out.extend_from_slice(b" in all files\n")
+}
+
+fn push_size(out: &mut Vec<u8>, bytes: &Option<List<u8>>) -> Result<(), AllocError>
+    ensures { OnOk result (out.new.items ≡ out.old.items ++ size_line bytes.now) }
+{
+    match bytes {
+        Some(bytes) => push_length(out, bytes.as_slice()),
+        None => Ok(()),
+    }
+}
+
+fn push_length(out: &mut Vec<u8>, bytes: &[u8]) -> Result<(), AllocError>
+    ensures { OnOk result (out.new.items ≡ out.old.items ++ size_line (Some bytes.now)) }
+{
+    out.extend_from_slice(b"this file has ")?;
+    push_number(out, bytes.len() as u64)?;
+    out.extend_from_slice(b" bytes\n")
+}
+
+fn push_table_room(out: &mut Vec<u8>, limits: &Limits, fault: &TableFault) -> Result<(), AllocError>
+    ensures { OnOk result (out.new.items ≡ out.old.items ++ table_room limits.now fault.now) }
+{
+    match fault {
+        TableFault::RowsFull { .. } => push_rows(out, limits),
+        _ => Ok(()),
+    }
+}
+
+fn push_rows(out: &mut Vec<u8>, limits: &Limits) -> Result<(), AllocError>
+    ensures { OnOk result (out.new.items ≡ out.old.items ++ rows_line limits.now) }
+{
+    out.extend_from_slice(b"at most ")?;
+    push_number(out, limits.rows)?;
+    out.extend_from_slice(b" rows\n")
 }
 
 fn limit_in(cause: &Cause) -> Option<Limit>

@@ -1,25 +1,26 @@
 //! Editing rules that never apply.
 ghost use Rattle.std.specs.Prelude.{◌≡◌, ◌++◌, IfOk, OnOk, Some};
 ghost use Rattle.std.specs.Option.{option_copied};
-ghost use Rattle.view_check.specs.CheckForm.{asks_target, edits_clean, edits_text, has_no_row, never_line, never_words, why_never};
+ghost use Rattle.view_check.specs.CheckForm.{asks_outside, asks_target, edits_clean, edits_text, has_no_row, is_met, is_out, is_out_at, is_out_in, never_line, never_words, none_meets, why_never};
 
 use crate::items::item;
-use rule_model::EditRule;
-use schema_core::{List, Texts};
+use rule_model::{EditCell, EditRule};
+use schema_core::{Attr, Domain, List, Schema, Table, Text, Texts};
 use std::alloc::AllocError;
 
 /// Tells the editing rules that never apply, and whether each may.
 pub fn push_edits(
     out: &mut Vec<u8>,
+    schema: &Schema,
     all: &[List<Texts>],
     rules: &[EditRule],
 ) -> Result<bool, AllocError>
-    ensures text { OnOk result (out.new.items ≡ out.old.items ++ edits_text all.now rules.now) }
-    ensures clean { IfOk result (λ clean. clean ≡ edits_clean all.now rules.now) }
+    ensures text { OnOk result (out.new.items ≡ out.old.items ++ edits_text schema.now all.now rules.now) }
+    ensures clean { IfOk result (λ clean. clean ≡ edits_clean schema.now all.now rules.now) }
 {
     let mut clean = true;
     for rule in rules {
-        let why = why_never(all, rule);
+        let why = why_never(schema, all, rule);
         push_never(out, rule, why)?;
         clean = clean && why.is_none();
     }
@@ -52,11 +53,14 @@ fn push_never_words(out: &mut Vec<u8>, rule: &EditRule) -> Result<(), AllocError
     out.extend_from_slice(b" never applies: ")
 }
 
-fn why_never(all: &[List<Texts>], rule: &EditRule) -> Option<&'static str>
-    ensures { option_copied result ≡ why_never all.now rule.now }
+fn why_never(schema: &Schema, all: &[List<Texts>], rule: &EditRule) -> Option<&'static str>
+    ensures { option_copied result ≡ why_never schema.now all.now rule.now }
 {
     if asks_target(rule) {
         return Some("its target is in its own pattern");
+    }
+    if asks_outside(schema, rule) {
+        return Some("no value of an attribute's domain meets its pattern");
     }
     if has_no_row(item(all, rule.master)) {
         return Some("its master table has no row");
@@ -69,6 +73,66 @@ fn asks_target(rule: &EditRule) -> bool
 {
     let target = rule.target;
     rule.when.as_slice().iter().any(|p| p.0 == target)
+}
+
+fn asks_outside(schema: &Schema, rule: &EditRule) -> bool
+    ensures { result ≡ asks_outside schema.now rule.now }
+{
+    let table = item(schema.tables.as_slice(), rule.table);
+    for asked in rule.when.as_slice() {
+        if is_out_in(table, asked) {
+            return true;
+        }
+    }
+    false
+}
+
+fn is_out_in(table: Option<&Table>, asked: &(usize, EditCell)) -> bool
+    ensures { result ≡ is_out_in (option_copied table.entry) asked.now }
+{
+    match table {
+        Some(table) => is_out_at(item(table.attrs.as_slice(), asked.0), &asked.1),
+        None => false,
+    }
+}
+
+fn is_out_at(attr: Option<&Attr>, cell: &EditCell) -> bool
+    ensures { result ≡ is_out_at (option_copied attr.entry) cell.now }
+{
+    match attr {
+        Some(attr) => is_out(&attr.domain, cell),
+        None => false,
+    }
+}
+
+fn is_out(domain: &Domain, cell: &EditCell) -> bool
+    ensures { result ≡ is_out domain.now cell.now }
+{
+    match domain {
+        Domain::AnyText => false,
+        Domain::Finite(values) => none_meets(values.as_slice(), cell),
+    }
+}
+
+fn none_meets(values: &[Text], cell: &EditCell) -> bool
+    ensures { result ≡ none_meets values.now cell.now }
+{
+    for value in values {
+        if is_met(cell, value) {
+            return false;
+        }
+    }
+    true
+}
+
+fn is_met(cell: &EditCell, value: &Text) -> bool
+    ensures { result ≡ is_met cell.now value.now }
+{
+    match cell {
+        EditCell::Any => true,
+        EditCell::Is(constant) => constant == value,
+        EditCell::Not(constant) => constant != value,
+    }
 }
 
 fn has_no_row(rows: Option<&List<Texts>>) -> bool

@@ -1,14 +1,15 @@
-//! The files of a project: schema, rules and tables; and once more the one that is refused.
-ghost use Rattle.std.specs.Prelude.{◌≡◌, length};
+//! The files of a project: schema, rules and tables; and once more the one that is refused, and the schema.
+ghost use Rattle.std.specs.Prelude.{length};
 ghost use Rattle.text_lists.specs.Limits.{AreLimits};
-ghost use Rattle.cli_output.specs.Fetching.{Fetches};
+ghost use Rattle.cli_output.specs.Fetching.{Fetches, file};
+ghost use Rattle.cli_output.specs.RuleFiles.{fetch_schema};
 ghost use Rattle.cli_output.specs.TableFiles.{fetch_table};
 ghost use Rattle.view_schema.specs.Each.{fetch_each};
-ghost use Rattle.view_check.specs.Seen.{Again, fetch_seen, fetch_whole};
+ghost use Rattle.view_check.specs.Seen.{Finds, again, anew, fetch_seen, fetch_whole};
 
-use cli_output::{Refusal, Stop, fetch_book, fetch_file, fetch_table};
+use cli_output::{Refusal, Stop, fetch_book, fetch_file, fetch_schema, fetch_table};
 use rule_model::RuleBook;
-use schema_core::{Limits, List, Table, Text, Texts};
+use schema_core::{Limits, List, Schema, Table, Text, Texts};
 use shelf_io::Shelf;
 use std::alloc::Global;
 
@@ -19,14 +20,18 @@ pub struct Project {
     pub tables: List<List<Texts>>,
 }
 
-/// A project whose files hold, or a refusal with the bytes of the refused file, where it can be read.
+/// What is found once more where a file is refused: the bytes of that file, and the schema, each where it can be read.
+#[derive(Drop)]
+pub struct Anew {
+    pub bytes: Option<List<u8>>,
+    pub schema: Option<Schema>,
+}
+
+/// A project whose files hold, or a refusal with what is found once more.
 #[derive(Drop)]
 pub enum Seen {
     Whole(Project),
-    Off {
-        refusal: Refusal,
-        bytes: Option<List<u8>>,
-    },
+    Off { refusal: Refusal, anew: Anew },
 }
 
 /// The project of the named schema file, or the refusal with what it refuses.
@@ -38,18 +43,33 @@ pub fn fetch_seen<S: Shelf>(
     left: &mut u64,
 ) -> Result<Seen, Stop>
     requires { AreLimits limits.now }
-    ensures { Fetches (fetch_seen limits.now name.now) (λ seen. seen) 67 result (S.told shelf.old) (S.told shelf.new) left.old left.new }
+    ensures { Fetches (fetch_seen limits.now name.now) (λ seen. seen) 68 result (S.told shelf.old) (S.told shelf.new) left.old left.new }
 {
     match fetch_whole(alloc, shelf, name, limits, left) {
         Ok(project) => Ok(Seen::Whole(project)),
         Err(Stop::Refused(refusal)) => {
             *left = 0;
-            let bytes = fetch_again(shelf, &refusal.what, limits)?;
-            Ok(Seen::Off { refusal, bytes })
+            let anew = fetch_anew(alloc, shelf, name, &refusal.what, limits)?;
+            Ok(Seen::Off { refusal, anew })
         }
         Err(Stop::ReadFault) => Err(Stop::ReadFault),
         Err(Stop::Memory) => Err(Stop::Memory),
     }
+}
+
+fn fetch_anew<S: Shelf>(
+    alloc: Global,
+    shelf: &mut S,
+    project: &Text,
+    what: &Text,
+    limits: &Limits,
+) -> Result<Anew, Stop>
+    requires { AreLimits limits.now }
+    ensures { Finds (anew limits.now project.now what.now) 2 result (S.told shelf.old) (S.told shelf.new) }
+{
+    let bytes = fetch_again(shelf, what, limits)?;
+    let schema = fetch_schema_again(alloc, shelf, project, limits)?;
+    Ok(Anew { bytes, schema })
 }
 
 /// The bytes of a file that was refused, where it is there and fits.
@@ -59,11 +79,30 @@ fn fetch_again<S: Shelf>(
     limits: &Limits,
 ) -> Result<Option<List<u8>>, Stop>
     requires { AreLimits limits.now }
-    ensures { Again limits.now name.now result (S.told shelf.old) (S.told shelf.new) }
+    ensures { Finds (again limits.now (file limits.now name.now)) 1 result (S.told shelf.old) (S.told shelf.new) }
 {
     let mut room = limits.all_bytes;
     match fetch_file(shelf, name, limits, &mut room) {
         Ok(bytes) => Ok(Some(List::from(bytes))),
+        Err(Stop::Refused(_)) => Ok(None),
+        Err(Stop::ReadFault) => Err(Stop::ReadFault),
+        Err(Stop::Memory) => Err(Stop::Memory),
+    }
+}
+
+/// The schema, where it isn't refused.
+fn fetch_schema_again<S: Shelf>(
+    alloc: Global,
+    shelf: &mut S,
+    name: &Text,
+    limits: &Limits,
+) -> Result<Option<Schema>, Stop>
+    requires { AreLimits limits.now }
+    ensures { Finds (again limits.now (fetch_schema limits.now name.now)) 1 result (S.told shelf.old) (S.told shelf.new) }
+{
+    let mut room = limits.all_bytes;
+    match fetch_schema(alloc, shelf, name, limits, &mut room) {
+        Ok(schema) => Ok(Some(schema)),
         Err(Stop::Refused(_)) => Ok(None),
         Err(Stop::ReadFault) => Err(Stop::ReadFault),
         Err(Stop::Memory) => Err(Stop::Memory),

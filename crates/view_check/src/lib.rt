@@ -4,12 +4,19 @@
 
 mod answer;
 mod bounds;
+mod cited;
 mod edits;
 mod fetching;
+mod forms;
+mod hints;
 mod items;
+mod names;
 mod shown;
+mod values;
 mod verdicts;
 
-pub use answer::look_at_project;
-pub use fetching::{Project, Seen};
+pub use answer::{Told, look_at_project, told_of};
+pub use cited::RowName;
+pub use fetching::{Anew, Project, Seen};
+pub use values::{MayStand, ValueVerdict};
 pub use verdicts::Verdict;

@@ -2,13 +2,15 @@
 ghost use Rattle.std.specs.Prelude.{◌≡◌, ◌-◌, ◌++◌, IfOk, OnOk, slice_get};
 ghost use Rattle.std.specs.Option.{option_map};
 ghost use Rattle.line_grammar.specs.Lines.{lines};
-ghost use Rattle.line_grammar.specs.Spelling.{comma_separated, line_text};
 ghost use Rattle.schema_core.specs.SchemaText.{value_parts};
 ghost use Rattle.csv_tables.specs.Records.{file_records};
 ghost use Rattle.schema_draft.specs.Sheets.{text_record};
 ghost use Rattle.view_check.specs.Shown.{line_at, line_in, line_shown, off_text, record_at, record_in, record_of, record_shown};
 
-use crate::bounds::push_bound;
+use crate::bounds::{push_bound, push_room};
+use crate::fetching::Anew;
+use crate::forms::push_form;
+use crate::hints::push_hint;
 use cli_output::{Cause, Refusal, refusal_line};
 use csv_tables::TableFault;
 use schema_core::{
@@ -22,14 +24,17 @@ pub fn off_text(
     alloc: Global,
     limits: &Limits,
     refusal: &Refusal,
-    bytes: &Option<List<u8>>,
+    anew: &Anew,
 ) -> Result<Vec<u8>, AllocError>
-    ensures { IfOk result (λ text. text.items ≡ off_text limits.now refusal.now bytes.now) }
+    ensures { IfOk result (λ text. text.items ≡ off_text limits.now refusal.now anew.now) }
 {
     let mut out = refusal_line(alloc, refusal)?;
-    push_line_at(&mut out, line_in(&refusal.cause), bytes)?;
-    push_record_at(alloc, &mut out, record_in(&refusal.cause), bytes)?;
+    push_line_at(&mut out, line_in(&refusal.cause), &anew.bytes)?;
+    push_record_at(alloc, &mut out, record_in(&refusal.cause), &anew.bytes)?;
     push_bound(&mut out, limits, &refusal.cause)?;
+    push_room(&mut out, limits, &refusal.cause, &anew.bytes)?;
+    push_form(alloc, &mut out, &refusal.cause, &anew.bytes)?;
+    push_hint(alloc, &mut out, refusal, &anew.bytes, &anew.schema)?;
     Ok(out)
 }
 
@@ -73,7 +78,7 @@ fn push_line_of(out: &mut Vec<u8>, number: usize, bytes: &[u8]) -> Result<(), Al
 }
 
 /// The line at a place, the first being at 0.
-fn nth_line(bytes: &[u8], place: usize) -> Option<&[u8]>
+pub fn nth_line(bytes: &[u8], place: usize) -> Option<&[u8]>
     ensures { option_map (λ line. line.now) result ≡ slice_get (lines bytes.now) place }
 {
     let mut rest = bytes;
@@ -104,6 +109,9 @@ fn record_of(fault: &TableFault) -> Option<usize>
     ensures { result ≡ record_of fault.now }
 {
     match fault {
+        TableFault::HeaderColumn(_) | TableFault::HeaderRepeats(_) | TableFault::HeaderLacks(_) => {
+            Some(0)
+        }
         TableFault::Width { at } => Some(*at),
         TableFault::TextTooLong { at } => Some(*at),
         TableFault::NotInDomain { at, .. } => Some(*at),
@@ -153,7 +161,7 @@ fn push_texts(out: &mut Vec<u8>, number: usize, found: &Option<Texts>) -> Result
 }
 
 /// The fields of a record, each between quotes.
-struct Values;
+pub struct Values;
 
 impl Writes<Text> for Values {
     ghost written = { value_parts };

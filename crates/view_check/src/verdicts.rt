@@ -1,28 +1,36 @@
 //! Whether some row can satisfy the dependencies of a table.
-ghost use Rattle.std.specs.Prelude.{◌≡◌, ◌++◌, IfOk, OnOk, codes, length};
+ghost use Rattle.std.specs.Prelude.{◌≡◌, ◌++◌, IfOk, IfSome, OnOk, length};
 ghost use Rattle.std.specs.List.{AllZip, list_all};
 ghost use Rattle.std.specs.Option.{option_copied};
-ghost use Rattle.view_check.specs.CheckForm.{is_good, verdict_line, verdict_part, verdicts_text};
-ghost use Rattle.view_check.specs.Verdicts.{AreVerdicts, IsVerdictFor};
+ghost use Rattle.schema_core.specs.Schemas.{table_place};
+ghost use Rattle.case_tree.specs.CaseTree.{Refutes};
+ghost use Rattle.cfd_consistency.specs.Consistent.{IsConsistent};
+ghost use Rattle.cfd_consistency.specs.Question.{question};
+ghost use Rattle.view_check.specs.CheckForm.{by_line, is_good, never_text, open_text, row_parts, verdict_line, verdict_part, verdicts_text};
+ghost use Rattle.view_check.specs.Verdicts.{AreVerdicts, IsOpen, IsVerdictFor};
 
+use crate::cited::{RowName, cited_rows};
 use crate::items::item;
+use crate::names::push_table;
+use crate::values::{ValueVerdict, may_all_stand, push_values_told, value_verdicts};
+use case_tree::Tree;
 use cfd_consistency::{Consistency, consistent};
 use rule_model::RuleBook;
-use schema_core::{List, Table};
+use schema_core::{List, Table, Writes, push_list, push_number};
 use std::alloc::{AllocError, Global};
 
 /// How many leaves a search for an answer may have.
-const BUDGET: u64 = 100_000;
+pub const BUDGET: u64 = 100_000;
 
 /// What is known of the dependencies of a table.
-#[derive(Clone, Copy, Debug, PartialEq, Eq)]
+#[derive(Debug, Drop)]
 pub enum Verdict {
-    /// Some row, alone, satisfies them.
-    Holds,
-    /// No row does.
-    Never,
-    /// The search ended before there was an answer.
-    Open,
+    /// Some row, alone, satisfies them; and what is known of the values of the domains.
+    Holds(List<ValueVerdict>),
+    /// No row does, by these tableau rows.
+    Never(List<RowName>),
+    /// The search ended before there was an answer; and what is known of the values of the domains.
+    Open(List<ValueVerdict>),
 }
 
 /// A verdict for each table of the rules.
@@ -51,12 +59,39 @@ fn verdict_on(alloc: Global, rules: &RuleBook, table: &Table) -> Result<Verdict,
     ensures { IfOk result (IsVerdictFor rules.now table.now) }
 {
     match consistent(alloc, rules, table.name.as_str(), BUDGET) {
-        Ok(Consistency::Witness(_)) => Ok(Verdict::Holds),
-        Ok(Consistency::Never(_)) => Ok(Verdict::Never),
-        Ok(Consistency::Spent(_)) => Ok(Verdict::Open),
+        Ok(Consistency::Witness(_)) => holds(alloc, rules, table),
+        Ok(Consistency::Never(tree)) => never(alloc, rules, table, &tree),
+        Ok(Consistency::Spent(_)) => open(alloc, rules, table),
         // Each of the tables has its name, so only memory can be missing.
         Err(_) => Err(AllocError),
     }
+}
+
+fn holds(alloc: Global, rules: &RuleBook, table: &Table) -> Result<Verdict, AllocError>
+    requires { IfSome (table_place rules.now.schema table.now.name) (IsConsistent rules.now) }
+    ensures { IfOk result (IsVerdictFor rules.now table.now) }
+{
+    let values = value_verdicts(alloc, rules, table)?;
+    Ok(Verdict::Holds(values))
+}
+
+fn open(alloc: Global, rules: &RuleBook, table: &Table) -> Result<Verdict, AllocError>
+    requires { IfSome (table_place rules.now.schema table.now.name) (IsOpen rules.now) }
+    ensures { IfOk result (IsVerdictFor rules.now table.now) }
+{
+    let values = value_verdicts(alloc, rules, table)?;
+    Ok(Verdict::Open(values))
+}
+
+fn never(alloc: Global, rules: &RuleBook, table: &Table, tree: &Tree) -> Result<Verdict, AllocError>
+    requires { IfSome (table_place rules.now.schema table.now.name) (λ place. Refutes (question rules.now place) tree.now × ¬ IsConsistent rules.now place) }
+    ensures { IfOk result (IsVerdictFor rules.now table.now) }
+{
+    let rows = match rules.schema().table_named(table.name.as_str()) {
+        Some(place) => cited_rows(alloc, rules, &table.name, place, tree.nodes())?,
+        None => List::new(alloc),
+    };
+    Ok(Verdict::Never(rows))
 }
 
 /// Tells the tables whose dependencies no row is known to satisfy.
@@ -83,32 +118,56 @@ fn push_part(
     ensures { OnOk result (out.new.items ≡ out.old.items ++ verdict_part (option_copied table.entry) (option_copied verdict.entry)) }
 {
     match (table, verdict) {
-        (Some(table), Some(verdict)) => push_verdict(out, table, *verdict),
+        (Some(table), Some(verdict)) => push_verdict(out, table, verdict),
         _ => Ok(()),
     }
 }
 
-fn push_verdict(out: &mut Vec<u8>, table: &Table, verdict: Verdict) -> Result<(), AllocError>
-    ensures { OnOk result (out.new.items ≡ out.old.items ++ verdict_line table.now verdict) }
+fn push_verdict(out: &mut Vec<u8>, table: &Table, verdict: &Verdict) -> Result<(), AllocError>
+    ensures { OnOk result (out.new.items ≡ out.old.items ++ verdict_line table.now verdict.now) }
 {
     match verdict {
-        Verdict::Holds => Ok(()),
-        Verdict::Never => {
-            push_table(out, table)?;
-            out.extend_from_slice(b": no row can satisfy its dependencies\n")
-        }
-        Verdict::Open => {
-            push_table(out, table)?;
-            out.extend_from_slice(b": not settled whether a row can satisfy its dependencies\n")
-        }
+        Verdict::Holds(values) => push_values_told(out, table, values.as_slice()),
+        Verdict::Never(rows) => push_never(out, table, rows.as_slice()),
+        Verdict::Open(values) => push_open(out, table, values.as_slice()),
     }
 }
 
-fn push_table(out: &mut Vec<u8>, table: &Table) -> Result<(), AllocError>
-    ensures { OnOk result (out.new.items ≡ out.old.items ++ (codes "table " ++ table.now.name)) }
+fn push_open(out: &mut Vec<u8>, table: &Table, values: &[ValueVerdict]) -> Result<(), AllocError>
+    ensures { OnOk result (out.new.items ≡ out.old.items ++ open_text table.now values.now) }
 {
-    out.extend_from_slice(b"table ")?;
-    out.extend_from_slice(table.name.as_str().as_bytes())
+    push_table(out, table)?;
+    out.extend_from_slice(b": not settled whether a row can satisfy its dependencies\n")?;
+    push_values_told(out, table, values)
+}
+
+fn push_never(out: &mut Vec<u8>, table: &Table, rows: &[RowName]) -> Result<(), AllocError>
+    ensures { OnOk result (out.new.items ≡ out.old.items ++ never_text table.now rows.now) }
+{
+    push_table(out, table)?;
+    out.extend_from_slice(b": no row can satisfy its dependencies\n")?;
+    push_by(out, rows)
+}
+
+fn push_by(out: &mut Vec<u8>, rows: &[RowName]) -> Result<(), AllocError>
+    ensures { OnOk result (out.new.items ≡ out.old.items ++ by_line rows.now) }
+{
+    out.extend_from_slice(b"  by ")?;
+    push_list::<RowNames, RowName>(out, rows)?;
+    out.extend_from_slice(b"\n")
+}
+
+/// Tableau rows by the names of their rules.
+struct RowNames;
+
+impl Writes<RowName> for RowNames {
+    ghost written = { row_parts };
+
+    fn push(out: &mut Vec<u8>, row: &RowName) -> Result<(), AllocError> {
+        out.extend_from_slice(row.rule.as_str().as_bytes())?;
+        out.push(b'.')?;
+        push_number(out, row.row as u64)
+    }
 }
 
 /// Whether some row satisfies those of each table.
@@ -116,18 +175,18 @@ pub fn are_good(verdicts: &[Verdict]) -> bool
     ensures { result ≡ list_all is_good verdicts.now }
 {
     for verdict in verdicts {
-        if !is_good(*verdict) {
+        if !is_good(verdict) {
             return false;
         }
     }
     true
 }
 
-fn is_good(verdict: Verdict) -> bool
-    ensures { result ≡ is_good verdict }
+fn is_good(verdict: &Verdict) -> bool
+    ensures { result ≡ is_good verdict.now }
 {
     match verdict {
-        Verdict::Holds => true,
-        Verdict::Never | Verdict::Open => false,
+        Verdict::Holds(values) => may_all_stand(values.as_slice()),
+        Verdict::Never(_) | Verdict::Open(_) => false,
     }
 }

@@ -4,6 +4,6 @@ use Rattle.view_check.proofs.edits.push_edits.Given as goal
 
 abbrev pub invariant-loop-rule : goal.invariant-loop-rule
 invariant-loop-rule l = record {
-  text : l.out.items ≡ l.fn.out.items ++ edits_text l.all (take l.rule-index l.rules);
-  clean : l.clean ≡ edits_clean l.all (take l.rule-index l.rules);
+  text : l.out.items ≡ l.fn.out.items ++ edits_text l.schema l.all (take l.rule-index l.rules);
+  clean : l.clean ≡ edits_clean l.schema l.all (take l.rule-index l.rules);
 }
