@@ -22,7 +22,7 @@ pub struct Given {
     pub loaded: usize,
 }
 
-/// What the words behind the first one give, which is none of them.
+/// What the words behind the first one give.
 pub fn given_of(alloc: Global, first: &Text, words: &[Text]) -> Result<Given, AllocError>
     ensures { IfOk result (λ given. given ≡ given_of first.now words.now) }
 {

@@ -8,7 +8,7 @@ use text_lists::Text;
 
 /// What `clap` lets pass and no form has.
 const NO_FORM: &str =
-    "these words have no form: a number begins with no zero, and no word and no name is empty";
+    "these words have no form: numbers begin with no zero, and no word, value or name is empty or begins with '-'";
 
 /// The help that words ask for, or the version.
 pub fn help_text(alloc: Global, words: &[Text]) -> Result<String, AllocError> {
