@@ -5,6 +5,9 @@ use Rattle.cli_output.specs.declared.status.Status.TheVariants.{Clean, Usage}
 use Rattle.cli_output.specs.Fetching.{given}
 use Rattle.cli_output.specs.Output.{Only, Task}
 use Rattle.view_check.specs.CheckForm.{check_task}
+use Rattle.view_forms.specs.ListForm.{list_task}
+use Rattle.view_forms.specs.RowForm.{row_task}
+use Rattle.view_page.specs.PageForm.{page_task}
 use Rattle.view_schema.specs.SchemaForm.{schema_task}
 use Rattle.view_words.specs.Asking.{asked_of}
 use Rattle.view_words.specs.declared.form.Asked.{Asked}
@@ -32,11 +35,11 @@ help_task = record {
 
 -- what a form asks for
 abbrev pub form_task : Limits → Form → Task
-form_task limits (form.List options) = usage_task
-form_task limits (form.Row options) = usage_task
+form_task limits (form.List options) = list_task limits options
+form_task limits (form.Row options) = row_task limits options
 form_task limits (form.Check project) = check_task limits project
 form_task limits (form.Schema files) = schema_task limits files
-form_task limits (form.Page options) = usage_task
+form_task limits (form.Page options) = page_task limits options
 
 abbrev pub asked_task : Limits → Asked → Task
 asked_task limits (asked.Form form) = form_task limits form

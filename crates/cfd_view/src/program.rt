@@ -2,13 +2,15 @@
 ghost use Rattle.std.specs.Prelude.{◌≡◌};
 ghost use Rattle.text_lists.specs.Limits.{AreLimits, standard};
 ghost use Rattle.cli_output.specs.Output.{Output, UsesDevices, Writes};
-ghost use Rattle.cfd_view.specs.Asked.{asked_task, form_task, help_task, task_of, usage_task};
+ghost use Rattle.cfd_view.specs.Asked.{asked_task, form_task, help_task, task_of};
 
 use cli_output::{Status, end_with};
 use schema_core::{Limits, Texts};
 use shelf_io::{Shelf, Sink};
 use std::alloc::{AllocError, Global};
 use view_check::look_at_project;
+use view_forms::{list_project, row_project};
+use view_page::page_project;
 use view_schema::draft_schema;
 use view_words::{Asked, Form, asked_of, help_text};
 
@@ -59,7 +61,7 @@ fn answer<S: Shelf, O: Sink>(
     match asked {
         Asked::Form(form) => answer_form(alloc, form, shelf, out, limits),
         Asked::Help => help(alloc, words, shelf, out, limits),
-        Asked::Nothing => usage(shelf, out, limits),
+        Asked::Nothing => Status::Usage,
     }
 }
 
@@ -75,11 +77,11 @@ fn answer_form<S: Shelf, O: Sink>(
     ensures devices { UsesDevices limits.now (form_task limits.now form.now) result (S.told shelf.old) (S.told shelf.new) (O.told out.old) (O.told out.new) }
 {
     match form {
-        Form::List(_) => usage(shelf, out, limits),
-        Form::Row(_) => usage(shelf, out, limits),
+        Form::List(options) => list_project(alloc, options, shelf, out, limits),
+        Form::Row(options) => row_project(alloc, options, shelf, out, limits),
         Form::Check { project } => look_at_project(alloc, project, shelf, out, limits),
         Form::Schema { files } => draft_schema(alloc, files.as_slice(), shelf, out, limits),
-        Form::Page(_) => usage(shelf, out, limits),
+        Form::Page(options) => page_project(alloc, options, shelf, out, limits),
     }
 }
 
@@ -98,12 +100,4 @@ fn help<S: Shelf, O: Sink>(
         Ok(text) => end_with(out, text.as_bytes(), Status::Clean),
         Err(AllocError) => Status::Memory,
     }
-}
-
-/// Writes nothing.
-fn usage<S: Shelf, O: Sink>(_shelf: &S, _out: &O, _limits: &Limits) -> Status
-    ensures written { Writes (Output _limits.now usage_task (S.told _shelf.now).holding) result (O.told _out.now).written (O.told _out.now).written }
-    ensures devices { UsesDevices _limits.now usage_task result (S.told _shelf.now) (S.told _shelf.now) (O.told _out.now) (O.told _out.now) }
-{
-    Status::Usage
 }
