@@ -1,8 +1,8 @@
 #!/bin/sh
 # recipes.sh: runs the recipes of docs/RECIPES.md and tells which of them writes something else than the page shows. It needs
-# jq, sqlite3 and mlr, and `cfdbench` and `cfdview` on the path. A recipe runs in a copy of the example that its section names, orders where
-# none is named; a section with marked blocks in a copy of its own, with these files in it. A block directly behind a recipe is
-# what it writes.
+# jq, sqlite3 and mlr, and `cfdbench` and `cfdview` on the path. A recipe runs in a copy of the example that its section names,
+# orders where none is named; a section with marked blocks in a copy of its own, with these files in it. A block directly behind
+# a recipe is what it writes.
 set -eu
 cd "$(dirname "$0")"
 room=$(mktemp -d)
