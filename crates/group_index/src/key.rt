@@ -13,8 +13,8 @@ use smallvec::SmallVec;
 use std::alloc::AllocError;
 use value_pool::ValueId;
 
-/// The ids of a key. Up to two stand in place, so that most groups take no memory for their key.
-pub(crate) type Key = SmallVec<ValueId, 2>;
+/// The ids of a key. Up to three stand in place, so that most groups take no memory for their key.
+pub(crate) type Key = SmallVec<ValueId, 3>;
 
 /// Writes the ids of a tuple on X into a list that has the room.
 pub(crate) fn write_key(key: &mut Key, tuple: &Tuple, x: &[usize])

@@ -5,9 +5,13 @@
 ghost use Rattle.std.specs.Prelude.{◌≡◌, ◌<◌, [], length, IfSome, IfNone, IfOk, OnOk, OnErr};
 ghost use Rattle.value_pool.specs.Pool.{HaveOneId, HasId, Interns, IsNew, KeepsIds};
 
+mod sought;
+
 use indexmap::IndexSet;
+use sought::Sought;
 use std::alloc::{AllocError, Global};
 use std::marker::Model;
+use text_lists::Text;
 
 /// The place of a text in its pool.
 pub type ValueId = usize;
@@ -17,18 +21,18 @@ pub type ValueId = usize;
 /// Contracts see the list of its texts, each as its bytes.
 #[derive(Drop)]
 pub struct Pool {
-    texts: IndexSet<String>,
+    texts: IndexSet<Text>,
 }
 
 impl Model for Pool {
-    ghost use Rattle.std.specs.Prelude.{List, map, ℕ, string_bytes};
+    ghost use Rattle.std.specs.Prelude.{List, ℕ};
     ghost use Rattle.value_pool.specs.Pool.{HaveOneId};
 
     ghost Value = { List (List ℕ) };
 
-    ghost view = { λ pool. map string_bytes pool.texts.keys };
+    ghost view = { λ pool. pool.texts.keys };
 
-    ghost invariant = { λ pool. HaveOneId (map string_bytes pool.texts.keys) };
+    ghost invariant = { λ pool. HaveOneId pool.texts.keys };
 }
 
 impl Pool {
@@ -63,7 +67,7 @@ impl Pool {
         if let Some(id) = self.find(text) {
             return Ok(id);
         }
-        let owned = String::from_str(*self.texts.allocator(), text)?;
+        let owned = Text::new(*self.texts.allocator(), text)?;
         let (id, _) = self.texts.insert_full(owned)?;
         Ok(id)
     }
@@ -75,7 +79,7 @@ impl Pool {
         ensures absent { IfNone result (IsNew self.now text.now) }
         ensures distinct { HaveOneId self.now }
     {
-        self.texts.get_index_of(text)
+        self.texts.get_index_of(Sought { text })
     }
 
     /// The text with this id. It takes no memory.
