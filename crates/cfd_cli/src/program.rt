@@ -1,5 +1,5 @@
 //! The top call.
-ghost use Rattle.std.specs.Prelude.{◌≡◌, ◌<◌, ◌⊎◌, Some};
+ghost use Rattle.std.specs.Prelude.{◌≡◌, ◌≢◌, ◌<◌, ◌⊎◌, Some};
 ghost use Rattle.text_lists.specs.Limits.{AreLimits, standard};
 ghost use Rattle.cfd_cli.specs.Forms.{counted_form_task, counted_task_of, form_task, task_of, usage_line};
 ghost use Rattle.cli_output.specs.Output.{IsWhole, Output, UsesDevices, Writes};
@@ -25,6 +25,7 @@ pub fn run<S: Shelf, O: Sink>(alloc: Global, words: &Texts, shelf: &mut S, out: 
     ensures written { Writes (Output standard (task_of standard words.now) (S.told shelf.old).holding) result (O.told out.old).written (O.told out.new).written }
     ensures usage { (HasForm words.now → ⊥) → (result ≡ Status.Usage) ⊎ (result ≡ Status.WriteFault) }
     ensures devices { UsesDevices standard (task_of standard words.now) result (S.told shelf.old) (S.told shelf.new) (O.told out.old) (O.told out.new) }
+    ensures unread { (task_of standard words.now).most_fetches ≡ 0 → result ≢ Status.ReadFault }
 {
     run_with(alloc, words, shelf, out, Limits::standard())
 }
@@ -47,6 +48,9 @@ pub fn run_with<S: Shelf, O: Sink>(
 
     // Nothing is fetched that isn't asked for, and a fault is told only where a device counted one.
     ensures devices { UsesDevices limits (task_of limits words.now) result (S.told shelf.old) (S.told shelf.new) (O.told out.old) (O.told out.new) }
+
+    // Where nothing is to be fetched, as for `generate`, no failed fetch is told.
+    ensures unread { (task_of limits words.now).most_fetches ≡ 0 → result ≢ Status.ReadFault }
 {
     run_opened::<S, O, Brand>(alloc, words, shelf, out, &limits, Blank::new(1))
 }
@@ -67,6 +71,7 @@ fn run_opened<S: Shelf, O: Sink, L: Ledger>(
     ensures written { Writes (Output limits.now (task_of limits.now words.now) (S.told shelf.old).holding) result (O.told out.old).written (O.told out.new).written }
     ensures usage { (HasForm words.now → ⊥) → (result ≡ Status.Usage) ⊎ (result ≡ Status.WriteFault) }
     ensures devices { UsesDevices limits.now (task_of limits.now words.now) result (S.told shelf.old) (S.told shelf.new) (O.told out.old) (O.told out.new) }
+    ensures unread { (task_of limits.now words.now).most_fetches ≡ 0 → result ≢ Status.ReadFault }
 {
     let mut steps = Steps::<L>::open(blank);
     run_counted(alloc, words, shelf, out, limits, &mut steps)
@@ -85,6 +90,7 @@ pub fn run_counted<S: Shelf, O: Sink, L: Ledger>(
     ensures written { Writes (Output limits.now (task_of limits.now words.now) (S.told shelf.old).holding) result (O.told out.old).written (O.told out.new).written }
     ensures usage { (HasForm words.now → ⊥) → (result ≡ Status.Usage) ⊎ (result ≡ Status.WriteFault) }
     ensures devices { UsesDevices limits.now (task_of limits.now words.now) result (S.told shelf.old) (S.told shelf.new) (O.told out.old) (O.told out.new) }
+    ensures unread { (task_of limits.now words.now).most_fetches ≡ 0 → result ≢ Status.ReadFault }
 
     // Where a script was answered to its end, the output goes with counts of probes: each row that is loaded and each
     // command took no more of them than it may.
@@ -110,6 +116,7 @@ fn answer<S: Shelf, O: Sink, L: Ledger>(
     requires form { IsFit form.now }
     ensures written { Writes (Output limits.now (form_task limits.now (Some form.now)) (S.told shelf.old).holding) result (O.told out.old).written (O.told out.new).written }
     ensures devices { UsesDevices limits.now (form_task limits.now (Some form.now)) result (S.told shelf.old) (S.told shelf.new) (O.told out.old) (O.told out.new) }
+    ensures unread { (form_task limits.now (Some form.now)).most_fetches ≡ 0 → result ≢ Status.ReadFault }
     ensures probes { IsWhole result → Writes (Output limits.now (counted_form_task steps.old steps.new limits.now (Some form.now)) (S.told shelf.old).holding) result (O.told out.old).written (O.told out.new).written }
 {
     match form {

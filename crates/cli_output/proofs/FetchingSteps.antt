@@ -5,7 +5,7 @@ use Rattle.shelf_io.specs.Files.{Files}
 use Rattle.shelf_io.specs.Shelf.{ShelfTold}
 use Rattle.cli_output.specs.declared.fetching.Stop.{Stop}
 use Rattle.cli_output.specs.declared.fetching.Stop.TheVariants.{Refused, ReadFault, Memory}
-use Rattle.cli_output.proofs.Faults.{Rose-from, same_absence, same_fault}
+use Rattle.cli_output.proofs.Faults.{Rose-from, same_fault}
 use Rattle.cli_output.specs.Fetching.{Fetches, Fetching, OrRefusal, Outcome, Reads, ◌>>=◌, followed, given, refusal_in}
 
 -- ---- no step
@@ -18,7 +18,6 @@ fetches-given {X} {Y} found view result shelf left reads = record {
   told_fetches = λ files is. omega arith;
   fetches = omega arith;
   read_fault = λ fault. absurd (reads.no_fault fault);
-  absences = λ files is other. absurd (other refl);
   calls = omega arith;
   faults = omega arith;
   holding = refl;
@@ -47,7 +46,6 @@ fetches-stopped {X} {Y} {Z} {W} first further view last some more stop result be
   told_fetches = λ files told. omega (arith, step.told_fetches files told, at_least (first files left).found (first files left).fetches (first files left).left (λ x. further x files));
   fetches = omega (arith, step.fetches);
   read_fault = λ fault. step.read_fault (same_fault Z W stop fault);
-  absences = λ files told other. same_absence W Z stop (step.absences files told other);
   calls = step.calls;
   faults = step.faults;
   holding = step.holding;
@@ -63,7 +61,6 @@ fetches-next first further view last some more w result before between after lef
   told_fetches = λ files told. omega (arith, one.told_fetches files told, two.told_fetches files (one.holding ∙ told), ap (λ o. o.fetches) (joined files told));
   fetches = omega (arith, one.fetches, two.fetches);
   read_fault = λ fault. Rose-from _ _ _ (two.read_fault fault) one.faults;
-  absences = λ files told other. two.absences files (one.holding ∙ told) (λ same. one.absences files told (λ before_same. other (before_same ∙ same)));
   calls = omega (arith, one.calls, two.calls);
   faults = omega (arith, one.faults, two.faults);
   holding = two.holding ∙ one.holding;

@@ -9,9 +9,7 @@ use Rattle.cli_output.specs.declared.fetching.Stop.{Stop}
 use Rattle.cli_output.specs.declared.fetching.Stop.TheVariants as stop
 use Rattle.cli_output.specs.declared.status.Status.{Status}
 use Rattle.cli_output.specs.declared.status.Status.TheVariants.{Clean, Findings, Usage, Refused, ReadFault, WriteFault, Memory, Spent}
-use Rattle.cli_output.specs.declared.refusal.Cause.TheVariants.{Absent}
-use Rattle.cli_output.specs.declared.refusal.Refusal.{Refusal}
-use Rattle.cli_output.specs.Fetching.{Fetches, Fetching, IsAbsent, OrRefusal, refusal_in}
+use Rattle.cli_output.specs.Fetching.{Fetches, Fetching, OrRefusal, refusal_in}
 use Rattle.cli_output.specs.Output.{Ends, EndsBy, MayFind, Only, Output, Outputs, Task, UsesDevices, Writes, with_any_status}
 use Rattle.cli_output.specs.Refusals.{refusal_line}
 
@@ -57,10 +55,6 @@ Ends-wider some more wider status sink sink_after ends = record {
   write_fault = ends.write_fault;
 }
 
--- what is refused as absent is an absence
-refused_absent : {X : Type 0} (found : OrRefusal X) (refusal : Refusal) → found ≡ Err refusal → refusal.cause ≡ Absent → IsAbsent found
-refused_absent found refusal is absent = subst (λ f. IsAbsent f) (sym is) absent
-
 -- where files weren't read to the end, the devices were used as they may be
 pub uses-stopped : {X : Type 0} (limits : Limits) (task : Task) (view : X → task.Found) (why : Stop) (status : Status) (shelf shelf_after : ShelfTold) (sink sink_after : SinkTold) (left : ℕ) → 1 ≤ task.most_fetches
     → Fetches task.fetching view task.most_fetches (Err why) shelf shelf_after limits.all_bytes left → EndsBy why status sink sink_after → UsesDevices limits task status shelf shelf_after sink sink_after
@@ -68,26 +62,20 @@ uses-stopped limits task view (stop.Refused refusal) status shelf shelf_after si
   fetches = f.fetches;
   told_fetches = f.told_fetches;
   no_fetch = λ none. absurd (omega (arith, some, none));
-  no_read_fault = λ none. absurd (omega (arith, some, none));
   read_fault = λ is. absurd (ends.no_read_fault is);
   write_fault = ends.write_fault;
-  absences = λ files told not_fault not_memory other. refused_absent (task.fetching files limits.all_bytes).found refusal (f.gives files told) (f.absences files told other);
 }
 uses-stopped limits task view stop.ReadFault status shelf shelf_after sink sink_after left some f ends = record {
   fetches = f.fetches;
   told_fetches = f.told_fetches;
   no_fetch = λ none. absurd (omega (arith, some, none));
-  no_read_fault = λ none. absurd (omega (arith, some, none));
   read_fault = λ is. f.read_fault tt;
   write_fault = λ is. let other : ReadFault ≡ WriteFault = sym ends.0 ∙ is in absurd (cc);
-  absences = λ files told not_fault not_memory other. absurd (not_fault ends.0);
 }
 uses-stopped limits task view stop.Memory status shelf shelf_after sink sink_after left some f ends = record {
   fetches = f.fetches;
   told_fetches = f.told_fetches;
   no_fetch = λ none. absurd (omega (arith, some, none));
-  no_read_fault = λ none. absurd (omega (arith, some, none));
   read_fault = λ is. let other : Memory ≡ ReadFault = sym ends.0 ∙ is in absurd (cc);
   write_fault = λ is. let other : Memory ≡ WriteFault = sym ends.0 ∙ is in absurd (cc);
-  absences = λ files told not_fault not_memory other. absurd (not_memory ends.0);
 }

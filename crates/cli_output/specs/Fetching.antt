@@ -1,5 +1,5 @@
 -- Files that are fetched and read one after the other: a value, or the first refusal.
-use Rattle.std.specs.Prelude.{◌≡◌, ◌≢◌, ℕ, ◌+◌, ◌-◌, ◌≤◌, List, length, min, nat_lt, if◌then◌else◌, Option, None, Some, Result, Ok, Err, IfOk}
+use Rattle.std.specs.Prelude.{◌≡◌, ℕ, ◌+◌, ◌-◌, ◌≤◌, List, length, min, nat_lt, if◌then◌else◌, Option, None, Some, Result, Ok, Err, IfOk}
 use Rattle.shelf_io.specs.Files.{Files, file_at}
 use Rattle.shelf_io.specs.Rising.{Rose}
 use Rattle.shelf_io.specs.Shelf.{ShelfTold}
@@ -21,11 +21,6 @@ OrRefusal X = Result X Refusal
 abbrev pub about : {X : Type 0} → List ℕ → Result X Cause → OrRefusal X
 about what (Ok x) = Ok x
 about what (Err cause) = Err (record { what = what; cause = cause })
-
--- it is refused since a file isn't there
-abbrev pub IsAbsent : {X : Type 0} → OrRefusal X → Type 0
-IsAbsent (Ok x) = ⊥
-IsAbsent (Err refusal) = refusal.cause ≡ Absent
 
 -- what fetching came to, how many fetches it took, and how many bytes the files after it may have together
 pub record Outcome (X : Type 0) : Type 0 where
@@ -80,13 +75,6 @@ IsReadFault (Err (Refused refusal)) = ⊥
 IsReadFault (Err ReadFault) = Unit {0}
 IsReadFault (Err Memory) = ⊥
 
--- what comes with an absence that is counted: a file is refused as absent, or a failed fetch or want of memory is told
-abbrev pub MayBeAbsent : {X : Type 0} → Result X Stop → Type 0
-MayBeAbsent (Ok x) = ⊥
-MayBeAbsent (Err (Refused refusal)) = refusal.cause ≡ Absent
-MayBeAbsent (Err ReadFault) = Unit {0}
-MayBeAbsent (Err Memory) = Unit {0}
-
 -- a call that fetches nothing gives this, unless memory ran out
 pub record Reads {X Y : Type 0} (found : OrRefusal Y) (view : X → Y) (result : Result X Stop) : Type 0 where
   pub gives : GivesUnlessMemory refusal_in found view result
@@ -102,8 +90,6 @@ pub record Fetches {X Y : Type 0} (fetching : Fetching Y) (view : X → Y) (most
   pub fetches : after.calls ≤ before.calls + most
   -- A failed fetch is told only where the shelf counted one.
   pub read_fault : IsReadFault result → Rose before.faults after.faults
-  -- Where the shelf tells what it holds, an absence is counted only where it is told.
-  pub absences : (files : Files) → before.holding ≡ Some files → before.absences ≢ after.absences → MayBeAbsent result
   pub calls : before.calls ≤ after.calls
   pub faults : before.faults ≤ after.faults
   pub holding : after.holding ≡ before.holding

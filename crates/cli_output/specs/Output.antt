@@ -9,7 +9,7 @@ use Rattle.cli_output.specs.declared.status.Status.{Status}
 use Rattle.cli_output.specs.declared.status.Status.TheVariants.{Refused, ReadFault, WriteFault, Memory}
 use Rattle.cli_output.specs.declared.fetching.Stop.{Stop}
 use Rattle.cli_output.specs.declared.fetching.Stop.TheVariants as stop
-use Rattle.cli_output.specs.Fetching.{Fetching, IsAbsent, OrRefusal}
+use Rattle.cli_output.specs.Fetching.{Fetching, OrRefusal}
 use Rattle.cli_output.specs.Refusals.{refusal_line}
 
 -- texts, each with the status that goes with it
@@ -85,11 +85,6 @@ pub record UsesDevices (limits : Limits) (task : Task) (status : Status) (shelf 
   pub told_fetches : (files : Files) → shelf.holding ≡ Some files → shelf_after.calls ≤ shelf.calls + (task.fetching files limits.all_bytes).fetches
   -- and nothing, where it asks for nothing.
   pub no_fetch : task.most_fetches ≡ 0 → shelf_after.calls ≡ shelf.calls
-  pub no_read_fault : task.most_fetches ≡ 0 → status ≢ ReadFault
   -- A fault is told only where the device counted one.
   pub read_fault : status ≡ ReadFault → Rose shelf.faults shelf_after.faults
   pub write_fault : status ≡ WriteFault → Rose sink.faults sink_after.faults
-  -- Where the shelf tells what it holds, and no fetch failed and memory didn't run out, it counts an absence only where a
-  -- file that the task asks for is refused as absent.
-  pub absences : (files : Files) → shelf.holding ≡ Some files → status ≢ ReadFault → status ≢ Memory
-      → shelf.absences ≢ shelf_after.absences → IsAbsent (task.fetching files limits.all_bytes).found
