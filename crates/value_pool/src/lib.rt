@@ -5,6 +5,7 @@
 ghost use Rattle.std.specs.Prelude.{◌≡◌, ◌<◌, [], length, IfSome, IfNone, IfOk, OnOk, OnErr};
 ghost use Rattle.value_pool.specs.Pool.{HaveOneId, HasId, Interns, IsNew, KeepsIds};
 
+use hash_keys::HashKeys;
 use indexmap::IndexSet;
 use std::alloc::{AllocError, Global};
 use std::marker::Model;
@@ -17,7 +18,7 @@ pub type ValueId = usize;
 /// Contracts see the list of its texts, each as its bytes.
 #[derive(Drop)]
 pub struct Pool {
-    texts: IndexSet<String>,
+    texts: IndexSet<String, HashKeys>,
 }
 
 impl Model for Pool {
@@ -36,8 +37,15 @@ impl Pool {
     pub fn new(alloc: Global) -> Pool
         ensures { result ≡ [] }
     {
+        Pool::with_hasher(alloc, HashKeys::fixed())
+    }
+
+    /// An empty pool whose texts are hashed with these keys.
+    pub fn with_hasher(alloc: Global, keys: HashKeys) -> Pool
+        ensures { result ≡ [] }
+    {
         Pool {
-            texts: IndexSet::new(alloc),
+            texts: IndexSet::with_hasher(alloc, keys),
         }
     }
 
