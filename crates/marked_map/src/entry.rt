@@ -3,6 +3,7 @@
 ghost use Rattle.std.specs.Prelude.{◌≡◌, ◌+◌, ◌++◌, [], ◌∷◌, None, IfOk, OnOk, OnErr};
 ghost use Rattle.indexmap.specs.IndexMap.{get, insert_index, ContainsKey, IsUnique};
 
+use hash_keys::HashKeys;
 use indexmap::IndexMap;
 use indexmap::map::Entry;
 use probe_steps::Steps;
@@ -11,7 +12,7 @@ use std::hash::Hash;
 use std::sync::ledger::Ledger;
 
 pub(crate) fn find_or_push<K: Eq + Hash + Drop, V: Drop, L: Ledger>(
-    map: &mut IndexMap<K, V>,
+    map: &mut IndexMap<K, V, HashKeys>,
     key: K,
     fresh: V,
     steps: &mut Steps<L>,

@@ -17,6 +17,7 @@ ghost use Rattle.marked_map.specs.MarkedMap.{HaveDistinctKeys, Enters, HasKey, I
 mod entry;
 
 use entry::find_or_push;
+use hash_keys::HashKeys;
 use indexmap::IndexMap;
 use probe_steps::Steps;
 use std::alloc::{AllocError, Global};
@@ -29,7 +30,7 @@ use std::sync::ledger::Ledger;
 /// Contracts see the pairs in a list, and the number of those that are marked.
 #[derive(Drop)]
 pub struct MarkedMap<K: Eq + Hash, V> {
-    map: IndexMap<K, V>,
+    map: IndexMap<K, V, HashKeys>,
     marked: usize,
 }
 
@@ -49,8 +50,15 @@ impl<K: Eq + Hash, V> MarkedMap<K, V> {
     pub fn new(alloc: Global) -> MarkedMap<K, V>
         ensures { result ≡ record { pairs = []; marked = 0 } }
     {
+        MarkedMap::with_hasher(alloc, HashKeys::fixed())
+    }
+
+    /// An empty map whose keys are hashed with these keys of a hash.
+    pub fn with_hasher(alloc: Global, keys: HashKeys) -> MarkedMap<K, V>
+        ensures { result ≡ record { pairs = []; marked = 0 } }
+    {
         MarkedMap {
-            map: IndexMap::new(alloc),
+            map: IndexMap::with_hasher(alloc, keys),
             marked: 0,
         }
     }

@@ -7,6 +7,7 @@ ghost use Rattle.value_pool.specs.Pool.{HaveOneId, HasId, Interns, IsNew, KeepsI
 
 mod sought;
 
+use hash_keys::HashKeys;
 use indexmap::IndexSet;
 use sought::Sought;
 use std::alloc::{AllocError, Global};
@@ -16,12 +17,13 @@ use text_lists::Text;
 /// The place of a text in its pool.
 pub type ValueId = usize;
 
-/// Texts that are stored once, and named by numbers.
+/// Texts that are stored once, and named by numbers. A short one lies in the pool's own list, so most look-ups go to one
+/// place of memory beside the table of hashes.
 ///
 /// Contracts see the list of its texts, each as its bytes.
 #[derive(Drop)]
 pub struct Pool {
-    texts: IndexSet<Text>,
+    texts: IndexSet<Text, HashKeys>,
 }
 
 impl Model for Pool {
@@ -40,8 +42,15 @@ impl Pool {
     pub fn new(alloc: Global) -> Pool
         ensures { result ≡ [] }
     {
+        Pool::with_hasher(alloc, HashKeys::fixed())
+    }
+
+    /// An empty pool whose texts are hashed with these keys.
+    pub fn with_hasher(alloc: Global, keys: HashKeys) -> Pool
+        ensures { result ≡ [] }
+    {
         Pool {
-            texts: IndexSet::new(alloc),
+            texts: IndexSet::with_hasher(alloc, keys),
         }
     }
 
