@@ -6,6 +6,7 @@ ghost use Rattle.indexmap.specs.IndexMap.{spare};
 ghost use Rattle.desk_entries.specs.Entries.{entry_at, is_deletion, is_overtaken, last_live, version_of};
 ghost use Rattle.desk_entries.specs.Kept.{HasRoom, MayTake, RowKey, entry_kept, entry_new, kept_new, live_top, row_tops, same_row, tops_noted};
 
+use hash_keys::HashKeys;
 use indexmap::IndexMap;
 use std::alloc::{AllocError, Global};
 use std::marker::Model;
@@ -45,8 +46,8 @@ pub struct RowTops {
 #[derive(Drop)]
 pub struct Entries {
     list: Vec<Kept>,
-    live: IndexMap<Text, usize>,
-    rows: IndexMap<(usize, u64), RowTops>,
+    live: IndexMap<Text, usize, HashKeys>,
+    rows: IndexMap<(usize, u64), RowTops, HashKeys>,
 }
 
 impl Model for Entries {
@@ -66,10 +67,17 @@ impl Entries {
     pub fn new(alloc: Global) -> Entries
         ensures { result.entries ≡ [] }
     {
+        Entries::with_hasher(alloc, HashKeys::fixed())
+    }
+
+    /// No entries, which are to be found by a hash with these keys. It takes no memory.
+    pub fn with_hasher(alloc: Global, keys: HashKeys) -> Entries
+        ensures { result.entries ≡ [] }
+    {
         Entries {
             list: Vec::new(alloc),
-            live: IndexMap::new(alloc),
-            rows: IndexMap::new(alloc),
+            live: IndexMap::with_hasher(alloc, keys),
+            rows: IndexMap::with_hasher(alloc, keys),
         }
     }
 
@@ -150,7 +158,7 @@ fn kept_at(list: &[Kept], place: usize) -> Option<&Kept>
 }
 
 /// The last live number of an editor, 0 where there is none.
-fn live_at(live: &IndexMap<Text, usize>, editor: &Text) -> usize
+fn live_at(live: &IndexMap<Text, usize, HashKeys>, editor: &Text) -> usize
     ensures { result ≡ live_top live.now editor.now }
 {
     match live.get(editor) {
@@ -160,7 +168,7 @@ fn live_at(live: &IndexMap<Text, usize>, editor: &Text) -> usize
 }
 
 /// The last numbers on a row, each 0 where there is none.
-fn tops_at(rows: &IndexMap<(usize, u64), RowTops>, row: (usize, u64)) -> RowTops
+fn tops_at(rows: &IndexMap<(usize, u64), RowTops, HashKeys>, row: (usize, u64)) -> RowTops
     ensures { result ≡ row_tops rows.now row }
 {
     match rows.get(&row) {
@@ -173,7 +181,7 @@ fn tops_at(rows: &IndexMap<(usize, u64), RowTops>, row: (usize, u64)) -> RowTops
 }
 
 /// Puts the last live number of an editor.
-fn put_live(live: &mut IndexMap<Text, usize>, editor: Text, number: usize)
+fn put_live(live: &mut IndexMap<Text, usize, HashKeys>, editor: Text, number: usize)
     requires { 0 < spare live.old }
     ensures { (other : List ℕ) → live_top live.new other ≡ (if bytes_eq editor other then number else live_top live.old other) }
 {
@@ -181,7 +189,7 @@ fn put_live(live: &mut IndexMap<Text, usize>, editor: Text, number: usize)
 }
 
 /// Puts the last numbers on a row.
-fn put_row(rows: &mut IndexMap<(usize, u64), RowTops>, row: (usize, u64), tops: RowTops)
+fn put_row(rows: &mut IndexMap<(usize, u64), RowTops, HashKeys>, row: (usize, u64), tops: RowTops)
     requires { 0 < spare rows.old }
     ensures tops { (other : RowKey) → row_tops rows.new other ≡ (if same_row row other then tops else row_tops rows.old other) }
     ensures room { spare rows.old ≤ spare rows.new + 1 }
@@ -190,7 +198,7 @@ fn put_row(rows: &mut IndexMap<(usize, u64), RowTops>, row: (usize, u64), tops: 
 }
 
 /// The entry isn't live any more: unless it is a deletion, the one below it on its row is the last.
-fn retire_row(taken: &Kept, rows: &mut IndexMap<(usize, u64), RowTops>)
+fn retire_row(taken: &Kept, rows: &mut IndexMap<(usize, u64), RowTops, HashKeys>)
     requires { 1 < spare rows.old }
     ensures tops { (other : RowKey) → row_tops rows.new other ≡ (if not (is_deletion (entry_kept taken.now)) && same_row (taken.now.entry.table, taken.now.entry.row) other then record { version = (row_tops rows.old other).version; firm = taken.now.firm_below } else row_tops rows.old other) }
     ensures room { 0 < spare rows.new }
@@ -212,7 +220,7 @@ fn retire_row(taken: &Kept, rows: &mut IndexMap<(usize, u64), RowTops>)
 /// Appends an entry to the list, with what is below it, and puts it at the top of its row.
 fn note(
     list: &mut Vec<Kept>,
-    rows: &mut IndexMap<(usize, u64), RowTops>,
+    rows: &mut IndexMap<(usize, u64), RowTops, HashKeys>,
     entry: NewEntry,
     live_below: usize,
 )

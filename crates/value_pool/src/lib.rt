@@ -54,6 +54,11 @@ impl Pool {
         }
     }
 
+    /// The keys with which its texts are hashed, for maps beside it.
+    pub fn hash_keys(&self) -> HashKeys {
+        *self.texts.hasher()
+    }
+
     /// How many texts there are. Each number below it is the id of one.
     pub fn len(&self) -> usize
         ensures len { result ≡ length self.now }
