@@ -21,6 +21,7 @@ use crate::project::Project;
 use bench_index::AllIndexes;
 use cfd_semantics::Violation;
 use edit_log::Edit;
+use hash_keys::HashKeys;
 use master_index::MasterIndex;
 use probe_steps::Steps;
 use row_store::{RowId, RowStore};
@@ -52,9 +53,11 @@ impl Model for Bench {
 }
 
 impl Bench {
-    /// Takes the rows of each table, in the order of the schema. They get the ids 1, 2, 3 in order.
+    /// Takes the rows of each table, in the order of the schema. They get the ids 1, 2, 3 in order. All texts and ids are
+    /// looked up by a hash with these keys.
     pub fn load<L: Ledger>(
         alloc: Global,
+        keys: HashKeys,
         rules: RuleBook,
         tables: List<List<Texts>>,
         limits: Limits,
@@ -68,7 +71,7 @@ impl Bench {
         ensures valid { IfOk result (λ bench. IsHistory bench.rules bench.limits bench.history) }
         ensures probes { IfOk result (λ bench. steps.new ≤ steps.old + load_probes rules bench.history.present) }
     {
-        let (project, index) = Project::load(alloc, rules, tables, limits, steps)?;
+        let (project, index) = Project::load(alloc, keys, rules, tables, limits, steps)?;
         Ok(Bench { project, index })
     }
 

@@ -18,6 +18,7 @@ use crate::sizes::Counts;
 use crate::tuples::intern_all;
 use bench_index::AllIndexes;
 use edit_log::Log;
+use hash_keys::HashKeys;
 use probe_steps::Steps;
 use row_store::RowStore;
 use rule_model::RuleBook;
@@ -30,6 +31,7 @@ impl Project {
     /// Loads tables, in the order of the schema, unless they have too many rows or cells. The indexes follow each row.
     pub(crate) fn load<L: Ledger>(
         alloc: Global,
+        keys: HashKeys,
         rules: RuleBook,
         tables: List<List<Texts>>,
         limits: Limits,
@@ -44,7 +46,7 @@ impl Project {
         ensures made_with { IfOk result (λ all. (all.0.rules ≡ rules) × (all.0.limits ≡ limits)) }
         ensures probes { IfOk result (λ all. steps.new ≤ steps.old + load_probes rules (present_of all.0)) }
     {
-        let mut pool = Pool::new(alloc);
+        let mut pool = Pool::with_hasher(alloc, keys);
         let mut index = AllIndexes::new(alloc, &rules, &mut pool)?;
         // Asking for the schema says that the rules are valid.
         let _schema = rules.schema();

@@ -133,7 +133,7 @@ impl AllIndexes {
     {
         let index = BenchIndex::new(alloc, rules, pool)?;
         let lists = master_lists(alloc, rules)?;
-        let masters = MasterIndex::new(alloc, lists)?;
+        let masters = MasterIndex::new(alloc, pool.hash_keys(), lists)?;
         Ok(AllIndexes { index, masters })
     }
 

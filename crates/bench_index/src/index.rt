@@ -35,7 +35,7 @@ fn indexes_of_deps(
         let rule = dependency_by_ids(alloc, pool, &dep.rule)?;
         let x = rule.x.into_vec();
         let rows = rule.rows.into_vec();
-        all.push(GroupIndex::new(alloc, dep.table, x, rule.a, rows))?;
+        all.push(GroupIndex::new(alloc, pool.hash_keys(), dep.table, x, rule.a, rows))?;
     }
     Ok(all)
 }
@@ -52,7 +52,7 @@ fn indexes_of_cinds(
     let mut all = Vec::new(alloc);
     for cind in cinds {
         let rule = inclusion_by_ids(alloc, pool, &cind.rule)?;
-        all.push(CindIndex::new(alloc, cind.left, cind.right, rule))?;
+        all.push(CindIndex::new(alloc, pool.hash_keys(), cind.left, cind.right, rule))?;
     }
     Ok(all)
 }

@@ -8,6 +8,7 @@ ghost use Rattle.call_words.specs.Words.{HasForm, IsFit};
 use call_words::{Form, form_of};
 use cli_output::{Status, end_with};
 use find_form::find_project;
+use hash_keys::HashKeys;
 use probe_steps::Steps;
 use project_forms::{desk_project, generate_project, report_project, run_project};
 use rule_forms::{check_project, consistent_project, cover_project, implies_project};
@@ -52,12 +53,31 @@ pub fn run_with<S: Shelf, O: Sink>(
     // Where nothing is to be fetched, as for `generate`, no failed fetch is told.
     ensures unread { (task_of limits words.now).most_fetches ≡ 0 → result ≢ Status.ReadFault }
 {
-    run_opened::<S, O, Brand>(alloc, words, shelf, out, &limits, Blank::new(1))
+    run_with_keys(alloc, HashKeys::fixed(), words, shelf, out, limits)
+}
+
+/// The same, with keys of the hash by which the texts of tables are looked up. What is written doesn't depend on them.
+pub fn run_with_keys<S: Shelf, O: Sink>(
+    alloc: Global,
+    keys: HashKeys,
+    words: &Texts,
+    shelf: &mut S,
+    out: &mut O,
+    limits: Limits,
+) -> Status
+    requires { AreLimits limits }
+    ensures written { Writes (Output limits (task_of limits words.now) (S.told shelf.old).holding) result (O.told out.old).written (O.told out.new).written }
+    ensures usage { (HasForm words.now → ⊥) → (result ≡ Status.Usage) ⊎ (result ≡ Status.WriteFault) }
+    ensures devices { UsesDevices limits (task_of limits words.now) result (S.told shelf.old) (S.told shelf.new) (O.told out.old) (O.told out.new) }
+    ensures unread { (task_of limits words.now).most_fetches ≡ 0 → result ≢ Status.ReadFault }
+{
+    run_opened::<S, O, Brand>(alloc, keys, words, shelf, out, &limits, Blank::new(1))
 }
 
 /// The same, with a counter that is opened for this call. It takes no bytes, and nothing reads it.
 fn run_opened<S: Shelf, O: Sink, L: Ledger>(
     alloc: Global,
+    keys: HashKeys,
     words: &Texts,
     shelf: &mut S,
     out: &mut O,
@@ -74,7 +94,7 @@ fn run_opened<S: Shelf, O: Sink, L: Ledger>(
     ensures unread { (task_of limits.now words.now).most_fetches ≡ 0 → result ≢ Status.ReadFault }
 {
     let mut steps = Steps::<L>::open(blank);
-    run_counted(alloc, words, shelf, out, limits, &mut steps)
+    run_keyed(alloc, keys, words, shelf, out, limits, &mut steps)
 }
 
 /// The same, with the counter of index probes of the caller.
@@ -96,9 +116,29 @@ pub fn run_counted<S: Shelf, O: Sink, L: Ledger>(
     // command took no more of them than it may.
     ensures probes { IsWhole result → Writes (Output limits.now (counted_task_of steps.old steps.new limits.now words.now) (S.told shelf.old).holding) result (O.told out.old).written (O.told out.new).written }
 {
+    run_keyed(alloc, HashKeys::fixed(), words, shelf, out, limits, steps)
+}
+
+/// The same, with keys of the hash by which the texts of tables are looked up.
+pub fn run_keyed<S: Shelf, O: Sink, L: Ledger>(
+    alloc: Global,
+    keys: HashKeys,
+    words: &Texts,
+    shelf: &mut S,
+    out: &mut O,
+    limits: &Limits,
+    steps: &mut Steps<L>,
+) -> Status
+    requires { AreLimits limits.now }
+    ensures written { Writes (Output limits.now (task_of limits.now words.now) (S.told shelf.old).holding) result (O.told out.old).written (O.told out.new).written }
+    ensures usage { (HasForm words.now → ⊥) → (result ≡ Status.Usage) ⊎ (result ≡ Status.WriteFault) }
+    ensures devices { UsesDevices limits.now (task_of limits.now words.now) result (S.told shelf.old) (S.told shelf.new) (O.told out.old) (O.told out.new) }
+    ensures unread { (task_of limits.now words.now).most_fetches ≡ 0 → result ≢ Status.ReadFault }
+    ensures probes { IsWhole result → Writes (Output limits.now (counted_task_of steps.old steps.new limits.now words.now) (S.told shelf.old).holding) result (O.told out.old).written (O.told out.new).written }
+{
     match form_of(alloc, words.as_slice()) {
         Ok(None) => end_with(out, USAGE.as_bytes(), Status::Usage),
-        Ok(Some(form)) => answer(alloc, &form, shelf, out, limits, steps),
+        Ok(Some(form)) => answer(alloc, keys, &form, shelf, out, limits, steps),
         Err(AllocError) => Status::Memory,
     }
 }
@@ -106,6 +146,7 @@ pub fn run_counted<S: Shelf, O: Sink, L: Ledger>(
 /// Does what a form asks for.
 fn answer<S: Shelf, O: Sink, L: Ledger>(
     alloc: Global,
+    keys: HashKeys,
     form: &Form,
     shelf: &mut S,
     out: &mut O,
@@ -120,8 +161,8 @@ fn answer<S: Shelf, O: Sink, L: Ledger>(
     ensures probes { IsWhole result → Writes (Output limits.now (counted_form_task steps.old steps.new limits.now (Some form.now)) (S.told shelf.old).holding) result (O.told out.old).written (O.told out.new).written }
 {
     match form {
-        Form::Run { project } => run_project(alloc, project, shelf, out, limits, steps),
-        Form::Report { project } => report_project(alloc, project, shelf, out, limits, steps),
+        Form::Run { project } => run_project(alloc, keys, project, shelf, out, limits, steps),
+        Form::Report { project } => report_project(alloc, keys, project, shelf, out, limits, steps),
         Form::Consistent {
             project,
             table,
@@ -145,6 +186,7 @@ fn answer<S: Shelf, O: Sink, L: Ledger>(
             support,
         } => find_project(
             alloc,
+            keys,
             project,
             table,
             *width as usize,
@@ -154,7 +196,7 @@ fn answer<S: Shelf, O: Sink, L: Ledger>(
             limits,
         ),
         Form::Desk { project, events } => {
-            desk_project(alloc, project, events, shelf, out, limits, steps)
+            desk_project(alloc, keys, project, events, shelf, out, limits, steps)
         }
         Form::Generate { seed } => generate_project(alloc, *seed, out, steps),
     }

@@ -5,5 +5,5 @@
 mod program;
 
 pub use cli_output::Status;
-pub use program::{run, run_with};
+pub use program::{run, run_with, run_with_keys};
 pub use view_words::fault_text;

@@ -5,6 +5,7 @@ ghost use Rattle.cli_output.specs.Output.{Output, UsesDevices, Writes};
 ghost use Rattle.cfd_view.specs.Asked.{asked_task, form_task, help_task, task_of};
 
 use cli_output::{Status, end_with};
+use hash_keys::HashKeys;
 use schema_core::{Limits, Texts};
 use shelf_io::{Shelf, Sink};
 use std::alloc::{AllocError, Global};
@@ -39,8 +40,24 @@ pub fn run_with<S: Shelf, O: Sink>(
     // Nothing is fetched that isn't asked for, and a fault is told only where a device counted one.
     ensures devices { UsesDevices limits (task_of limits words.now) result (S.told shelf.old) (S.told shelf.new) (O.told out.old) (O.told out.new) }
 {
+    run_with_keys(alloc, HashKeys::fixed(), words, shelf, out, limits)
+}
+
+/// The same, with keys of the hash by which the texts of tables are looked up. What is written doesn't depend on them.
+pub fn run_with_keys<S: Shelf, O: Sink>(
+    alloc: Global,
+    keys: HashKeys,
+    words: &Texts,
+    shelf: &mut S,
+    out: &mut O,
+    limits: Limits,
+) -> Status
+    requires { AreLimits limits }
+    ensures written { Writes (Output limits (task_of limits words.now) (S.told shelf.old).holding) result (O.told out.old).written (O.told out.new).written }
+    ensures devices { UsesDevices limits (task_of limits words.now) result (S.told shelf.old) (S.told shelf.new) (O.told out.old) (O.told out.new) }
+{
     match asked_of(alloc, words.as_slice()) {
-        Ok(asked) => answer(alloc, words, &asked, shelf, out, &limits),
+        Ok(asked) => answer(alloc, keys, words, &asked, shelf, out, &limits),
         Err(AllocError) => Status::Memory,
     }
 }
@@ -48,6 +65,7 @@ pub fn run_with<S: Shelf, O: Sink>(
 /// Does what was asked for by the words.
 fn answer<S: Shelf, O: Sink>(
     alloc: Global,
+    keys: HashKeys,
     words: &Texts,
     asked: &Asked,
     shelf: &mut S,
@@ -59,7 +77,7 @@ fn answer<S: Shelf, O: Sink>(
     ensures devices { UsesDevices limits.now (asked_task limits.now asked.now) result (S.told shelf.old) (S.told shelf.new) (O.told out.old) (O.told out.new) }
 {
     match asked {
-        Asked::Form(form) => answer_form(alloc, form, shelf, out, limits),
+        Asked::Form(form) => answer_form(alloc, keys, form, shelf, out, limits),
         Asked::Help => help(alloc, words, shelf, out, limits),
         Asked::Nothing => Status::Usage,
     }
@@ -67,6 +85,7 @@ fn answer<S: Shelf, O: Sink>(
 
 fn answer_form<S: Shelf, O: Sink>(
     alloc: Global,
+    keys: HashKeys,
     form: &Form,
     shelf: &mut S,
     out: &mut O,
@@ -77,11 +96,11 @@ fn answer_form<S: Shelf, O: Sink>(
     ensures devices { UsesDevices limits.now (form_task limits.now form.now) result (S.told shelf.old) (S.told shelf.new) (O.told out.old) (O.told out.new) }
 {
     match form {
-        Form::List(options) => list_project(alloc, options, shelf, out, limits),
-        Form::Row(options) => row_project(alloc, options, shelf, out, limits),
-        Form::Check { project } => look_at_project(alloc, project, shelf, out, limits),
-        Form::Schema { files } => draft_schema(alloc, files.as_slice(), shelf, out, limits),
-        Form::Page(options) => page_project(alloc, options, shelf, out, limits),
+        Form::List(options) => list_project(alloc, keys, options, shelf, out, limits),
+        Form::Row(options) => row_project(alloc, keys, options, shelf, out, limits),
+        Form::Check { project } => look_at_project(alloc, keys, project, shelf, out, limits),
+        Form::Schema { files } => draft_schema(alloc, keys, files.as_slice(), shelf, out, limits),
+        Form::Page(options) => page_project(alloc, keys, options, shelf, out, limits),
     }
 }
 

@@ -2,14 +2,15 @@
 //! status's number.
 #![tactic(auto)]
 
-use cfd_view::{Status, fault_text, run};
+use cfd_view::{Status, fault_text, run_with_keys};
+use hash_keys::HashKeys;
 use shelf_io::{FolderShelf, StdSink};
 use std::alloc::AllocError;
 use std::io::ErrorKind;
 use std::process::ExitCode;
 use std::rt::{Env, Files};
 use std::{env, io};
-use text_lists::{List, Text, Texts};
+use text_lists::{Limits, List, Text, Texts};
 
 // The words after the program's name. Where one of them isn't UTF-8 there are none, which have no form either.
 fn words_of<R: Env + AllocGlobal>(rt: &R) -> Result<Texts, AllocError> {
@@ -54,7 +55,9 @@ fn main(rt: HostRuntime) -> ExitCode {
         Ok(words) => {
             let mut shelf = FolderShelf::new(alloc, rt);
             let mut out = StdSink::new(rt);
-            let status = run(alloc, &words, &mut shelf, &mut out);
+            let keys = HashKeys::drawn(&rt);
+            let limits = Limits::standard();
+            let status = run_with_keys(alloc, keys, &words, &mut shelf, &mut out, limits);
             tell(rt, &words, status, &shelf);
             status
         }

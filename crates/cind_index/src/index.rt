@@ -11,6 +11,7 @@ ghost use Rattle.cind_index.specs.Orphans.{AreOrphans, IsDirtyCount, IsOrphanCou
 use crate::ids::{Ids, has_ids, write_ids};
 use crate::keys::Keys;
 use cfd_semantics::{Inclusion, InclusionRow};
+use hash_keys::HashKeys;
 use marked_map::MarkedMap;
 use probe_steps::Steps;
 use row_store::{RowId, Tuple};
@@ -36,8 +37,14 @@ pub struct CindIndex {
 }
 
 impl CindIndex {
-    /// An index without entries, which takes no memory yet.
-    pub fn new(alloc: Global, left: usize, right: usize, rule: Inclusion<ValueId>) -> CindIndex
+    /// An index without entries, which takes no memory yet. Its keys are looked up by a hash with `hash_keys`.
+    pub fn new(
+        alloc: Global,
+        hash_keys: HashKeys,
+        left: usize,
+        right: usize,
+        rule: Inclusion<ValueId>,
+    ) -> CindIndex
         ensures left { result.left ≡ left }
         ensures right { result.right ≡ right }
         ensures rule { result.rule ≡ rule }
@@ -48,7 +55,7 @@ impl CindIndex {
             left,
             right,
             rule,
-            keys: MarkedMap::new(alloc),
+            keys: MarkedMap::with_hasher(alloc, hash_keys),
             key: Ids::new(alloc),
             pattern: Ids::new(alloc),
         }

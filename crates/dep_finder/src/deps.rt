@@ -10,6 +10,7 @@ ghost use Rattle.dep_finder.specs.Minimal.{AreLeast};
 
 use cfd_semantics::{Dependency, Pattern, TableauRow};
 use dep_search::{Candidate, FindFault, all_found, left_sides, sorted};
+use hash_keys::HashKeys;
 use rule_model::{Cell, Dep};
 use schema_core::{List, Table, Text, Texts};
 use std::alloc::{AllocError, Global};
@@ -18,6 +19,7 @@ use std::alloc::{AllocError, Global};
 /// part: plain ones, and constant ones that at least so many rows match. They are named d1, d2 and so on.
 pub fn find_deps(
     alloc: Global,
+    keys: HashKeys,
     table: &Table,
     number: usize,
     rows: &List<Texts>,
@@ -38,7 +40,7 @@ pub fn find_deps(
     let rows = rows.as_slice();
     let attrs = table.attrs.as_slice().len();
     let sides = left_sides(alloc, attrs, width)?;
-    let found = all_found(alloc, rows, attrs, support, sides.as_slice(), most)?;
+    let found = all_found(alloc, keys, rows, attrs, support, sides.as_slice(), most)?;
     let found = sorted(alloc, rows, sides.as_slice(), found.as_slice())?;
     Ok(deps_of(alloc, number, rows, sides.as_slice(), found.as_slice())?)
 }

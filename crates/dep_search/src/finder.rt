@@ -16,6 +16,7 @@ use crate::grouped::{Grouped, grouped_by, leads, with_attr};
 use crate::parts::proper_parts;
 use crate::settled::Settled;
 use crate::table::Table;
+use hash_keys::HashKeys;
 use std::alloc::{AllocError, Global};
 use std::slice;
 use text_lists::{List, Texts};
@@ -384,6 +385,7 @@ fn width(sides: &[List<usize>]) -> usize {
 #[tactic(auto, unfolding(crate::specs::Found::all_found))]
 pub fn all_found(
     alloc: Global,
+    keys: HashKeys,
     rows: &[Texts],
     attrs: usize,
     support: usize,
@@ -398,7 +400,7 @@ pub fn all_found(
     ensures few { IfOk result (λ found. length found ≤ most) }
     ensures many { IfErr result (λ fault. fault ≡ TooMany → most < length (all_found rows.now support attrs sides.now)) }
 {
-    let columns = columns(alloc, rows, attrs)?;
+    let columns = columns(alloc, keys, rows, attrs)?;
     let table = Table {
         rows,
         columns: columns.as_slice(),

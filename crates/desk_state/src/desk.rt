@@ -55,10 +55,11 @@ impl Desk {
         ensures reached { IsReached result }
     {
         let _valid = bench.rules();
+        let keys = bench.pool().hash_keys();
         Desk {
             alloc,
             bench,
-            entries: Entries::new(alloc),
+            entries: Entries::with_hasher(alloc, keys),
             last,
         }
     }

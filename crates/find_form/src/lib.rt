@@ -12,6 +12,7 @@ ghost use Rattle.find_form.specs.FindForm.{IsFoundText, IsTooMany, fetch_asked, 
 
 use cli_output::{Cause, Status, Stop, end_by, end_with, fetch_schema, fetch_table, refused};
 use dep_finder::{FindFault, find_deps, found_text};
+use hash_keys::HashKeys;
 use schema_core::{Limits, List, Schema, Table, Text, Texts};
 use shelf_io::{Shelf, Sink};
 use std::alloc::Global;
@@ -31,6 +32,7 @@ pub struct Asked {
 /// constant ones that at least so many rows match.
 pub fn find_project<S: Shelf, O: Sink>(
     alloc: Global,
+    keys: HashKeys,
     project: &Text,
     table: &Text,
     width: usize,
@@ -48,7 +50,7 @@ pub fn find_project<S: Shelf, O: Sink>(
 {
     let mut left = limits.all_bytes;
     match fetch_asked(alloc, shelf, project, table, limits, &mut left) {
-        Ok(asked) => answer(alloc, &asked, table, width, support, out),
+        Ok(asked) => answer(alloc, keys, &asked, table, width, support, out),
         Err(stop) => end_by(alloc, &stop, out),
     }
 }
@@ -109,6 +111,7 @@ fn known(schema: Schema, name: &Text) -> Result<(usize, Table), Stop>
 /// Writes what is found, or the refusal of the word where that is too much.
 fn answer<O: Sink>(
     alloc: Global,
+    keys: HashKeys,
     asked: &Asked,
     name: &Text,
     width: usize,
@@ -121,7 +124,7 @@ fn answer<O: Sink>(
     requires support { 1 ≤ support }
     ensures { Ends (find_outputs name.now width support asked.now) result (O.told out.old) (O.told out.new) }
 {
-    match found_in(alloc, asked, name, width, support) {
+    match found_in(alloc, keys, asked, name, width, support) {
         Ok(text) => end_with(out, &text, Status::Clean),
         Err(stop) => end_by(alloc, &stop, out),
     }
@@ -129,6 +132,7 @@ fn answer<O: Sink>(
 
 fn found_in(
     alloc: Global,
+    keys: HashKeys,
     asked: &Asked,
     name: &Text,
     width: usize,
@@ -143,6 +147,7 @@ fn found_in(
 {
     match find_deps(
         alloc,
+        keys,
         &asked.table,
         asked.number,
         &asked.rows,

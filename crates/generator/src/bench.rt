@@ -7,6 +7,7 @@ ghost use Rattle.generator.specs.Project.{AreRules, Begins, rows};
 use crate::draws::Draws;
 use crate::project::{draw_rows, master_rows, rules};
 use bench_core::Bench;
+use hash_keys::HashKeys;
 use probe_steps::Steps;
 use schema_core::{Limits, List};
 use std::alloc::{AllocError, Global};
@@ -27,7 +28,14 @@ pub fn draw_bench<L: Ledger>(
     let mut tables = List::new(alloc);
     tables.push(draw_rows(alloc, draws)?)?;
     tables.push(master_rows(alloc, 4_500)?)?;
-    match Bench::load(alloc, rules, tables, Limits::standard(), steps) {
+    match Bench::load(
+        alloc,
+        HashKeys::fixed(),
+        rules,
+        tables,
+        Limits::standard(),
+        steps,
+    ) {
         Ok(bench) => Ok(bench),
         // The rows are far fewer than the limits take.
         Err(_) => Err(AllocError),

@@ -13,6 +13,7 @@ use crate::key::{Key, make_room, same_entry, write_key};
 use crate::tableau::Tableau;
 use crate::violations::collect;
 use cfd_semantics::{Pattern, TableauRow, Violation};
+use hash_keys::HashKeys;
 use marked_map::MarkedMap;
 use probe_steps::Steps;
 use row_store::{RowId, Tuple, Watch};
@@ -54,8 +55,15 @@ impl Model for GroupIndex {
 }
 
 impl GroupIndex {
-    /// An index without entries.
-    pub fn new(alloc: Global, table: usize, x: Vec<usize>, a: usize, rows: Vec<IdRow>) -> GroupIndex
+    /// An index without entries, whose groups are looked up by a hash with these keys.
+    pub fn new(
+        alloc: Global,
+        keys: HashKeys,
+        table: usize,
+        x: Vec<usize>,
+        a: usize,
+        rows: Vec<IdRow>,
+    ) -> GroupIndex
         ensures { result ≡ record { made = record { table = table; dependency = record { x = x.items; a = a; rows = rows.items } }; entries = []; dirty = 0 } }
     {
         GroupIndex {
@@ -63,7 +71,7 @@ impl GroupIndex {
             x: List::from(x),
             a,
             tableau: Tableau::new(alloc, rows),
-            groups: MarkedMap::new(alloc),
+            groups: MarkedMap::with_hasher(alloc, keys),
             key: SmallVec::new(alloc),
         }
     }

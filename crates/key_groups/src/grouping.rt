@@ -4,6 +4,7 @@ ghost use Rattle.std.specs.Prelude.{◌≡◌, ◌++◌, [], ◌∷◌, None, If
 ghost use Rattle.indexmap.specs.IndexMap.{get, insert_index, ContainsKey};
 ghost use Rattle.key_groups.specs.Groups.{by_key, with_item};
 
+use hash_keys::HashKeys;
 use indexmap::IndexMap;
 use indexmap::map::Entry;
 use std::alloc::{AllocError, Global};
@@ -11,14 +12,15 @@ use std::hash::Hash;
 use text_lists::List;
 
 /// The items by their keys, in the order in which the keys first stand; those of one key stand as they stood. Each key is
-/// hashed once.
+/// hashed once, with these keys of a hash.
 pub fn by_key<K: Eq + Hash + Drop, T: Drop>(
     alloc: Global,
+    keys: HashKeys,
     items: Vec<(K, T)>,
 ) -> Result<Vec<(K, List<T>)>, AllocError>
     ensures { IfOk result (λ groups. groups.items ≡ by_key K.eq items.items) }
 {
-    let mut groups = IndexMap::new(alloc);
+    let mut groups = IndexMap::with_hasher(alloc, keys);
     for (key, item) in items {
         add(alloc, &mut groups, key, item)?;
     }
@@ -28,7 +30,7 @@ pub fn by_key<K: Eq + Hash + Drop, T: Drop>(
 /// Adds an item to the group of its key, or begins one.
 fn add<K: Eq + Hash + Drop, T: Drop>(
     alloc: Global,
-    groups: &mut IndexMap<K, List<T>>,
+    groups: &mut IndexMap<K, List<T>, HashKeys>,
     key: K,
     item: T,
 ) -> Result<(), AllocError>
@@ -40,7 +42,7 @@ fn add<K: Eq + Hash + Drop, T: Drop>(
 
 /// The place of a key, which comes in last with no items where it is new.
 fn find_or_begin<K: Eq + Hash + Drop, T: Drop>(
-    groups: &mut IndexMap<K, List<T>>,
+    groups: &mut IndexMap<K, List<T>, HashKeys>,
     key: K,
     none: List<T>,
 ) -> Result<usize, AllocError>

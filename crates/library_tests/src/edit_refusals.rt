@@ -6,6 +6,7 @@ ghost use Rattle.bench_core.specs.Loading.{AreTables};
 
 use bench_core::*;
 use edit_log::Edit;
+use hash_keys::HashKeys;
 use probe_steps::Steps;
 use row_store::RowId;
 use rule_model::RuleBook;
@@ -80,7 +81,7 @@ fn bench<L: Ledger>(alloc: Global, steps: &mut Steps<L>) -> Result<Bench, Fail> 
     let schema = parse_schema(alloc, SCHEMA, &limits)?;
     let tables = no_rows(alloc, &schema)?;
     let rules = RuleBook::new(alloc, schema, limits);
-    Ok(Bench::load(alloc, rules, tables, limits, steps)?)
+    Ok(Bench::load(alloc, HashKeys::fixed(), rules, tables, limits, steps)?)
 }
 
 fn row_id(word: &str) -> RowId {

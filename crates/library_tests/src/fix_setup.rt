@@ -7,6 +7,7 @@ ghost use Rattle.rule_model.specs.Books.{book_edits};
 ghost use Rattle.master_index.specs.declared.column_list.ColumnList.{ColumnList};
 ghost use Rattle.rule_runs.specs.Starts.{AreMasters, IsStart};
 
+use hash_keys::HashKeys;
 use master_index::{ColumnList, MasterIndex};
 use probe_steps::Steps;
 use row_store::{RowId, Tuple};
@@ -108,7 +109,7 @@ fn masters_of<L: Ledger>(
 ) -> Result<MasterIndex, AllocError>
     ensures { IfOk result (AreMasters rules.now pool.now) }
 {
-    let mut masters = MasterIndex::new(alloc, column_lists(alloc, rules)?)?;
+    let mut masters = MasterIndex::new(alloc, HashKeys::fixed(), column_lists(alloc, rules)?)?;
     for line in rows.lines() {
         let (name, cells) = cut(line, ";");
         let tuple = tuple_of(alloc, pool, cells)?;

@@ -4,6 +4,7 @@ ghost use Rattle.std.specs.Prelude.{◌≡◌, length, All};
 
 use csv_tables::read_table;
 use dep_finder::{FindFault, find_deps};
+use hash_keys::HashKeys;
 use schema_core::{Limits, List, Table, Texts, parse_schema};
 use std::alloc::{AllocError, Global};
 use std::process::Abort;
@@ -23,7 +24,7 @@ fn count(
 ) -> Result<Option<usize>, AllocError>
     requires { All (λ row. length row ≡ length table.now.attrs) rows.now }
 {
-    match find_deps(alloc, table, 0, rows, 1, 2, most) {
+    match find_deps(alloc, HashKeys::fixed(), table, 0, rows, 1, 2, most) {
         Ok(found) => Ok(Some(found.as_slice().len())),
         Err(FindFault::TooMany) => Ok(None),
         Err(FindFault::Memory) => Err(AllocError),

@@ -10,6 +10,7 @@ ghost use Rattle.std.proofs.lemmas.Bool.Decides.{nat_tests};
 use crate::column_list::ColumnList;
 use crate::column_rows::{ColumnRows, put_row, rows_with, take_row};
 use crate::key::Key;
+use hash_keys::HashKeys;
 use indexmap::IndexMap;
 use probe_steps::Steps;
 use row_store::{RowId, Tuple, Watch};
@@ -28,14 +29,18 @@ pub(crate) struct ColumnIndex {
 }
 
 impl ColumnIndex {
-    pub(crate) fn new(alloc: Global, list: ColumnList) -> Result<ColumnIndex, AllocError>
+    pub(crate) fn new(
+        alloc: Global,
+        keys: HashKeys,
+        list: ColumnList,
+    ) -> Result<ColumnIndex, AllocError>
         ensures list { IfOk result (λ index. index.list ≡ list) }
         ensures empty { IfOk result (λ index. (ids : List ℕ) (row : ℕ) → is_under ids row index.rows.entries ≡ false) }
     {
         let key = Key::with_capacity(alloc, list.columns.as_slice().len())?;
         Ok(ColumnIndex {
             list,
-            rows: IndexMap::new(alloc),
+            rows: IndexMap::with_hasher(alloc, keys),
             key,
         })
     }

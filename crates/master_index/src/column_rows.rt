@@ -7,6 +7,7 @@ ghost use Rattle.master_index.specs.ColumnRows.{rows_under, AreOrderly, HasKeyAt
 use crate::entry::find_or_push;
 use crate::key::{Ids, Key};
 use crate::rising::RowIds;
+use hash_keys::HashKeys;
 use indexmap::IndexMap;
 use probe_steps::Steps;
 use row_store::RowId;
@@ -14,7 +15,7 @@ use std::alloc::AllocError;
 use std::sync::ledger::Ledger;
 use value_pool::ValueId;
 
-pub(crate) type ColumnRows = IndexMap<Key, RowIds>;
+pub(crate) type ColumnRows = IndexMap<Key, RowIds, HashKeys>;
 
 /// The rows under a key.
 pub(crate) fn rows_with<'a>(map: &'a ColumnRows, ids: &[ValueId]) -> &'a [RowId]

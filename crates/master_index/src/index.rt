@@ -8,6 +8,7 @@ ghost use Rattle.master_index.specs.Masters.{IsRowWith, IsWideFor, lists_of};
 use crate::column_index::ColumnIndex;
 use crate::column_list::ColumnList;
 use crate::tables::Tables;
+use hash_keys::HashKeys;
 use probe_steps::Steps;
 use row_store::{RowId, Tuple, add_to_all, remove_from_all};
 use std::alloc::{AllocError, Global};
@@ -43,14 +44,18 @@ impl Model for MasterIndex {
 }
 
 impl MasterIndex {
-    /// An index without rows, for these lists of columns.
-    pub fn new(alloc: Global, lists: Vec<ColumnList>) -> Result<MasterIndex, AllocError>
+    /// An index without rows, for these lists of columns. The values are looked up by a hash with these keys.
+    pub fn new(
+        alloc: Global,
+        keys: HashKeys,
+        lists: Vec<ColumnList>,
+    ) -> Result<MasterIndex, AllocError>
         ensures lists { IfOk result (λ index. index.lists ≡ lists.items) }
         ensures empty { IfOk result (λ index. index.rows ≡ finite.empty) }
     {
         let mut columns = Vec::with_capacity(alloc, lists.len())?;
         for list in lists {
-            columns.push(ColumnIndex::new(alloc, list)?)?;
+            columns.push(ColumnIndex::new(alloc, keys, list)?)?;
         }
         Ok(MasterIndex {
             columns,

@@ -15,6 +15,7 @@ use cli_output::{
     Cause, LineFlaw, Status, Stop, end_by, fetch_file, fetch_rules, fetch_schema, refused,
 };
 use desk::{Desk, DeskFault, Event, EventCause, EventFault, parse_events, serve_desk};
+use hash_keys::HashKeys;
 use probe_steps::Steps;
 use schema_core::{Limits, List, Text};
 use shelf_io::{Shelf, Sink};
@@ -31,6 +32,7 @@ pub struct DeskFiles {
 /// Answers the events of a file over the tables of a project.
 pub fn desk_project<S: Shelf, O: Sink, L: Ledger>(
     alloc: Global,
+    keys: HashKeys,
     project: &Text,
     events: &Text,
     shelf: &mut S,
@@ -43,7 +45,9 @@ pub fn desk_project<S: Shelf, O: Sink, L: Ledger>(
     ensures devices { UsesDevices limits.now (desk_task limits.now project.now events.now) result (S.told shelf.old) (S.told shelf.new) (O.told out.old) (O.told out.new) }
 {
     let mut left = limits.all_bytes;
-    match fetch_desk(alloc, shelf, project, events, limits, &mut left, steps) {
+    match fetch_desk(
+        alloc, keys, shelf, project, events, limits, &mut left, steps,
+    ) {
         Ok(files) => answer(alloc, files, out, limits.last_id, steps),
         Err(stop) => end_by(alloc, &stop, out),
     }
@@ -53,6 +57,7 @@ pub fn desk_project<S: Shelf, O: Sink, L: Ledger>(
 #[tactic(auto, unfolding(crate::specs::DeskForm::fetch_desk))]
 fn fetch_desk<S: Shelf, L: Ledger>(
     alloc: Global,
+    keys: HashKeys,
     shelf: &mut S,
     name: &Text,
     events: &Text,
@@ -65,7 +70,7 @@ fn fetch_desk<S: Shelf, L: Ledger>(
 {
     let schema = fetch_schema(alloc, shelf, name, limits, left)?;
     let rules = fetch_rules(alloc, shelf, schema, limits, left)?;
-    let bench = fetch_bench(alloc, shelf, rules, limits, left, steps)?;
+    let bench = fetch_bench(alloc, keys, shelf, rules, limits, left, steps)?;
     let events = fetch_events(alloc, shelf, events, limits, left)?;
     Ok(DeskFiles { bench, events })
 }

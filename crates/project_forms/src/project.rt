@@ -11,6 +11,7 @@ ghost use Rattle.project_forms.specs.Project.{LeadsTo, fetch_bench, fetch_comman
 use crate::tables::{fetch_tables, load};
 use bench_core::Bench;
 use cli_output::{Cause, LineFlaw, Stop, fetch_file, fetch_rules, fetch_schema, refused};
+use hash_keys::HashKeys;
 use probe_steps::Steps;
 use rule_model::RuleBook;
 use schema_core::{Limits, List, Schema, Text};
@@ -30,6 +31,7 @@ pub struct Project {
 #[tactic(auto, unfolding(crate::specs::Project::fetch_project))]
 pub fn fetch_project<S: Shelf, L: Ledger>(
     alloc: Global,
+    keys: HashKeys,
     shelf: &mut S,
     name: &Text,
     limits: &Limits,
@@ -42,7 +44,7 @@ pub fn fetch_project<S: Shelf, L: Ledger>(
 {
     let schema = fetch_schema(alloc, shelf, name, limits, left)?;
     let rules = fetch_rules(alloc, shelf, schema, limits, left)?;
-    let bench = fetch_bench(alloc, shelf, rules, limits, left, steps)?;
+    let bench = fetch_bench(alloc, keys, shelf, rules, limits, left, steps)?;
     let commands = fetch_commands(alloc, shelf, bench.rules().schema(), limits, left)?;
     Ok(Project { bench, commands })
 }
@@ -50,6 +52,7 @@ pub fn fetch_project<S: Shelf, L: Ledger>(
 #[tactic(auto, unfolding(crate::specs::Project::fetch_bench))]
 pub fn fetch_bench<S: Shelf, L: Ledger>(
     alloc: Global,
+    keys: HashKeys,
     shelf: &mut S,
     rules: RuleBook,
     limits: &Limits,
@@ -61,7 +64,7 @@ pub fn fetch_bench<S: Shelf, L: Ledger>(
     ensures probes { IfOk result (λ bench. steps.new ≤ steps.old + load_probes bench.rules bench.history.present) }
 {
     let tables = fetch_tables(alloc, shelf, rules.schema().tables.as_slice(), limits, left)?;
-    load(alloc, rules, tables, limits, steps)
+    load(alloc, keys, rules, tables, limits, steps)
 }
 
 fn fetch_commands<S: Shelf>(

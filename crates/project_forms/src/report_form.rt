@@ -11,6 +11,7 @@ ghost use Rattle.project_forms.specs.Transcripts.{found_status};
 use crate::project::{Project, after_script, fetch_project};
 use bench_core::Bench;
 use cli_output::{Status, end_by, end_with};
+use hash_keys::HashKeys;
 use probe_steps::Steps;
 use schema_core::{Limits, Text};
 use shelf_io::{Shelf, Sink};
@@ -21,6 +22,7 @@ use violation_report::{json_report, list};
 /// Tells what the script of a project leads to.
 pub fn report_project<S: Shelf, O: Sink, L: Ledger>(
     alloc: Global,
+    keys: HashKeys,
     project: &Text,
     shelf: &mut S,
     out: &mut O,
@@ -32,7 +34,7 @@ pub fn report_project<S: Shelf, O: Sink, L: Ledger>(
     ensures devices { UsesDevices limits.now (report_task limits.now project.now) result (S.told shelf.old) (S.told shelf.new) (O.told out.old) (O.told out.new) }
 {
     let mut left = limits.all_bytes;
-    match fetch_project(alloc, shelf, project, limits, &mut left, steps) {
+    match fetch_project(alloc, keys, shelf, project, limits, &mut left, steps) {
         Ok(project) => report(alloc, project, out, steps),
         Err(stop) => end_by(alloc, &stop, out),
     }

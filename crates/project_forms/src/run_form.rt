@@ -9,6 +9,7 @@ ghost use Rattle.project_forms.specs.Transcripts.{HasStatus};
 use crate::project::{Project, fetch_project};
 use bench_core::Bench;
 use cli_output::{Status, end_by};
+use hash_keys::HashKeys;
 use probe_steps::Steps;
 use schema_core::{Limits, Text};
 use session::{ServeFault, serve};
@@ -20,6 +21,7 @@ use violation_report::is_clean;
 /// Answers the script of a project.
 pub fn run_project<S: Shelf, O: Sink, L: Ledger>(
     alloc: Global,
+    keys: HashKeys,
     project: &Text,
     shelf: &mut S,
     out: &mut O,
@@ -34,7 +36,7 @@ pub fn run_project<S: Shelf, O: Sink, L: Ledger>(
     ensures probes { IsWhole result → Writes (Output limits.now (counted_run_task steps.old steps.new limits.now project.now) (S.told shelf.old).holding) result (O.told out.old).written (O.told out.new).written }
 {
     let mut left = limits.all_bytes;
-    match fetch_project(alloc, shelf, project, limits, &mut left, steps) {
+    match fetch_project(alloc, keys, shelf, project, limits, &mut left, steps) {
         Ok(project) => answer(alloc, project, out, steps),
         Err(stop) => end_by(alloc, &stop, out),
     }

@@ -10,6 +10,7 @@ ghost use Rattle.project_forms.specs.Project.{bench_of, fetch_tables, tables_of}
 
 use bench_core::{Bench, LoadFault};
 use cli_output::{Cause, Stop, fetch_table, refused};
+use hash_keys::HashKeys;
 use probe_steps::Steps;
 use rule_model::RuleBook;
 use schema_core::{Limits, List, Schema, Table, Texts};
@@ -40,6 +41,7 @@ pub fn fetch_tables<S: Shelf>(
 /// The bench of tables that were read.
 pub fn load<L: Ledger>(
     alloc: Global,
+    keys: HashKeys,
     rules: RuleBook,
     tables: List<List<Texts>>,
     limits: &Limits,
@@ -51,7 +53,7 @@ pub fn load<L: Ledger>(
     ensures probes { IfOk result (λ bench. steps.new ≤ steps.old + load_probes bench.rules bench.history.present) }
 {
     let names = file_names(alloc, rules.schema())?;
-    match Bench::load(alloc, rules, tables, *limits, steps) {
+    match Bench::load(alloc, keys, rules, tables, *limits, steps) {
         Ok(bench) => Ok(bench),
         Err(LoadFault::RowsFull { table }) => {
             let name = &names.as_slice()[table];

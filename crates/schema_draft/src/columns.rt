@@ -5,8 +5,10 @@ ghost use Rattle.std.specs.Str.{bytes_eq};
 ghost use Rattle.text_lists.specs.Repeats.{AreDistinct, is_among};
 ghost use Rattle.schema_draft.specs.Columns.{column_of, few_values, is_key};
 
+use crate::repeats::first_repeated;
+use hash_keys::HashKeys;
 use schema_core::bounds::CONSTANT_BYTES;
-use schema_core::{List, Text, Texts, first_repeated};
+use schema_core::{List, Text, Texts};
 use std::alloc::{AllocError, Global};
 
 /// How many values a domain is told of at most.
@@ -32,12 +34,13 @@ fn text_at(alloc: Global, row: &Texts, place: usize) -> Result<Text, AllocError>
     }
 }
 
-/// Whether the column tells its rows apart: no value stands twice, and there are two rows at least.
-pub fn is_key(alloc: Global, values: &[Text]) -> Result<bool, AllocError>
+/// Whether the column tells its rows apart: no value stands twice, and there are two rows at least. Values are
+/// hashed with these keys.
+pub fn is_key(alloc: Global, keys: HashKeys, values: &[Text]) -> Result<bool, AllocError>
     ensures test { IfOk result (λ test. test ≡ is_key values.now) }
     ensures meaning { IfOk result (λ test. IsTrue test ↔ (AreDistinct values.now × (2 ≤ length values.now))) }
 {
-    Ok(values.len() >= 2 && first_repeated(alloc, values)?.is_none())
+    Ok(values.len() >= 2 && first_repeated(alloc, keys, values)?.is_none())
 }
 
 /// The distinct values of a column in the order in which they stand first, if it has few that a domain may list.

@@ -13,12 +13,13 @@ ghost use Rattle.schema_draft.specs.Drafts.{attr_parts, attr_text, column_text, 
 use crate::columns::{column_of, few_values, is_key};
 use crate::names::{has_name, is_name};
 use crate::sheet::Sheet;
+use hash_keys::HashKeys;
 use schema_core::{Attr, Table, Text, Texts, Writes, push_number, push_quoted, push_spaced_list};
 use std::alloc::{AllocError, Global};
 
 /// The draft of a schema of these tables: a line for each table and each of its columns, and comments on what is to be
 /// named otherwise, on columns with few values and on columns that are keys.
-pub fn draft_of(alloc: Global, sheets: &[Sheet]) -> Result<Vec<u8>, AllocError>
+pub fn draft_of(alloc: Global, keys: HashKeys, sheets: &[Sheet]) -> Result<Vec<u8>, AllocError>
     ensures text { IfOk result (λ text. text.items ≡ draft_of sheets.now) }
 
     // Where the names and the files' names make a valid schema, the draft is read as that schema.
@@ -26,13 +27,14 @@ pub fn draft_of(alloc: Global, sheets: &[Sheet]) -> Result<Vec<u8>, AllocError>
 {
     let mut out = Vec::new(alloc);
     for (place, sheet) in sheets.iter().enumerate() {
-        push_sheet(alloc, &mut out, &sheets[..place], sheet)?;
+        push_sheet(alloc, keys, &mut out, &sheets[..place], sheet)?;
     }
     Ok(out)
 }
 
 fn push_sheet(
     alloc: Global,
+    keys: HashKeys,
     out: &mut Vec<u8>,
     before: &[Sheet],
     sheet: &Sheet,
@@ -42,7 +44,7 @@ fn push_sheet(
     let fits = !has_sheet(before, &sheet.table.name);
     push_head(out, fits, &sheet.table)?;
     for place in 0..sheet.table.attrs.as_slice().len() {
-        push_column(alloc, out, sheet, place)?;
+        push_column(alloc, keys, out, sheet, place)?;
     }
     Ok(())
 }
@@ -79,6 +81,7 @@ fn push_named(out: &mut Vec<u8>, fits: bool, words: &Text) -> Result<(), AllocEr
 
 fn push_column(
     alloc: Global,
+    keys: HashKeys,
     out: &mut Vec<u8>,
     sheet: &Sheet,
     place: usize,
@@ -91,7 +94,7 @@ fn push_column(
     let fits = names_column(attrs, place, words);
     push_attr(alloc, out, attrs, place + 1, fits, words)?;
     let values = column_of(alloc, sheet.rows.as_slice(), place)?;
-    push_notes(alloc, out, fits, words, values.as_slice())
+    push_notes(alloc, keys, out, fits, words, values.as_slice())
 }
 
 /// Whether the text over the column at a place names an attribute.
@@ -155,6 +158,7 @@ fn advice(alloc: Global, attrs: &[Attr], number: usize) -> Result<Vec<u8>, Alloc
 // What a column's values show.
 fn push_notes(
     alloc: Global,
+    keys: HashKeys,
     out: &mut Vec<u8>,
     fits: bool,
     words: &Text,
@@ -164,7 +168,7 @@ fn push_notes(
 {
     let few = few_values(alloc, values)?;
     push_domain(out, fits, words, &few)?;
-    let key = is_key(alloc, values)?;
+    let key = is_key(alloc, keys, values)?;
     push_key(out, key, fits, words)
 }
 

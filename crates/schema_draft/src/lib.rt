@@ -5,6 +5,7 @@ mod columns;
 mod draft;
 mod names;
 mod records;
+mod repeats;
 mod sheet;
 
 pub use columns::{FEW, column_of, few_values, is_key};

@@ -6,6 +6,7 @@ ghost use Rattle.std.specs.Str.{bytes_eq};
 ghost use Rattle.text_lists.specs.Repeats.{is_among};
 ghost use Rattle.table_flaws.specs.Flaws.{column_of, is_long, long_rows, spaced_rows, trimmed};
 
+use hash_keys::HashKeys;
 use schema_core::{List, Text, Texts};
 use std::alloc::{AllocError, Global};
 use std::collections::HashSet;
@@ -59,10 +60,14 @@ fn line_feeds(bytes: &[u8]) -> usize
 }
 
 /// The rows, numbered from 1, whose value has blanks at an end and stands in the column without them, too.
-pub fn spaced_rows(alloc: Global, values: &[Text]) -> Result<List<usize>, AllocError>
+pub fn spaced_rows(
+    alloc: Global,
+    keys: HashKeys,
+    values: &[Text],
+) -> Result<List<usize>, AllocError>
     ensures { IfOk result (λ rows. rows ≡ spaced_rows values.now) }
 {
-    let all = all_of(alloc, values)?;
+    let all = all_of(alloc, keys, values)?;
     let mut rows = List::new(alloc);
     for (place, value) in values.iter().enumerate() {
         if is_spaced(&all, value.as_str()) {
@@ -72,7 +77,7 @@ pub fn spaced_rows(alloc: Global, values: &[Text]) -> Result<List<usize>, AllocE
     Ok(rows)
 }
 
-fn is_spaced(all: &HashSet<&str>, value: &str) -> bool
+fn is_spaced(all: &HashSet<&str, HashKeys>, value: &str) -> bool
     ensures { result ≡ (not (bytes_eq (trimmed value.now) value.now) && contains_by (λ key. bytes_eq (trimmed value.now) key.now) all.now) }
 {
     let without = trimmed(value);
@@ -85,10 +90,14 @@ fn trimmed(value: &str) -> &str
     value.trim_ascii()
 }
 
-fn all_of(alloc: Global, values: &[Text]) -> Result<HashSet<&str>, AllocError>
+fn all_of(
+    alloc: Global,
+    keys: HashKeys,
+    values: &[Text],
+) -> Result<HashSet<&str, HashKeys>, AllocError>
     ensures { IfOk result (λ all. (q : List ℕ) → contains_by (λ key. bytes_eq q key.now) all ≡ is_among bytes_eq values.now q) }
 {
-    let mut all = HashSet::new(alloc);
+    let mut all = HashSet::with_hasher(alloc, keys);
     for value in values {
         all.insert(value.as_str())?;
     }

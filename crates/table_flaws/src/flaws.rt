@@ -6,6 +6,7 @@ ghost use Rattle.table_flaws.specs.declared.flaws.Flaw.TheVariants.{Long, Repeat
 
 use crate::columns::{column_of, long_rows, spaced_rows};
 use crate::rows::repeated_rows;
+use hash_keys::HashKeys;
 use schema_core::{List, Text, Texts};
 use std::alloc::{AllocError, Global};
 
@@ -20,17 +21,22 @@ pub enum Flaw {
     Repeated { row: usize },
 }
 
-/// All that is odd, column after column, and then the rows that stand twice.
-pub fn flaws_of(alloc: Global, width: usize, rows: &[Texts]) -> Result<List<Flaw>, AllocError>
+/// All that is odd, column after column, and then the rows that stand twice. Values and rows are hashed with these keys.
+pub fn flaws_of(
+    alloc: Global,
+    keys: HashKeys,
+    width: usize,
+    rows: &[Texts],
+) -> Result<List<Flaw>, AllocError>
     ensures { IfOk result (λ flaws. flaws ≡ flaws_of width rows.now) }
 {
     let mut flaws = List::new(alloc);
     for attr in 0..width {
         let values = column_of(alloc, rows, attr)?;
         push_long(alloc, &mut flaws, attr, values.as_slice())?;
-        push_spaced(alloc, &mut flaws, attr, values.as_slice())?;
+        push_spaced(alloc, keys, &mut flaws, attr, values.as_slice())?;
     }
-    push_repeated(alloc, &mut flaws, rows)?;
+    push_repeated(alloc, keys, &mut flaws, rows)?;
     Ok(flaws)
 }
 
@@ -51,23 +57,29 @@ fn push_long(
 
 fn push_spaced(
     alloc: Global,
+    keys: HashKeys,
     flaws: &mut List<Flaw>,
     attr: usize,
     values: &[Text],
 ) -> Result<(), AllocError>
     ensures { OnOk result (flaws.new ≡ flaws.old ++ map (λ row. Spaced attr row) (spaced_rows values.now)) }
 {
-    let rows = spaced_rows(alloc, values)?;
+    let rows = spaced_rows(alloc, keys, values)?;
     for row in rows.as_slice() {
         flaws.push(Flaw::Spaced { attr, row: *row })?;
     }
     Ok(())
 }
 
-fn push_repeated(alloc: Global, flaws: &mut List<Flaw>, rows: &[Texts]) -> Result<(), AllocError>
+fn push_repeated(
+    alloc: Global,
+    keys: HashKeys,
+    flaws: &mut List<Flaw>,
+    rows: &[Texts],
+) -> Result<(), AllocError>
     ensures { OnOk result (flaws.new ≡ flaws.old ++ map (λ row. Repeated row) (repeated_rows rows.now)) }
 {
-    let found = repeated_rows(alloc, rows)?;
+    let found = repeated_rows(alloc, keys, rows)?;
     for row in found.as_slice() {
         flaws.push(Flaw::Repeated { row: *row })?;
     }

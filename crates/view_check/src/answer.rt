@@ -15,6 +15,7 @@ use crate::names::push_name;
 use crate::shown::off_text;
 use crate::verdicts::{Verdict, are_good, push_verdicts, verdicts};
 use cli_output::{Refusal, Status, Stop, end_by, end_with};
+use hash_keys::HashKeys;
 use rule_model::RuleBook;
 use schema_core::{Limits, List, Table, Text, Texts, push_number};
 use shelf_io::{Shelf, Sink};
@@ -25,6 +26,7 @@ use table_flaws::{Flaw, flaws_of};
 /// them; or why a file of the project is refused, and the line of the file that the refusal names.
 pub fn look_at_project<S: Shelf, O: Sink>(
     alloc: Global,
+    keys: HashKeys,
     project: &Text,
     shelf: &mut S,
     out: &mut O,
@@ -36,16 +38,22 @@ pub fn look_at_project<S: Shelf, O: Sink>(
 {
     let mut left = limits.all_bytes;
     match fetch_seen(alloc, shelf, project, limits, &mut left) {
-        Ok(seen) => answer(alloc, limits, &seen, out),
+        Ok(seen) => answer(alloc, keys, limits, &seen, out),
         Err(stop) => end_by(alloc, &stop, out),
     }
 }
 
-fn answer<O: Sink>(alloc: Global, limits: &Limits, seen: &Seen, out: &mut O) -> Status
+fn answer<O: Sink>(
+    alloc: Global,
+    keys: HashKeys,
+    limits: &Limits,
+    seen: &Seen,
+    out: &mut O,
+) -> Status
     ensures { Ends (check_outputs limits.now seen.now) result (O.told out.old) (O.told out.new) }
 {
     match seen {
-        Seen::Whole(project) => tell_whole(alloc, project, out),
+        Seen::Whole(project) => tell_whole(alloc, keys, project, out),
         Seen::Off { refusal, anew } => tell_off(alloc, limits, refusal, anew, out),
     }
 }
@@ -65,10 +73,10 @@ fn tell_off<O: Sink>(
     }
 }
 
-fn tell_whole<O: Sink>(alloc: Global, project: &Project, out: &mut O) -> Status
+fn tell_whole<O: Sink>(alloc: Global, keys: HashKeys, project: &Project, out: &mut O) -> Status
     ensures { Ends (IsTold project.now.rules project.now.tables) result (O.told out.old) (O.told out.new) }
 {
-    match told_of(alloc, &project.rules, project.tables.as_slice()) {
+    match told_of(alloc, keys, &project.rules, project.tables.as_slice()) {
         Ok(told) => end_with(out, &told.text, told.status),
         Err(AllocError) => end_by(alloc, &Stop::Memory, out),
     }
@@ -94,19 +102,25 @@ fn status_of(clean: bool) -> Status
 
 /// What is off in a project that was read: its rules, and the rows of its tables in the order of the schema. Where the
 /// rows of a table are missing, nothing is told of them.
-pub fn told_of(alloc: Global, rules: &RuleBook, tables: &[List<Texts>]) -> Result<Told, AllocError>
+pub fn told_of(
+    alloc: Global,
+    keys: HashKeys,
+    rules: &RuleBook,
+    tables: &[List<Texts>],
+) -> Result<Told, AllocError>
     ensures told { IfOk result (λ told. IsTold rules.now tables.now told.text.items told.status) }
     ensures whole { IfOk result (λ told. IsWhole told.status) }
 {
     let verdicts = verdicts(alloc, rules)?;
     let mut text = Vec::new(alloc);
-    let clean = push_whole(alloc, &mut text, rules, tables, verdicts.as_slice())?;
+    let clean = push_whole(alloc, keys, &mut text, rules, tables, verdicts.as_slice())?;
     let status = status_of(clean);
     Ok(Told { text, status })
 }
 
 fn push_whole(
     alloc: Global,
+    keys: HashKeys,
     out: &mut Vec<u8>,
     rules: &RuleBook,
     all: &[List<Texts>],
@@ -116,7 +130,7 @@ fn push_whole(
     ensures clean { IfOk result (λ clean. clean ≡ is_clean rules.now all.now verdicts.now) }
 {
     let tables = rules.schema().tables.as_slice();
-    let even = push_tables(alloc, out, tables, all)?;
+    let even = push_tables(alloc, keys, out, tables, all)?;
     push_verdicts(out, tables, verdicts)?;
     let apply = push_edits(out, rules.schema(), all, rules.edits().as_slice())?;
     Ok(even && are_good(verdicts) && apply)
@@ -124,6 +138,7 @@ fn push_whole(
 
 fn push_tables(
     alloc: Global,
+    keys: HashKeys,
     out: &mut Vec<u8>,
     tables: &[Table],
     all: &[List<Texts>],
@@ -135,7 +150,7 @@ fn push_tables(
     for place in 0..tables.len() {
         let table = item(tables, place);
         let rows = item(all, place);
-        let none = push_part(alloc, out, table, rows)?;
+        let none = push_part(alloc, keys, out, table, rows)?;
         clean = both(clean, none);
     }
     Ok(clean)
@@ -149,6 +164,7 @@ fn both(one: bool, other: bool) -> bool
 
 fn push_part(
     alloc: Global,
+    keys: HashKeys,
     out: &mut Vec<u8>,
     table: Option<&Table>,
     rows: Option<&List<Texts>>,
@@ -157,13 +173,14 @@ fn push_part(
     ensures clean { IfOk result (λ none. none ≡ part_clean (option_copied table.entry) (option_copied rows.entry)) }
 {
     match (table, rows) {
-        (Some(table), Some(rows)) => push_table(alloc, out, table, rows.as_slice()),
+        (Some(table), Some(rows)) => push_table(alloc, keys, out, table, rows.as_slice()),
         _ => Ok(true),
     }
 }
 
 fn push_table(
     alloc: Global,
+    keys: HashKeys,
     out: &mut Vec<u8>,
     table: &Table,
     rows: &[Texts],
@@ -171,7 +188,7 @@ fn push_table(
     ensures text { OnOk result (out.new.items ≡ out.old.items ++ table_text table.now rows.now) }
     ensures clean { IfOk result (λ none. none ≡ has_no_flaw table.now rows.now) }
 {
-    let flaws = flaws_of(alloc, table.attrs.as_slice().len(), rows)?;
+    let flaws = flaws_of(alloc, keys, table.attrs.as_slice().len(), rows)?;
     push_count(out, table, rows.len())?;
     push_flaws(out, table, flaws.as_slice())?;
     Ok(flaws.as_slice().is_empty())

@@ -9,6 +9,7 @@ ghost use Rattle.view_forms.specs.ListForm.{list_of, list_outputs, list_task, to
 use crate::looking::{Looked, look};
 use crate::shown::{Shown, refused, status_of};
 use cli_output::{Status, end_by, end_with};
+use hash_keys::HashKeys;
 use probe_steps::Steps;
 use project_forms::{Project, fetch_project};
 use schema_core::Limits;
@@ -23,6 +24,7 @@ use violation_groups::findings;
 /// Tells the violations of a project in groups: all of them, or those that are asked for.
 pub fn list_project<S: Shelf, O: Sink>(
     alloc: Global,
+    keys: HashKeys,
     options: &ListOptions,
     shelf: &mut S,
     out: &mut O,
@@ -32,12 +34,13 @@ pub fn list_project<S: Shelf, O: Sink>(
     ensures written { Writes (Output limits.now (list_task limits.now options.now) (S.told shelf.old).holding) result (O.told out.old).written (O.told out.new).written }
     ensures devices { UsesDevices limits.now (list_task limits.now options.now) result (S.told shelf.old) (S.told shelf.new) (O.told out.old) (O.told out.new) }
 {
-    list_opened::<S, O, Brand>(alloc, options, shelf, out, limits, Blank::new(1))
+    list_opened::<S, O, Brand>(alloc, keys, options, shelf, out, limits, Blank::new(1))
 }
 
 /// The same, with a counter of index probes that is opened for this call. Nothing reads it.
 fn list_opened<S: Shelf, O: Sink, L: Ledger>(
     alloc: Global,
+    keys: HashKeys,
     options: &ListOptions,
     shelf: &mut S,
     out: &mut O,
@@ -52,11 +55,12 @@ fn list_opened<S: Shelf, O: Sink, L: Ledger>(
     ensures devices { UsesDevices limits.now (list_task limits.now options.now) result (S.told shelf.old) (S.told shelf.new) (O.told out.old) (O.told out.new) }
 {
     let mut steps = Steps::<L>::open(blank);
-    list_counted(alloc, options, shelf, out, limits, &mut steps)
+    list_counted(alloc, keys, options, shelf, out, limits, &mut steps)
 }
 
 fn list_counted<S: Shelf, O: Sink, L: Ledger>(
     alloc: Global,
+    keys: HashKeys,
     options: &ListOptions,
     shelf: &mut S,
     out: &mut O,
@@ -68,7 +72,15 @@ fn list_counted<S: Shelf, O: Sink, L: Ledger>(
     ensures devices { UsesDevices limits.now (list_task limits.now options.now) result (S.told shelf.old) (S.told shelf.new) (O.told out.old) (O.told out.new) }
 {
     let mut left = limits.all_bytes;
-    match fetch_project(alloc, shelf, &options.project, limits, &mut left, steps) {
+    match fetch_project(
+        alloc,
+        keys,
+        shelf,
+        &options.project,
+        limits,
+        &mut left,
+        steps,
+    ) {
         Ok(project) => list(alloc, project, options, out, steps),
         Err(stop) => end_by(alloc, &stop, out),
     }

@@ -13,6 +13,7 @@ use crate::row_values::row_texts;
 use crate::shown::{Shown, refused, status_of};
 use bench_core::Bench;
 use cli_output::{Status, end_by, end_with};
+use hash_keys::HashKeys;
 use probe_steps::Steps;
 use project_forms::{Project, fetch_project};
 use schema_core::{Limits, List, Texts};
@@ -33,6 +34,7 @@ const ANSWER_BYTES: usize = 20_000_000;
 /// what a fix would be answered.
 pub fn row_project<S: Shelf, O: Sink>(
     alloc: Global,
+    keys: HashKeys,
     options: &RowOptions,
     shelf: &mut S,
     out: &mut O,
@@ -42,12 +44,13 @@ pub fn row_project<S: Shelf, O: Sink>(
     ensures written { Writes (Output limits.now (row_task limits.now options.now) (S.told shelf.old).holding) result (O.told out.old).written (O.told out.new).written }
     ensures devices { UsesDevices limits.now (row_task limits.now options.now) result (S.told shelf.old) (S.told shelf.new) (O.told out.old) (O.told out.new) }
 {
-    row_opened::<S, O, Brand>(alloc, options, shelf, out, limits, Blank::new(1))
+    row_opened::<S, O, Brand>(alloc, keys, options, shelf, out, limits, Blank::new(1))
 }
 
 /// The same, with a counter of index probes that is opened for this call. Nothing reads it.
 fn row_opened<S: Shelf, O: Sink, L: Ledger>(
     alloc: Global,
+    keys: HashKeys,
     options: &RowOptions,
     shelf: &mut S,
     out: &mut O,
@@ -62,11 +65,12 @@ fn row_opened<S: Shelf, O: Sink, L: Ledger>(
     ensures devices { UsesDevices limits.now (row_task limits.now options.now) result (S.told shelf.old) (S.told shelf.new) (O.told out.old) (O.told out.new) }
 {
     let mut steps = Steps::<L>::open(blank);
-    row_counted(alloc, options, shelf, out, limits, &mut steps)
+    row_counted(alloc, keys, options, shelf, out, limits, &mut steps)
 }
 
 fn row_counted<S: Shelf, O: Sink, L: Ledger>(
     alloc: Global,
+    keys: HashKeys,
     options: &RowOptions,
     shelf: &mut S,
     out: &mut O,
@@ -78,7 +82,15 @@ fn row_counted<S: Shelf, O: Sink, L: Ledger>(
     ensures devices { UsesDevices limits.now (row_task limits.now options.now) result (S.told shelf.old) (S.told shelf.new) (O.told out.old) (O.told out.new) }
 {
     let mut left = limits.all_bytes;
-    match fetch_project(alloc, shelf, &options.project, limits, &mut left, steps) {
+    match fetch_project(
+        alloc,
+        keys,
+        shelf,
+        &options.project,
+        limits,
+        &mut left,
+        steps,
+    ) {
         Ok(project) => row(alloc, project, options, out, steps),
         Err(stop) => end_by(alloc, &stop, out),
     }

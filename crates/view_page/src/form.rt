@@ -11,6 +11,7 @@ use crate::counts::row_counts;
 use crate::shown::{bench_shown, options_of};
 use bench_core::Bench;
 use cli_output::{Status, end_by, end_with};
+use hash_keys::HashKeys;
 use page_text::{Options, RowCounts, page_text};
 use probe_steps::Steps;
 use project_forms::{Project, fetch_project};
@@ -27,6 +28,7 @@ use violation_report::is_clean;
 /// those of the state that the script leaves, or of the tables as they were read.
 pub fn page_project<S: Shelf, O: Sink>(
     alloc: Global,
+    keys: HashKeys,
     options: &PageOptions,
     shelf: &mut S,
     out: &mut O,
@@ -36,12 +38,13 @@ pub fn page_project<S: Shelf, O: Sink>(
     ensures written { Writes (Output limits.now (page_task limits.now options.now) (S.told shelf.old).holding) result (O.told out.old).written (O.told out.new).written }
     ensures devices { UsesDevices limits.now (page_task limits.now options.now) result (S.told shelf.old) (S.told shelf.new) (O.told out.old) (O.told out.new) }
 {
-    page_opened::<S, O, Brand>(alloc, options, shelf, out, limits, Blank::new(1))
+    page_opened::<S, O, Brand>(alloc, keys, options, shelf, out, limits, Blank::new(1))
 }
 
 /// The same, with a counter of probes that is opened for this call. Nothing reads it.
 fn page_opened<S: Shelf, O: Sink, L: Ledger>(
     alloc: Global,
+    keys: HashKeys,
     options: &PageOptions,
     shelf: &mut S,
     out: &mut O,
@@ -56,11 +59,12 @@ fn page_opened<S: Shelf, O: Sink, L: Ledger>(
     ensures devices { UsesDevices limits.now (page_task limits.now options.now) result (S.told shelf.old) (S.told shelf.new) (O.told out.old) (O.told out.new) }
 {
     let mut steps = Steps::<L>::open(blank);
-    page_counted(alloc, options, shelf, out, limits, &mut steps)
+    page_counted(alloc, keys, options, shelf, out, limits, &mut steps)
 }
 
 fn page_counted<S: Shelf, O: Sink, L: Ledger>(
     alloc: Global,
+    keys: HashKeys,
     options: &PageOptions,
     shelf: &mut S,
     out: &mut O,
@@ -72,7 +76,15 @@ fn page_counted<S: Shelf, O: Sink, L: Ledger>(
     ensures devices { UsesDevices limits.now (page_task limits.now options.now) result (S.told shelf.old) (S.told shelf.new) (O.told out.old) (O.told out.new) }
 {
     let mut left = limits.all_bytes;
-    match fetch_project(alloc, shelf, &options.project, limits, &mut left, steps) {
+    match fetch_project(
+        alloc,
+        keys,
+        shelf,
+        &options.project,
+        limits,
+        &mut left,
+        steps,
+    ) {
         Ok(project) => answer(alloc, options, project, out, steps),
         Err(stop) => end_by(alloc, &stop, out),
     }

@@ -11,6 +11,7 @@ ghost use Rattle.view_schema.specs.SchemaForm.{fetch_sheet, fetch_sheets, schema
 
 use cli_output::{Cause, Status, Stop, end_by, end_with, fetch_file, refused};
 use csv_tables::TableFault;
+use hash_keys::HashKeys;
 use schema_core::{Limits, List, Table, Text};
 use schema_draft::{Sheet, draft_of, read_sheet, tables_of};
 use shelf_io::{Shelf, Sink};
@@ -20,6 +21,7 @@ use std::alloc::{AllocError, Global};
 /// first file that is not there, or that no table can be read from, is refused.
 pub fn draft_schema<S: Shelf, O: Sink>(
     alloc: Global,
+    keys: HashKeys,
     files: &[Text],
     shelf: &mut S,
     out: &mut O,
@@ -31,7 +33,7 @@ pub fn draft_schema<S: Shelf, O: Sink>(
 {
     let mut left = limits.all_bytes;
     match fetch_named(alloc, shelf, files, limits, &mut left) {
-        Ok(sheets) => answer(alloc, sheets.as_slice(), out),
+        Ok(sheets) => answer(alloc, keys, sheets.as_slice(), out),
         Err(stop) => end_by(alloc, &stop, out),
     }
 }
@@ -96,10 +98,10 @@ fn sheet_in(alloc: Global, table: &Table, bytes: &[u8], limits: &Limits) -> Resu
     }
 }
 
-fn answer<O: Sink>(alloc: Global, sheets: &[Sheet], out: &mut O) -> Status
+fn answer<O: Sink>(alloc: Global, keys: HashKeys, sheets: &[Sheet], out: &mut O) -> Status
     ensures { Ends (schema_outputs sheets.now) result (O.told out.old) (O.told out.new) }
 {
-    match draft_of(alloc, sheets) {
+    match draft_of(alloc, keys, sheets) {
         Ok(text) => end_with(out, &text, Status::Clean),
         Err(AllocError) => end_by(alloc, &Stop::Memory, out),
     }

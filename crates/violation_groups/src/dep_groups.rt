@@ -28,7 +28,7 @@ pub(crate) fn groups_of(
 {
     // The length is what says that no text has two ids.
     let _len = pool.len();
-    let mut found = by_key(alloc, rows)?;
+    let mut found = by_key(alloc, pool.hash_keys(), rows)?;
     largest_first(&mut found)?;
     each_group(alloc, pool, found)
 }
@@ -74,7 +74,7 @@ fn values_of(
 {
     // The length is what says that no text has two ids.
     let _len = pool.len();
-    let mut found = by_key(alloc, rows.into_vec())?;
+    let mut found = by_key(alloc, pool.hash_keys(), rows.into_vec())?;
     rarest_first(&mut found)?;
     each_value(alloc, pool, found)
 }

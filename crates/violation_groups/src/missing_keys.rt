@@ -24,7 +24,7 @@ pub(crate) fn missing_of(
 {
     // The length is what says that no text has two ids.
     let _len = pool.len();
-    let mut found = by_key(alloc, rows)?;
+    let mut found = by_key(alloc, pool.hash_keys(), rows)?;
     largest_first(&mut found)?;
     each_missing(alloc, pool, found)
 }

@@ -5,7 +5,7 @@ use Rattle.cfd_cli.specs.Forms.{counted_form_task, counted_task_of, form_task, u
 use Rattle.cli_output.specs.Output.{Only, Output, Writes}
 use Rattle.call_words.specs.Words.{form_of}
 use Rattle.cli_output.proofs.Outputs.{Writes-wider, output-found}
-use Rattle.cfd_cli.proofs.program.run_counted.Goals as goal
+use Rattle.cfd_cli.proofs.program.run_keyed.Goals as goal
 
 pub returns-in-Ok-None-clause-written : goal.returns-in-Ok-None-clause-written
 returns-in-Ok-None-clause-written g c =
