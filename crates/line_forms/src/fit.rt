@@ -49,9 +49,7 @@ fn may_all_lack(left: &[Piece]) -> bool
 fn is_whole(tokens: &LineTokens, gone: &Gone) -> bool
     ensures { result ≡ is_whole tokens.now gone.now }
 {
-    are_tokens(tokens)
-        && gone.passed == given(tokens).len()
-        && may_all_lack(gone.left.as_slice())
+    are_tokens(tokens) && gone.passed == given(tokens).len() && may_all_lack(gone.left.as_slice())
 }
 
 fn behind_first(tokens: &[Token]) -> &[Token]

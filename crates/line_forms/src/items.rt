@@ -8,8 +8,8 @@ ghost use Rattle.line_forms.specs.Pieces.{begins, begins_set, behind, cell_behin
 use crate::pieces::{Item, Piece, Word, word_text};
 use line_grammar::{Mark, Token};
 use std::alloc::AllocError;
-use text_lists::bounds::{CONSTANT_BYTES, FILE_NAME_BYTES, SET_MEMBERS};
 use text_lists::Text;
+use text_lists::bounds::{CONSTANT_BYTES, FILE_NAME_BYTES, SET_MEMBERS};
 
 // ---- a token by itself
 

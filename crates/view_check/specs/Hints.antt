@@ -136,13 +136,13 @@ bytes_line limits = codes "at most " ++ decimal limits.file_bytes ++ codes " byt
 abbrev pub rows_line : Limits → List ℕ
 rows_line limits = codes "at most " ++ decimal limits.rows ++ codes " rows\n"
 
--- the rows of a table file, without its header
-abbrev pub file_rows_line : List ℕ → List ℕ
-file_rows_line bytes = codes "this file has " ++ decimal (record_count bytes - 1) ++ codes " rows\n"
+-- the rows of a file of so many records, of which one is the header
+abbrev pub rows_told : ℕ → List ℕ
+rows_told records = codes "this file has " ++ decimal (records - 1) ++ codes " rows\n"
 
 abbrev pub file_rows : Option (List ℕ) → List ℕ
 file_rows None = []
-file_rows (Some bytes) = file_rows_line bytes
+file_rows (Some bytes) = rows_told (record_count bytes)
 
 abbrev pub table_room : Limits → TableFault → Option (List ℕ) → List ℕ
 table_room limits (table.RowsFull at) bytes = rows_line limits ++ file_rows bytes

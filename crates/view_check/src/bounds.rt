@@ -1,7 +1,7 @@
 //! The limit that a file passed.
-ghost use Rattle.std.specs.Prelude.{◌≡◌, ◌++◌, ◌-◌, OnOk, Some, codes, decimal};
+ghost use Rattle.std.specs.Prelude.{◌≡◌, ◌++◌, OnOk, Some};
 ghost use Rattle.cli_output.specs.Refusals.{limit_text};
-ghost use Rattle.view_check.specs.Hints.{bytes_line, file_rows, room_text, rows_line, size_line, table_room};
+ghost use Rattle.view_check.specs.Hints.{bytes_line, file_rows, room_text, rows_line, rows_told, size_line, table_room};
 ghost use Rattle.view_check.specs.Shown.{bound_shown, limit_in, limit_in_line, limit_in_rule, limit_in_rules, limit_in_schema, limit_value};
 
 use cli_output::{Cause, LineFlaw};
@@ -106,7 +106,7 @@ fn push_file_rows(
 }
 
 fn push_rows_of(out: &mut Vec<u8>, records: u64) -> Result<(), AllocError>
-    ensures { OnOk result (out.new.items ≡ out.old.items ++ (codes "this file has " ++ decimal (records - 1) ++ codes " rows\n")) }
+    ensures { OnOk result (out.new.items ≡ out.old.items ++ rows_told records) }
 {
     out.extend_from_slice(b"this file has ")?;
     push_number(out, records.saturating_sub(1))?;

@@ -53,11 +53,7 @@ fn push_tables(
     push_total(out, limits, row_total(all))
 }
 
-fn push_counts(
-    out: &mut Vec<u8>,
-    tables: &[Table],
-    all: &[List<Texts>],
-) -> Result<(), AllocError>
+fn push_counts(out: &mut Vec<u8>, tables: &[Table], all: &[List<Texts>]) -> Result<(), AllocError>
     ensures { OnOk result (out.new.items ≡ out.old.items ++ counts_text tables.now all.now (length tables.now)) }
 {
     for place in 0..tables.len() {

@@ -82,7 +82,13 @@ pub fn push_misfit(
 fn push_in(alloc: Global, out: &mut Vec<u8>, at: Misfit, bytes: &[u8]) -> Result<(), AllocError>
     ensures { OnOk result (out.new.items ≡ out.old.items ++ told_in at bytes.now) }
 {
-    push_at(alloc, out, at, bytes, nth_line(bytes, at.line.saturating_sub(1)))
+    push_at(
+        alloc,
+        out,
+        at,
+        bytes,
+        nth_line(bytes, at.line.saturating_sub(1)),
+    )
 }
 
 fn push_at(

@@ -13,7 +13,8 @@ pub fn all_rows(alloc: Global, bench: &Bench) -> Result<List<List<Texts>>, Alloc
 {
     let mut all = List::new(alloc);
     for table in 0..table_count(bench) {
-        all.push(rows_of(alloc, bench, table)?)?;
+        let rows = rows_of(alloc, bench, table)?;
+        all.push(rows)?;
     }
     Ok(all)
 }
@@ -30,7 +31,8 @@ fn rows_of(alloc: Global, bench: &Bench, table: usize) -> Result<List<Texts>, Al
 {
     let rows = bench.rows(table)?;
     let mut all = List::new(alloc);
-    for (_id, texts) in rows.into_vec() {
+    for row in rows.into_vec() {
+        let (_, texts) = row;
         all.push(texts)?;
     }
     Ok(all)

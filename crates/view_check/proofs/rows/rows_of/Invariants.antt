@@ -4,5 +4,5 @@ use Rattle.view_check.specs.Rows.{texts_in}
 use Rattle.view_check.proofs.rows.rows_of.Given as goal
 
 -- the texts so far, and those of the rows that are left
-abbrev pub invariant-loop-_id : goal.invariant-loop-_id
-invariant-loop-_id l = l.all ++ texts_in l._id-iterator.rest.items ≡ texts_in (rows_at l.bench.history.present l.fn.table)
+abbrev pub invariant-loop-row : goal.invariant-loop-row
+invariant-loop-row l = l.all ++ texts_in l.row-iterator.rest.items ≡ texts_in (rows_at l.bench.history.present l.fn.table)
