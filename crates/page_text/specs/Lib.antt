@@ -5,4 +5,5 @@ pub mod Rows
 pub mod Groups
 pub mod Overview
 pub mod Sections
+pub mod Checks
 pub mod Page

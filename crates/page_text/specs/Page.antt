@@ -1,9 +1,10 @@
--- A project as a page: what was read, how many violations each rule has, and what is told of those that have some. Each
--- text that comes from outside stands there escaped.
+-- A project as a page: what was read, how many violations each rule has, what is told of those that have some, and what
+-- `check` finds. Each text that comes from outside stands there escaped.
 use Rattle.std.specs.Prelude.{ℕ, Bool, true, false, List, [], ◌++◌}
 use Rattle.rule_model.specs.Books.{Book, book_cinds, book_deps}
 use Rattle.violation_groups.specs.declared.Findings.{Findings}
 use Rattle.html_text.specs.Elements.{between, number_between}
+use Rattle.page_text.specs.Checks.{checks_text}
 use Rattle.page_text.specs.Markup.{markup, style}
 use Rattle.page_text.specs.Overview.{cind_rows, dep_rows, tables_rows}
 use Rattle.page_text.specs.Sections.{cind_sections, dep_sections}
@@ -37,7 +38,9 @@ sections_text rules rows first counts findings =
     dep_sections rules.schema.tables (book_deps rules) rows.read first counts.deps findings.deps
     ++ cind_sections rules.schema.tables (book_cinds rules) rows.read first counts.cinds findings.cinds
 
-unfoldable pub page_text : List ℕ → Options → Book → RowCounts → Findings → List ℕ
-page_text name options rules rows findings =
+-- the last are the lines of what `check` finds
+unfoldable pub page_text : List ℕ → Options → Book → RowCounts → Findings → List (List ℕ) → List ℕ
+page_text name options rules rows findings checked =
     let counts = counts_of findings in
-    head_text name options.loaded counts.all ++ overview_text rules rows counts ++ sections_text rules rows options.first counts findings ++ markup piece.Foot
+    head_text name options.loaded counts.all ++ overview_text rules rows counts ++ sections_text rules rows options.first counts findings
+    ++ checks_text options.first checked ++ markup piece.Foot

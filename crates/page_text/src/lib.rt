@@ -2,6 +2,7 @@
 //! page's text is a definition over what is found (`specs/Page.antt`), in which each text from outside is escaped.
 #![tactic(auto)]
 
+mod checks;
 mod groups;
 mod markup;
 mod missing;

@@ -6,7 +6,7 @@ ghost use Rattle.page_text.specs.Markup.{markup};
 ghost use Rattle.page_text.specs.Overview.{bar, cind_row_at, cind_row_of, cind_rows, dep_row_at, dep_row_of, dep_rows, row_end, rule_head, rule_link, rule_name, table_at, table_of, table_row, tables_rows};
 
 use crate::markup::{Piece, markup, push};
-use crate::rows::RowCounts;
+use crate::rows::{RowCounts, rows_at};
 use crate::totals::Counts;
 use crate::words::{push_cind_words, push_dep_words};
 use html_text::{count_at, item, push_cell, push_escaped, push_number_between, push_number_cell};
@@ -34,16 +34,16 @@ fn push_table_at(
 ) -> Result<(), AllocError>
     ensures { OnOk result (out.new.items ≡ out.old.items ++ table_at tables.now rows.now place) }
 {
-    let read = count_at(rows.read.as_slice(), place);
-    let now = count_at(rows.present.as_slice(), place);
+    let read = rows_at(rows.read.as_slice(), place);
+    let now = rows_at(rows.present.as_slice(), place);
     push_table_of(out, item(tables, place), read, now)
 }
 
 fn push_table_of(
     out: &mut Vec<u8>,
     table: Option<&Table>,
-    read: usize,
-    now: usize,
+    read: u64,
+    now: u64,
 ) -> Result<(), AllocError>
     ensures { OnOk result (out.new.items ≡ out.old.items ++ table_of (option_copied table.entry) read now) }
 {
@@ -53,14 +53,14 @@ fn push_table_of(
     }
 }
 
-fn push_table(out: &mut Vec<u8>, table: &Table, read: usize, now: usize) -> Result<(), AllocError>
+fn push_table(out: &mut Vec<u8>, table: &Table, read: u64, now: u64) -> Result<(), AllocError>
     ensures { OnOk result (out.new.items ≡ out.old.items ++ table_row table.now read now) }
 {
     push(out, Piece::Row)?;
     push_cell(out, &table.name)?;
     push_cell(out, &table.file)?;
-    push_number_cell(out, read)?;
-    push_number_cell(out, now)?;
+    push_number_cell(out, read as usize)?;
+    push_number_cell(out, now as usize)?;
     push(out, Piece::RowEnd)?;
     Ok(())
 }

@@ -4,6 +4,7 @@ ghost use Rattle.page_text.specs.Markup.{markup, style};
 ghost use Rattle.page_text.specs.Page.{head_text, overview_text, page_text, sections_text, state_piece, styled};
 ghost use Rattle.rule_model.specs.Books.{book_cinds, book_deps};
 
+use crate::checks::push_checks;
 use crate::markup::{Piece, markup, push, style};
 use crate::overview::{push_cind_rows, push_dep_rows, push_tables};
 use crate::rows::RowCounts;
@@ -12,7 +13,7 @@ use crate::totals::{Counts, counts_of};
 use html_text::{push_between, push_number_between};
 use rule_model::RuleBook;
 use std::alloc::{AllocError, Global};
-use text_lists::Text;
+use text_lists::{List, Text};
 use violation_groups::Findings;
 
 /// How many of each kind are shown, and whether the tables are shown as they were read.
@@ -22,7 +23,7 @@ pub struct Options {
     pub loaded: bool,
 }
 
-/// The page of a project of that name: what was read, and what is found.
+/// The page of a project of that name: what was read, what is found, and the lines of what `check` finds.
 #[tactic(auto, unfolding(crate::specs::Page::page_text))]
 pub fn page_text(
     alloc: Global,
@@ -31,14 +32,16 @@ pub fn page_text(
     rules: &RuleBook,
     rows: &RowCounts,
     findings: &Findings,
+    checked: &[List<u8>],
 ) -> Result<Vec<u8>, AllocError>
-    ensures { IfOk result (λ text. text.items ≡ page_text name.now options rules.now rows.now findings.now) }
+    ensures { IfOk result (λ text. text.items ≡ page_text name.now options rules.now rows.now findings.now checked.now) }
 {
     let counts = counts_of(alloc, findings)?;
     let mut out = Vec::new(alloc);
     push_head(&mut out, name, options.loaded, counts.all)?;
     push_overview(&mut out, rules, rows, &counts)?;
     push_sections(&mut out, rules, rows, options.first, &counts, findings)?;
+    push_checks(&mut out, checked, options.first)?;
     push(&mut out, Piece::Foot)?;
     Ok(out)
 }

@@ -7,7 +7,7 @@ ghost use Rattle.page_text.specs.Sections.{cind_body, cind_section, cind_section
 use crate::groups::push_groups;
 use crate::markup::{Piece, markup, push};
 use crate::missing::push_missing_table;
-use crate::rows::Shown;
+use crate::rows::{Shown, rows_at};
 use crate::words::{push_cind_words, push_dep_words};
 use html_text::{count_at, item, push_between, push_number_between};
 use rule_model::{Cind, Dep};
@@ -48,7 +48,7 @@ pub fn push_dep_sections(
     out: &mut Vec<u8>,
     tables: &[Table],
     deps: &[Dep],
-    read: &[usize],
+    read: &[u64],
     first: usize,
     counts: &[usize],
     found: &[List<Group>],
@@ -65,7 +65,7 @@ fn push_dep_at(
     out: &mut Vec<u8>,
     tables: &[Table],
     deps: &[Dep],
-    read: &[usize],
+    read: &[u64],
     first: usize,
     counts: &[usize],
     found: &[List<Group>],
@@ -91,7 +91,7 @@ fn push_dep_of(
     out: &mut Vec<u8>,
     tables: &[Table],
     dep: Option<&Dep>,
-    read: &[usize],
+    read: &[u64],
     first: usize,
     place: usize,
     count: usize,
@@ -108,12 +108,12 @@ fn push_dep_of(
     }
 }
 
-fn shown_of(first: usize, read: &[usize], table: usize) -> Shown
+fn shown_of(first: usize, read: &[u64], table: usize) -> Shown
     ensures { result ≡ record { first = first; read = slice_index read.now table } }
 {
     Shown {
         first,
-        read: count_at(read, table),
+        read: rows_at(read, table),
     }
 }
 
@@ -160,7 +160,7 @@ pub fn push_cind_sections(
     out: &mut Vec<u8>,
     tables: &[Table],
     cinds: &[Cind],
-    read: &[usize],
+    read: &[u64],
     first: usize,
     counts: &[usize],
     found: &[List<Missing>],
@@ -177,7 +177,7 @@ fn push_cind_at(
     out: &mut Vec<u8>,
     tables: &[Table],
     cinds: &[Cind],
-    read: &[usize],
+    read: &[u64],
     first: usize,
     counts: &[usize],
     found: &[List<Missing>],
@@ -203,7 +203,7 @@ fn push_cind_of(
     out: &mut Vec<u8>,
     tables: &[Table],
     cind: Option<&Cind>,
-    read: &[usize],
+    read: &[u64],
     first: usize,
     place: usize,
     count: usize,

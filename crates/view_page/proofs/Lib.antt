@@ -1,3 +1,1 @@
-mod RowCounts
 mod Statuses
-mod Pages
