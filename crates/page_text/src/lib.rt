@@ -4,6 +4,7 @@
 
 mod checks;
 mod groups;
+mod kinds;
 mod markup;
 mod missing;
 mod overview;

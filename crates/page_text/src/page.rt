@@ -6,9 +6,9 @@ ghost use Rattle.rule_model.specs.Books.{book_cinds, book_deps};
 
 use crate::checks::push_checks;
 use crate::markup::{Piece, markup, push, style};
-use crate::overview::{push_cind_rows, push_dep_rows, push_tables};
+use crate::overview::{push_rules, push_tables};
 use crate::rows::RowCounts;
-use crate::sections::{push_cind_sections, push_dep_sections};
+use crate::sections::push_sections;
 use crate::totals::{Counts, counts_of};
 use html_text::{push_between, push_number_between};
 use rule_model::RuleBook;
@@ -40,7 +40,7 @@ pub fn page_text(
     let mut out = Vec::new(alloc);
     push_head(&mut out, name, options.loaded, counts.all)?;
     push_overview(&mut out, rules, rows, &counts)?;
-    push_sections(&mut out, rules, rows, options.first, &counts, findings)?;
+    push_all_sections(&mut out, rules, rows, options.first, &counts, findings)?;
     push_checks(&mut out, checked, options.first)?;
     push(&mut out, Piece::Foot)?;
     Ok(out)
@@ -86,13 +86,26 @@ fn push_overview(
     let tables = rules.schema().tables.as_slice();
     push_tables(out, tables, rows)?;
     push(out, Piece::Rules)?;
-    push_dep_rows(out, tables, rules.deps().as_slice(), counts)?;
-    push_cind_rows(out, tables, rules.cinds().as_slice(), counts)?;
+    let largest = counts.largest;
+    push_rules(
+        out,
+        tables,
+        rules.deps().as_slice(),
+        counts.deps.as_slice(),
+        largest,
+    )?;
+    push_rules(
+        out,
+        tables,
+        rules.cinds().as_slice(),
+        counts.cinds.as_slice(),
+        largest,
+    )?;
     push(out, Piece::RulesEnd)?;
     Ok(())
 }
 
-fn push_sections(
+fn push_all_sections(
     out: &mut Vec<u8>,
     rules: &RuleBook,
     rows: &RowCounts,
@@ -104,7 +117,7 @@ fn push_sections(
 {
     let tables = rules.schema().tables.as_slice();
     let read = rows.read.as_slice();
-    push_dep_sections(
+    push_sections(
         out,
         tables,
         rules.deps().as_slice(),
@@ -113,7 +126,7 @@ fn push_sections(
         counts.deps.as_slice(),
         findings.deps.as_slice(),
     )?;
-    push_cind_sections(
+    push_sections(
         out,
         tables,
         rules.cinds().as_slice(),

@@ -56,36 +56,35 @@ fn page<L: Ledger>(
 {
     let checked = checked(alloc, &project.bench)?;
     let looked = look(alloc, project, options.loaded, steps)?;
-    let shown = page_on(alloc, options, looked, checked.as_slice(), steps)?;
+    let Looked { bench, counts } = looked;
+    let shown = page_on(
+        alloc,
+        &options.project,
+        options_of(options),
+        counts,
+        &bench,
+        checked.as_slice(),
+        steps,
+    )?;
     Ok(shown)
 }
 
 fn page_on<L: Ledger>(
     alloc: Global,
-    options: &PageOptions,
-    looked: Looked,
+    name: &Text,
+    options: Options,
+    read: List<u64>,
+    bench: &Bench,
     checked: &[List<u8>],
     steps: &mut Steps<L>,
 ) -> Result<Shown, AllocError>
-    ensures page { IfOk result (λ shown. IsPageOf options.now.project (options_of options.now) looked.counts looked.bench.rules looked.bench.history.present checked.now shown.text.items shown.status) }
+    ensures page { IfOk result (λ shown. IsPageOf name.now options read bench.now.rules bench.now.history.present checked.now shown.text.items shown.status) }
     ensures whole { IfOk result (λ shown. IsWhole shown.status) }
 {
-    let Looked { bench, counts } = looked;
-    let present = counts_of(alloc, &bench)?;
-    let rows = RowCounts {
-        read: counts,
-        present,
-    };
-    let text = text_on(
-        alloc,
-        &options.project,
-        options_of(options),
-        &rows,
-        &bench,
-        checked,
-        steps,
-    )?;
-    let status = status_on(&bench);
+    let present = counts_of(alloc, bench)?;
+    let rows = RowCounts { read, present };
+    let text = text_on(alloc, name, options, &rows, bench, checked, steps)?;
+    let status = status_on(bench);
     Ok(Shown { text, status })
 }
 

@@ -1,5 +1,5 @@
 //! What `check` finds in the tables of a bench.
-ghost use Rattle.std.specs.Prelude.{◌≡◌, ◌<◌, IfOk, length};
+ghost use Rattle.std.specs.Prelude.{◌≡◌, ◌<◌, ◌++◌, ◌∷◌, [], IfOk, OnOk, filter, length};
 ghost use Rattle.cfd_semantics.specs.Tuple.{tuples_of};
 ghost use Rattle.bench_core.specs.State.{rows_at};
 ghost use Rattle.view_page.specs.PageForm.{IsChecked, found_of, is_finding, lines_found, tables_of};
@@ -40,12 +40,23 @@ fn lines_found(alloc: Global, told: &[u8]) -> Result<List<List<u8>>, AllocError>
     let mut rest = told;
     while !rest.is_empty() {
         let (line, behind) = split_line(rest);
-        if is_finding(line) {
-            found.push(bytes_of(alloc, line)?)?;
-        }
+        push_finding(alloc, &mut found, line)?;
         rest = behind;
     }
     Ok(found)
+}
+
+fn push_finding(
+    alloc: Global,
+    found: &mut List<List<u8>>,
+    line: &[u8],
+) -> Result<(), AllocError>
+    ensures { OnOk result (found.new ≡ found.old ++ filter is_finding (line.now ∷ [])) }
+{
+    if is_finding(line) {
+        found.push(bytes_of(alloc, line)?)?;
+    }
+    Ok(())
 }
 
 fn is_finding(line: &[u8]) -> bool
