@@ -1,5 +1,5 @@
 -- The form `page PROJECT` of `cfdview`: a project as a page.
-use Rattle.std.specs.Prelude.{◌≡◌, ◌↔◌, ℕ, Bool, not, ◌&&◌, List, [], ◌∷◌, Option, None, Some, map, filter, codes, nat_eq}
+use Rattle.std.specs.Prelude.{◌≡◌, ◌↔◌, ℕ, Bool, true, false, not, ◌&&◌, if◌then◌else◌, List, [], ◌∷◌, Option, None, Some, map, filter, codes, nat_eq}
 use Rattle.std.specs.List.{ends_with, starts_with}
 use Rattle.text_lists.specs.declared.limits.Limits.{Limits}
 use Rattle.line_grammar.specs.Lines.{lines}
@@ -49,10 +49,13 @@ is_finding line = not (is_count line)
 abbrev pub lines_found : List ℕ → List (List ℕ)
 lines_found told = filter is_finding (lines told)
 
+abbrev pub is_clean : Status → Bool
+is_clean Clean = true
+is_clean other = false
+
 -- what `check` finds, by the text that it tells and the status
 abbrev pub found_of : List ℕ → Status → List (List ℕ)
-found_of told Clean = []
-found_of told other = lines_found told
+found_of told status = if is_clean status then [] else lines_found told
 
 -- what it finds in the rules, and in the tables of a state
 abbrev pub IsChecked : Book → State → List (List ℕ) → Type 0

@@ -119,7 +119,15 @@ fn text_on<L: Ledger>(
     ensures { IfOk result (λ text. IsTextOn name.now options rows.now bench.now.rules bench.now.history.present checked.now text.items) }
 {
     let findings = findings(alloc, bench, steps)?;
-    page_text(alloc, name, options, bench.rules(), rows, &findings, checked)
+    page_text(
+        alloc,
+        name,
+        options,
+        bench.rules(),
+        rows,
+        &findings,
+        checked,
+    )
 }
 
 fn status_on(bench: &Bench) -> Status

@@ -2,7 +2,7 @@
 ghost use Rattle.std.specs.Prelude.{◌≡◌, ◌<◌, ◌++◌, ◌∷◌, [], IfOk, OnOk, filter, length};
 ghost use Rattle.cfd_semantics.specs.Tuple.{tuples_of};
 ghost use Rattle.bench_core.specs.State.{rows_at};
-ghost use Rattle.view_page.specs.PageForm.{IsChecked, found_of, is_finding, lines_found, tables_of};
+ghost use Rattle.view_page.specs.PageForm.{IsChecked, found_of, is_clean, is_finding, lines_found, tables_of};
 
 use bench_core::Bench;
 use cli_output::Status;
@@ -26,9 +26,18 @@ pub fn checked(alloc: Global, bench: &Bench) -> Result<List<List<u8>>, AllocErro
 fn found_of(alloc: Global, told: &Told) -> Result<List<List<u8>>, AllocError>
     ensures { IfOk result (λ found. found ≡ found_of told.now.text.items told.now.status) }
 {
-    match told.status {
-        Status::Clean => Ok(List::new(alloc)),
-        _ => lines_found(alloc, &told.text),
+    if is_clean(told.status) {
+        return Ok(List::new(alloc));
+    }
+    lines_found(alloc, &told.text)
+}
+
+fn is_clean(status: Status) -> bool
+    ensures { result ≡ is_clean status }
+{
+    match status {
+        Status::Clean => true,
+        _ => false,
     }
 }
 
@@ -46,11 +55,7 @@ fn lines_found(alloc: Global, told: &[u8]) -> Result<List<List<u8>>, AllocError>
     Ok(found)
 }
 
-fn push_finding(
-    alloc: Global,
-    found: &mut List<List<u8>>,
-    line: &[u8],
-) -> Result<(), AllocError>
+fn push_finding(alloc: Global, found: &mut List<List<u8>>, line: &[u8]) -> Result<(), AllocError>
     ensures { OnOk result (found.new ≡ found.old ++ filter is_finding (line.now ∷ [])) }
 {
     if is_finding(line) {

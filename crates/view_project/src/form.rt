@@ -51,8 +51,33 @@ pub fn show_project<F: ProjectForm, S: Shelf, O: Sink, L: Ledger>(
     ensures written { Writes (Output limits.now (project_task limits.now (F.name options.now) (F.outputs options.now)) (S.told shelf.old).holding) result (O.told out.old).written (O.told out.new).written }
     ensures devices { UsesDevices limits.now (project_task limits.now (F.name options.now) (F.outputs options.now)) result (S.told shelf.old) (S.told shelf.new) (O.told out.old) (O.told out.new) }
 {
+    show_named::<F, S, O, L>(
+        alloc,
+        options,
+        F::project(options),
+        shelf,
+        out,
+        limits,
+        steps,
+    )
+}
+
+/// The same, with the name of the project.
+fn show_named<F: ProjectForm, S: Shelf, O: Sink, L: Ledger>(
+    alloc: Global,
+    options: &F::Options,
+    name: &Text,
+    shelf: &mut S,
+    out: &mut O,
+    limits: &Limits,
+    steps: &mut Steps<L>,
+) -> Status
+    requires { AreLimits limits.now }
+    ensures written { Writes (Output limits.now (project_task limits.now name.now (F.outputs options.now)) (S.told shelf.old).holding) result (O.told out.old).written (O.told out.new).written }
+    ensures devices { UsesDevices limits.now (project_task limits.now name.now (F.outputs options.now)) result (S.told shelf.old) (S.told shelf.new) (O.told out.old) (O.told out.new) }
+{
     let mut left = limits.all_bytes;
-    match fetch_project(alloc, shelf, F::project(options), limits, &mut left, steps) {
+    match fetch_project(alloc, shelf, name, limits, &mut left, steps) {
         Ok(project) => show_fetched::<F, O, L>(alloc, options, project, out, steps),
         Err(stop) => end_by(alloc, &stop, out),
     }
