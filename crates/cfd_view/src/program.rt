@@ -1,17 +1,21 @@
 //! The top call.
-ghost use Rattle.std.specs.Prelude.{◌≡◌};
+ghost use Rattle.std.specs.Prelude.{◌≡◌, ◌<◌};
 ghost use Rattle.text_lists.specs.Limits.{AreLimits, standard};
 ghost use Rattle.cli_output.specs.Output.{Output, UsesDevices, Writes};
 ghost use Rattle.cfd_view.specs.Asked.{asked_task, form_task, help_task, task_of};
 
 use cli_output::{Status, end_with};
 use hash_keys::HashKeys;
+use probe_steps::Steps;
 use schema_core::{Limits, Texts};
 use shelf_io::{Shelf, Sink};
 use std::alloc::{AllocError, Global};
+use std::marker::Brand;
+use std::sync::ledger::{Blank, Ledger};
 use view_check::look_at_project;
-use view_forms::{list_project, row_project};
-use view_page::page_project;
+use view_forms::{ListForm, RowForm};
+use view_page::PageForm;
+use view_project::show_project;
 use view_schema::draft_schema;
 use view_words::{Asked, Form, asked_of, help_text};
 
@@ -56,14 +60,52 @@ pub fn run_with_keys<S: Shelf, O: Sink>(
     ensures written { Writes (Output limits (task_of limits words.now) (S.told shelf.old).holding) result (O.told out.old).written (O.told out.new).written }
     ensures devices { UsesDevices limits (task_of limits words.now) result (S.told shelf.old) (S.told shelf.new) (O.told out.old) (O.told out.new) }
 {
+    run_opened::<S, O, Brand>(alloc, keys, words, shelf, out, &limits, Blank::new(1))
+}
+
+/// The same, with a counter of index probes that is opened for this call. It takes no bytes, and nothing reads it.
+fn run_opened<S: Shelf, O: Sink, L: Ledger>(
+    alloc: Global,
+    keys: HashKeys,
+    words: &Texts,
+    shelf: &mut S,
+    out: &mut O,
+    limits: &Limits,
+    blank: Blank,
+) -> Status
+    requires limits { AreLimits limits.now }
+    requires name { blank.name ≡ L.name }
+    requires parts { blank.parts ≡ L.parts }
+    requires some { 0 < blank.parts }
+    ensures written { Writes (Output limits.now (task_of limits.now words.now) (S.told shelf.old).holding) result (O.told out.old).written (O.told out.new).written }
+    ensures devices { UsesDevices limits.now (task_of limits.now words.now) result (S.told shelf.old) (S.told shelf.new) (O.told out.old) (O.told out.new) }
+{
+    let mut steps = Steps::<L>::open(blank);
+    run_counted(alloc, keys, words, shelf, out, limits, &mut steps)
+}
+
+/// The same, with a counter of the caller.
+fn run_counted<S: Shelf, O: Sink, L: Ledger>(
+    alloc: Global,
+    keys: HashKeys,
+    words: &Texts,
+    shelf: &mut S,
+    out: &mut O,
+    limits: &Limits,
+    steps: &mut Steps<L>,
+) -> Status
+    requires { AreLimits limits.now }
+    ensures written { Writes (Output limits.now (task_of limits.now words.now) (S.told shelf.old).holding) result (O.told out.old).written (O.told out.new).written }
+    ensures devices { UsesDevices limits.now (task_of limits.now words.now) result (S.told shelf.old) (S.told shelf.new) (O.told out.old) (O.told out.new) }
+{
     match asked_of(alloc, words.as_slice()) {
-        Ok(asked) => answer(alloc, keys, words, &asked, shelf, out, &limits),
+        Ok(asked) => answer(alloc, keys, words, &asked, shelf, out, limits, steps),
         Err(AllocError) => Status::Memory,
     }
 }
 
 /// Does what was asked for by the words.
-fn answer<S: Shelf, O: Sink>(
+fn answer<S: Shelf, O: Sink, L: Ledger>(
     alloc: Global,
     keys: HashKeys,
     words: &Texts,
@@ -71,36 +113,44 @@ fn answer<S: Shelf, O: Sink>(
     shelf: &mut S,
     out: &mut O,
     limits: &Limits,
+    steps: &mut Steps<L>,
 ) -> Status
     requires { AreLimits limits.now }
     ensures written { Writes (Output limits.now (asked_task limits.now asked.now) (S.told shelf.old).holding) result (O.told out.old).written (O.told out.new).written }
     ensures devices { UsesDevices limits.now (asked_task limits.now asked.now) result (S.told shelf.old) (S.told shelf.new) (O.told out.old) (O.told out.new) }
 {
     match asked {
-        Asked::Form(form) => answer_form(alloc, keys, form, shelf, out, limits),
+        Asked::Form(form) => answer_form(alloc, keys, form, shelf, out, limits, steps),
         Asked::Help => help(alloc, words, shelf, out, limits),
         Asked::Nothing => Status::Usage,
     }
 }
 
-fn answer_form<S: Shelf, O: Sink>(
+fn answer_form<S: Shelf, O: Sink, L: Ledger>(
     alloc: Global,
     keys: HashKeys,
     form: &Form,
     shelf: &mut S,
     out: &mut O,
     limits: &Limits,
+    steps: &mut Steps<L>,
 ) -> Status
     requires { AreLimits limits.now }
     ensures written { Writes (Output limits.now (form_task limits.now form.now) (S.told shelf.old).holding) result (O.told out.old).written (O.told out.new).written }
     ensures devices { UsesDevices limits.now (form_task limits.now form.now) result (S.told shelf.old) (S.told shelf.new) (O.told out.old) (O.told out.new) }
 {
     match form {
-        Form::List(options) => list_project(alloc, keys, options, shelf, out, limits),
-        Form::Row(options) => row_project(alloc, keys, options, shelf, out, limits),
-        Form::Check { project } => look_at_project(alloc, keys, project, shelf, out, limits),
+        Form::List(options) => {
+            show_project::<ListForm, S, O, L>(alloc, keys, options, shelf, out, limits, steps)
+        }
+        Form::Row(options) => {
+            show_project::<RowForm, S, O, L>(alloc, keys, options, shelf, out, limits, steps)
+        }
+        Form::Check { project } => look_at_project(alloc, keys, project, shelf, out, limits, steps),
         Form::Schema { files } => draft_schema(alloc, keys, files.as_slice(), shelf, out, limits),
-        Form::Page(options) => page_project(alloc, keys, options, shelf, out, limits),
+        Form::Page(options) => {
+            show_project::<PageForm, S, O, L>(alloc, keys, options, shelf, out, limits, steps)
+        }
     }
 }
 

@@ -7,12 +7,20 @@ use std::alloc::AllocError;
 use text_lists::Text;
 
 /// Appends a text that comes from outside. Where markup is read, what is appended is that text, whatever it holds.
-#[tactic(auto, unfolding(crate::specs::Escaped::escaped))]
 pub fn push_escaped(out: &mut Vec<u8>, text: &Text) -> Result<(), AllocError>
     ensures text { OnOk result (out.new.items ≡ out.old.items ++ escaped text.now) }
     ensures law { IsOnlyText (escaped text.now) }
 {
-    push_bytes(out, text.as_str().as_bytes())
+    push_escaped_bytes(out, text.as_str().as_bytes())
+}
+
+/// Appends a text that comes from outside, by its bytes.
+#[tactic(auto, unfolding(crate::specs::Escaped::escaped))]
+pub fn push_escaped_bytes(out: &mut Vec<u8>, bytes: &[u8]) -> Result<(), AllocError>
+    ensures text { OnOk result (out.new.items ≡ out.old.items ++ escaped bytes.now) }
+    ensures law { IsOnlyText (escaped bytes.now) }
+{
+    push_bytes(out, bytes)
 }
 
 fn push_bytes(out: &mut Vec<u8>, bytes: &[u8]) -> Result<(), AllocError>

@@ -10,5 +10,5 @@ pub use elements::{
     push_between, push_bold, push_cell, push_code, push_marked, push_more, push_number_between,
     push_number_cell, push_size,
 };
-pub use escaping::push_escaped;
+pub use escaping::{push_escaped, push_escaped_bytes};
 pub use fronts::{count_at, front_of, item};

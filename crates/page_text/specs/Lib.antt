@@ -3,6 +3,9 @@ pub mod Totals
 pub mod Words
 pub mod Rows
 pub mod Groups
+pub mod Kinds
 pub mod Overview
 pub mod Sections
+pub mod Checks
 pub mod Page
+pub mod Parts

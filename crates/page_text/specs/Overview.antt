@@ -1,16 +1,13 @@
 -- The tables, and the rules by how many violations they have.
 use Rattle.std.specs.Prelude.{ℕ, ◌==◌, List, [], ◌++◌, Option, None, Some, if◌then◌else◌, length, slice_get, slice_index}
 use Rattle.schema_core.specs.declared.schema.Table.{Table}
-use Rattle.rule_model.specs.declared.cind.Cind.{Cind}
-use Rattle.rule_model.specs.declared.dep.Dep.{Dep}
 use Rattle.html_text.specs.Escaped.{escaped}
 use Rattle.html_text.specs.Elements.{cell, each_place, number_between, number_cell}
+use Rattle.page_text.specs.Kinds.{Kind}
 use Rattle.page_text.specs.Markup.{markup}
-use Rattle.page_text.specs.Words.{cind_words, dep_words}
 use Rattle.page_text.specs.declared.markup.Piece.{Piece}
 use Rattle.page_text.specs.declared.markup.Piece.TheVariants as piece
 use Rattle.page_text.specs.declared.rows.RowCounts.{RowCounts}
-use Rattle.page_text.specs.declared.totals.Counts.{Counts}
 
 -- ---- tables
 
@@ -49,22 +46,14 @@ bar count largest =
 abbrev pub row_end : ℕ → ℕ → List ℕ
 row_end count largest = markup piece.CellEnd ++ number_cell count ++ bar count largest
 
-abbrev pub dep_row_of : List Table → Option Dep → ℕ → ℕ → ℕ → List ℕ
-dep_row_of tables None place count largest = []
-dep_row_of tables (Some dep) place count largest = rule_head piece.DepLink dep.name place count ++ dep_words tables dep ++ row_end count largest
+module _ {Rule Found : Type 0} (kind : Kind Rule Found) where
+  abbrev pub rule_row_of : List Table → Option Rule → ℕ → ℕ → ℕ → List ℕ
+  rule_row_of tables None place count largest = []
+  rule_row_of tables (Some rule) place count largest =
+      rule_head kind.link (kind.name rule) place count ++ kind.words tables rule ++ row_end count largest
 
-abbrev pub dep_row_at : List Table → List Dep → Counts → ℕ → List ℕ
-dep_row_at tables deps counts place = dep_row_of tables (slice_get deps place) place (slice_index counts.deps place) counts.largest
+  abbrev pub rule_row_at : List Table → List Rule → List ℕ → ℕ → ℕ → List ℕ
+  rule_row_at tables rules counts largest place = rule_row_of tables (slice_get rules place) place (slice_index counts place) largest
 
-abbrev pub dep_rows : List Table → List Dep → Counts → List ℕ
-dep_rows tables deps counts = each_place (dep_row_at tables deps counts) (length deps)
-
-abbrev pub cind_row_of : List Table → Option Cind → ℕ → ℕ → ℕ → List ℕ
-cind_row_of tables None place count largest = []
-cind_row_of tables (Some cind) place count largest = rule_head piece.CindLink cind.name place count ++ cind_words tables cind ++ row_end count largest
-
-abbrev pub cind_row_at : List Table → List Cind → Counts → ℕ → List ℕ
-cind_row_at tables cinds counts place = cind_row_of tables (slice_get cinds place) place (slice_index counts.cinds place) counts.largest
-
-abbrev pub cind_rows : List Table → List Cind → Counts → List ℕ
-cind_rows tables cinds counts = each_place (cind_row_at tables cinds counts) (length cinds)
+  abbrev pub rule_rows : List Table → List Rule → List ℕ → ℕ → List ℕ
+  rule_rows tables rules counts largest = each_place (rule_row_at tables rules counts largest) (length rules)

@@ -2,7 +2,9 @@
 //! page's text is a definition over what is found (`specs/Page.antt`), in which each text from outside is escaped.
 #![tactic(auto)]
 
+mod checks;
 mod groups;
+mod kinds;
 mod markup;
 mod missing;
 mod overview;

@@ -65,6 +65,12 @@ pub enum Piece {
     MustBe,
     OneOf,
     NoneOf,
+    Checks,
+    NoChecks,
+    ChecksOpen,
+    Item,
+    ItemEnd,
+    ChecksClose,
     Foot,
 }
 
@@ -134,6 +140,13 @@ pub fn markup(piece: Piece) -> &'static [u8]
         Piece::MustBe => b"must be ",
         Piece::OneOf => b"must be one of ",
         Piece::NoneOf => b"must be none of ",
+        Piece::Checks => b"<h2>What check finds</h2>\n",
+        Piece::NoChecks => b"<p>Nothing.</p>\n",
+        Piece::ChecksOpen =>
+            b"<p><small>In the rules, and in the tables as they were read.</small></p>\n<ul>\n",
+        Piece::Item => b"<li>",
+        Piece::ItemEnd => b"</li>\n",
+        Piece::ChecksClose => b"</ul>\n",
         Piece::Foot => b"</body></html>\n",
     }
 }
@@ -142,7 +155,7 @@ pub fn markup(piece: Piece) -> &'static [u8]
 pub fn style() -> &'static [u8]
     ensures { result.now ≡ style }
 {
-    b":root{color-scheme:light dark;--ink:#1c2733;--soft:#5b6b7b;--line:#d5dde5;--back:#fff;--chip:#eef3f8;--bar:#c4442e;--odd:#ffd9cf}\n@media(prefers-color-scheme:dark){:root{--ink:#e6edf3;--soft:#9aa9b8;--line:#39434d;--back:#14191f;--chip:#222b35;--bar:#e8705b;--odd:#6b2a1e}}\nbody{margin:0 auto;max-width:60rem;padding:1rem;color:var(--ink);background:var(--back);font:16px/1.45 system-ui,sans-serif}\nh1{font-size:1.5rem;margin:.2rem 0}\nh2{font-size:1.2rem;margin:2rem 0 .4rem}\nh3{font-size:1.05rem;margin:0}\nh1,h3,p,td,caption{overflow-wrap:anywhere}\np{margin:.3rem 0}\na{color:inherit}\n.wide{overflow-x:auto}\ntable{border-collapse:collapse;width:100%}\nth,td{padding:.25rem .6rem .25rem 0;border-bottom:1px solid var(--line);text-align:left;vertical-align:top}\nth,caption,small,em{color:var(--soft);font-weight:normal;font-style:normal;font-size:.85rem}\n.n{text-align:right;white-space:nowrap;width:5rem}\n.w{width:30%}\n.w i{display:block;height:.9rem;margin-top:.25rem;min-width:3px;border-radius:2px;background:var(--bar)}\ncode{background:var(--chip);border-radius:3px;padding:0 .3rem;font-size:.9em;white-space:pre-wrap}\nb,mark{white-space:pre-wrap;color:inherit}\ntd b,caption b{color:var(--ink);border-bottom:1px dotted var(--soft)}\nb:empty::after,mark:empty::after{content:\"empty\";font-style:italic;font-weight:normal;color:var(--soft)}\nmark{background:var(--odd);border-radius:3px;padding:0 .3rem}\nsection{border-top:3px solid var(--line);margin-top:1.6rem;padding-top:.6rem}\nsection table{margin-top:.8rem;border-left:4px solid var(--chip)}\nsection th,section td,caption{padding-left:.6rem}\ncaption{text-align:left;padding-bottom:.2rem}\n@media print{body{max-width:none;padding:0;font-size:10pt}.wide{overflow:visible}tr,h3,caption{break-inside:avoid;break-after:avoid}mark,code,.w i{-webkit-print-color-adjust:exact;print-color-adjust:exact}}\n"
+    b":root{color-scheme:light dark;--ink:#1c2733;--soft:#5b6b7b;--line:#d5dde5;--back:#fff;--chip:#eef3f8;--bar:#c4442e;--odd:#ffd9cf}\n@media(prefers-color-scheme:dark){:root{--ink:#e6edf3;--soft:#9aa9b8;--line:#39434d;--back:#14191f;--chip:#222b35;--bar:#e8705b;--odd:#6b2a1e}}\nbody{margin:0 auto;max-width:60rem;padding:1rem;color:var(--ink);background:var(--back);font:16px/1.45 system-ui,sans-serif}\nh1{font-size:1.5rem;margin:.2rem 0}\nh2{font-size:1.2rem;margin:2rem 0 .4rem}\nh3{font-size:1.05rem;margin:0}\nh1,h3,p,td,caption{overflow-wrap:anywhere}\np{margin:.3rem 0}\na{color:inherit}\n.wide{overflow-x:auto}\ntable{border-collapse:collapse;width:100%}\nth,td{padding:.25rem .6rem .25rem 0;border-bottom:1px solid var(--line);text-align:left;vertical-align:top}\nth,caption,small,em{color:var(--soft);font-weight:normal;font-style:normal;font-size:.85rem}\n.n{text-align:right;white-space:nowrap;width:5rem}\n.w{width:30%}\n.w i{display:block;height:.9rem;margin-top:.25rem;min-width:3px;border-radius:2px;background:var(--bar)}\ncode{background:var(--chip);border-radius:3px;padding:0 .3rem;font-size:.9em;white-space:pre-wrap}\nb,mark{white-space:pre-wrap;color:inherit}\ntd b,caption b{color:var(--ink);border-bottom:1px dotted var(--soft)}\nb:empty::after,mark:empty::after{content:\"empty\";font-style:italic;font-weight:normal;color:var(--soft)}\nmark{background:var(--odd);border-radius:3px;padding:0 .3rem}\nsection{border-top:3px solid var(--line);margin-top:1.6rem;padding-top:.6rem}\nsection table{margin-top:.8rem;border-left:4px solid var(--chip)}\nsection th,section td,caption{padding-left:.6rem}\ncaption{text-align:left;padding-bottom:.2rem}\nul{list-style:none;margin:.3rem 0;padding:0}\nli{padding:.15rem 0;border-bottom:1px solid var(--line);white-space:pre-wrap;overflow-wrap:anywhere}\n@media print{body{max-width:none;padding:0;font-size:10pt}.wide{overflow:visible}tr,h3,caption{break-inside:avoid;break-after:avoid}mark,code,.w i{-webkit-print-color-adjust:exact;print-color-adjust:exact}}\n"
 }
 
 pub fn push(out: &mut Vec<u8>, piece: Piece) -> Result<(), AllocError>

@@ -3,14 +3,12 @@ ghost use Rattle.std.specs.Prelude.{◌≡◌, ◌++◌, OnOk, length, slice_get
 ghost use Rattle.std.specs.Option.{option_copied};
 ghost use Rattle.html_text.specs.Elements.{each_place};
 ghost use Rattle.page_text.specs.Markup.{markup};
-ghost use Rattle.page_text.specs.Overview.{bar, cind_row_at, cind_row_of, cind_rows, dep_row_at, dep_row_of, dep_rows, row_end, rule_head, rule_link, rule_name, table_at, table_of, table_row, tables_rows};
+ghost use Rattle.page_text.specs.Overview.{bar, row_end, rule_head, rule_link, rule_name, rule_row_at, rule_row_of, rule_rows, table_at, table_of, table_row, tables_rows};
 
+use crate::kinds::Rule;
 use crate::markup::{Piece, markup, push};
-use crate::rows::RowCounts;
-use crate::totals::Counts;
-use crate::words::{push_cind_words, push_dep_words};
+use crate::rows::{RowCounts, rows_at};
 use html_text::{count_at, item, push_cell, push_escaped, push_number_between, push_number_cell};
-use rule_model::{Cind, Dep};
 use schema_core::Table;
 use std::alloc::AllocError;
 use text_lists::Text;
@@ -34,16 +32,16 @@ fn push_table_at(
 ) -> Result<(), AllocError>
     ensures { OnOk result (out.new.items ≡ out.old.items ++ table_at tables.now rows.now place) }
 {
-    let read = count_at(rows.read.as_slice(), place);
-    let now = count_at(rows.present.as_slice(), place);
+    let read = rows_at(rows.read.as_slice(), place);
+    let now = rows_at(rows.present.as_slice(), place);
     push_table_of(out, item(tables, place), read, now)
 }
 
 fn push_table_of(
     out: &mut Vec<u8>,
     table: Option<&Table>,
-    read: usize,
-    now: usize,
+    read: u64,
+    now: u64,
 ) -> Result<(), AllocError>
     ensures { OnOk result (out.new.items ≡ out.old.items ++ table_of (option_copied table.entry) read now) }
 {
@@ -53,115 +51,65 @@ fn push_table_of(
     }
 }
 
-fn push_table(out: &mut Vec<u8>, table: &Table, read: usize, now: usize) -> Result<(), AllocError>
+fn push_table(out: &mut Vec<u8>, table: &Table, read: u64, now: u64) -> Result<(), AllocError>
     ensures { OnOk result (out.new.items ≡ out.old.items ++ table_row table.now read now) }
 {
     push(out, Piece::Row)?;
     push_cell(out, &table.name)?;
     push_cell(out, &table.file)?;
-    push_number_cell(out, read)?;
-    push_number_cell(out, now)?;
+    push_number_cell(out, read as usize)?;
+    push_number_cell(out, now as usize)?;
     push(out, Piece::RowEnd)?;
     Ok(())
 }
 
 // ---- rules
 
-pub fn push_dep_rows(
+/// Appends a row for each rule, with a bar as long as it has violations.
+pub fn push_rules<R: Rule>(
     out: &mut Vec<u8>,
     tables: &[Table],
-    deps: &[Dep],
-    counts: &Counts,
+    rules: &[R],
+    counts: &[usize],
+    largest: usize,
 ) -> Result<(), AllocError>
-    ensures { OnOk result (out.new.items ≡ out.old.items ++ dep_rows tables.now deps.now counts.now) }
+    ensures { OnOk result (out.new.items ≡ out.old.items ++ rule_rows R.kind tables.now rules.now counts.now largest) }
 {
-    for place in 0..deps.len() {
-        push_dep_at(out, tables, deps, counts, place)?;
+    for place in 0..rules.len() {
+        push_rule_at(out, tables, rules, counts, largest, place)?;
     }
     Ok(())
 }
 
-fn push_dep_at(
+fn push_rule_at<R: Rule>(
     out: &mut Vec<u8>,
     tables: &[Table],
-    deps: &[Dep],
-    counts: &Counts,
+    rules: &[R],
+    counts: &[usize],
+    largest: usize,
     place: usize,
 ) -> Result<(), AllocError>
-    ensures { OnOk result (out.new.items ≡ out.old.items ++ dep_row_at tables.now deps.now counts.now place) }
+    ensures { OnOk result (out.new.items ≡ out.old.items ++ rule_row_at R.kind tables.now rules.now counts.now largest place) }
 {
-    let count = count_at(counts.deps.as_slice(), place);
-    push_dep_of(out, tables, item(deps, place), place, count, counts.largest)
+    let count = count_at(counts, place);
+    push_rule_of(out, tables, item(rules, place), place, count, largest)
 }
 
-fn push_dep_of(
+fn push_rule_of<R: Rule>(
     out: &mut Vec<u8>,
     tables: &[Table],
-    dep: Option<&Dep>,
+    rule: Option<&R>,
     place: usize,
     count: usize,
     largest: usize,
 ) -> Result<(), AllocError>
-    ensures { OnOk result (out.new.items ≡ out.old.items ++ dep_row_of tables.now (option_copied dep.entry) place count largest) }
+    ensures { OnOk result (out.new.items ≡ out.old.items ++ rule_row_of R.kind tables.now (option_copied rule.entry) place count largest) }
 {
-    let Some(dep) = dep else {
+    let Some(rule) = rule else {
         return Ok(());
     };
-    push_rule_head(out, Piece::DepLink, &dep.name, place, count)?;
-    push_dep_words(out, tables, dep)?;
-    push_row_end(out, count, largest)?;
-    Ok(())
-}
-
-pub fn push_cind_rows(
-    out: &mut Vec<u8>,
-    tables: &[Table],
-    cinds: &[Cind],
-    counts: &Counts,
-) -> Result<(), AllocError>
-    ensures { OnOk result (out.new.items ≡ out.old.items ++ cind_rows tables.now cinds.now counts.now) }
-{
-    for place in 0..cinds.len() {
-        push_cind_at(out, tables, cinds, counts, place)?;
-    }
-    Ok(())
-}
-
-fn push_cind_at(
-    out: &mut Vec<u8>,
-    tables: &[Table],
-    cinds: &[Cind],
-    counts: &Counts,
-    place: usize,
-) -> Result<(), AllocError>
-    ensures { OnOk result (out.new.items ≡ out.old.items ++ cind_row_at tables.now cinds.now counts.now place) }
-{
-    let count = count_at(counts.cinds.as_slice(), place);
-    push_cind_of(
-        out,
-        tables,
-        item(cinds, place),
-        place,
-        count,
-        counts.largest,
-    )
-}
-
-fn push_cind_of(
-    out: &mut Vec<u8>,
-    tables: &[Table],
-    cind: Option<&Cind>,
-    place: usize,
-    count: usize,
-    largest: usize,
-) -> Result<(), AllocError>
-    ensures { OnOk result (out.new.items ≡ out.old.items ++ cind_row_of tables.now (option_copied cind.entry) place count largest) }
-{
-    let Some(cind) = cind else {
-        return Ok(());
-    };
-    push_rule_head(out, Piece::CindLink, &cind.name, place, count)?;
-    push_cind_words(out, tables, cind)?;
+    push_rule_head(out, R::link(), rule.name(), place, count)?;
+    rule.push_words(out, tables)?;
     push_row_end(out, count, largest)?;
     Ok(())
 }

@@ -2,17 +2,19 @@
 ghost use Rattle.std.specs.Prelude.{◌≡◌, ◌++◌, IfOk, OnOk};
 ghost use Rattle.page_text.specs.Markup.{markup, style};
 ghost use Rattle.page_text.specs.Page.{head_text, overview_text, page_text, sections_text, state_piece, styled};
+ghost use Rattle.page_text.specs.Parts.{IsMadeOfParts};
 ghost use Rattle.rule_model.specs.Books.{book_cinds, book_deps};
 
+use crate::checks::push_checks;
 use crate::markup::{Piece, markup, push, style};
-use crate::overview::{push_cind_rows, push_dep_rows, push_tables};
+use crate::overview::{push_rules, push_tables};
 use crate::rows::RowCounts;
-use crate::sections::{push_cind_sections, push_dep_sections};
+use crate::sections::push_sections;
 use crate::totals::{Counts, counts_of};
 use html_text::{push_between, push_number_between};
 use rule_model::RuleBook;
 use std::alloc::{AllocError, Global};
-use text_lists::Text;
+use text_lists::{List, Text};
 use violation_groups::Findings;
 
 /// How many of each kind are shown, and whether the tables are shown as they were read.
@@ -22,8 +24,8 @@ pub struct Options {
     pub loaded: bool,
 }
 
-/// The page of a project of that name: what was read, and what is found.
-#[tactic(auto, unfolding(crate::specs::Page::page_text))]
+/// The page of a project of that name: what was read, what is found, and the lines of what `check` finds. Whatever these
+/// hold, it is made of markup that is always the same, of escaped texts, and of numbers.
 pub fn page_text(
     alloc: Global,
     name: &Text,
@@ -31,14 +33,32 @@ pub fn page_text(
     rules: &RuleBook,
     rows: &RowCounts,
     findings: &Findings,
+    checked: &[List<u8>],
 ) -> Result<Vec<u8>, AllocError>
-    ensures { IfOk result (λ text. text.items ≡ page_text name.now options rules.now rows.now findings.now) }
+    ensures text { IfOk result (λ text. text.items ≡ page_text name.now options rules.now rows.now findings.now checked.now) }
+    ensures law { IsMadeOfParts (page_text name.now options rules.now rows.now findings.now checked.now) }
+{
+    whole_page(alloc, name, options, rules, rows, findings, checked)
+}
+
+#[tactic(auto, unfolding(crate::specs::Page::page_text))]
+fn whole_page(
+    alloc: Global,
+    name: &Text,
+    options: Options,
+    rules: &RuleBook,
+    rows: &RowCounts,
+    findings: &Findings,
+    checked: &[List<u8>],
+) -> Result<Vec<u8>, AllocError>
+    ensures { IfOk result (λ text. text.items ≡ page_text name.now options rules.now rows.now findings.now checked.now) }
 {
     let counts = counts_of(alloc, findings)?;
     let mut out = Vec::new(alloc);
     push_head(&mut out, name, options.loaded, counts.all)?;
     push_overview(&mut out, rules, rows, &counts)?;
-    push_sections(&mut out, rules, rows, options.first, &counts, findings)?;
+    push_all_sections(&mut out, rules, rows, options.first, &counts, findings)?;
+    push_checks(&mut out, checked, options.first)?;
     push(&mut out, Piece::Foot)?;
     Ok(out)
 }
@@ -83,13 +103,26 @@ fn push_overview(
     let tables = rules.schema().tables.as_slice();
     push_tables(out, tables, rows)?;
     push(out, Piece::Rules)?;
-    push_dep_rows(out, tables, rules.deps().as_slice(), counts)?;
-    push_cind_rows(out, tables, rules.cinds().as_slice(), counts)?;
+    let largest = counts.largest;
+    push_rules(
+        out,
+        tables,
+        rules.deps().as_slice(),
+        counts.deps.as_slice(),
+        largest,
+    )?;
+    push_rules(
+        out,
+        tables,
+        rules.cinds().as_slice(),
+        counts.cinds.as_slice(),
+        largest,
+    )?;
     push(out, Piece::RulesEnd)?;
     Ok(())
 }
 
-fn push_sections(
+fn push_all_sections(
     out: &mut Vec<u8>,
     rules: &RuleBook,
     rows: &RowCounts,
@@ -101,7 +134,7 @@ fn push_sections(
 {
     let tables = rules.schema().tables.as_slice();
     let read = rows.read.as_slice();
-    push_dep_sections(
+    push_sections(
         out,
         tables,
         rules.deps().as_slice(),
@@ -110,7 +143,7 @@ fn push_sections(
         counts.deps.as_slice(),
         findings.deps.as_slice(),
     )?;
-    push_cind_sections(
+    push_sections(
         out,
         tables,
         rules.cinds().as_slice(),

@@ -1,5 +1,5 @@
 //! Row ids, and how many rows there are.
-ghost use Rattle.std.specs.Prelude.{◌≡◌, ◌++◌, OnOk};
+ghost use Rattle.std.specs.Prelude.{◌≡◌, ◌++◌, OnOk, slice_index};
 ghost use Rattle.std.specs.List.{flat_map};
 ghost use Rattle.page_text.specs.Rows.{id_end, id_text, ids_text, rows_cells};
 
@@ -13,14 +13,24 @@ use text_lists::List;
 #[derive(Clone, Copy, Debug, PartialEq, Eq)]
 pub struct Shown {
     pub first: usize,
-    pub read: usize,
+    pub read: u64,
 }
 
 /// How many rows were read of each table, and how many it has now.
 #[derive(Debug, Drop)]
 pub struct RowCounts {
-    pub read: List<usize>,
-    pub present: List<usize>,
+    pub read: List<u64>,
+    pub present: List<u64>,
+}
+
+/// The number of rows at a place, and 0 where there is none.
+pub fn rows_at(counts: &[u64], place: usize) -> u64
+    ensures { result ≡ slice_index counts.now place }
+{
+    match counts.get(place) {
+        Some(count) => *count,
+        None => 0,
+    }
 }
 
 /// Appends how many rows these are, and their ids.
@@ -64,7 +74,7 @@ fn push_id(out: &mut Vec<u8>, shown: Shown, row: u64) -> Result<(), AllocError>
 fn id_end(shown: Shown, row: u64) -> Piece
     ensures { result ≡ id_end shown row }
 {
-    if (shown.read as u64) < row {
+    if shown.read < row {
         Piece::Star
     } else {
         Piece::Blank

@@ -2,19 +2,110 @@
 ghost use Rattle.std.specs.Prelude.{◌≡◌, ◌++◌, OnOk, length, slice_get, slice_index};
 ghost use Rattle.std.specs.Option.{option_copied};
 ghost use Rattle.html_text.specs.Elements.{each_place};
-ghost use Rattle.page_text.specs.Sections.{cind_body, cind_section, cind_section_at, cind_section_of, cind_sections, counts_line, dep_body, dep_section, dep_section_at, dep_section_of, dep_sections, section_head};
+ghost use Rattle.page_text.specs.Sections.{body_of, counts_line, section, section_at, section_head, section_of, sections};
 
-use crate::groups::push_groups;
+use crate::kinds::Rule;
 use crate::markup::{Piece, markup, push};
-use crate::missing::push_missing_table;
-use crate::rows::Shown;
-use crate::words::{push_cind_words, push_dep_words};
+use crate::rows::{Shown, rows_at};
 use html_text::{count_at, item, push_between, push_number_between};
-use rule_model::{Cind, Dep};
 use schema_core::Table;
 use std::alloc::AllocError;
 use text_lists::{List, Text};
-use violation_groups::{Group, Missing};
+
+pub fn push_sections<R: Rule>(
+    out: &mut Vec<u8>,
+    tables: &[Table],
+    rules: &[R],
+    read: &[u64],
+    first: usize,
+    counts: &[usize],
+    found: &[List<R::Found>],
+) -> Result<(), AllocError>
+    ensures { OnOk result (out.new.items ≡ out.old.items ++ sections R.kind tables.now rules.now read.now first counts.now found.now) }
+{
+    for place in 0..rules.len() {
+        push_section_at(out, tables, rules, read, first, counts, found, place)?;
+    }
+    Ok(())
+}
+
+fn push_section_at<R: Rule>(
+    out: &mut Vec<u8>,
+    tables: &[Table],
+    rules: &[R],
+    read: &[u64],
+    first: usize,
+    counts: &[usize],
+    found: &[List<R::Found>],
+    place: usize,
+) -> Result<(), AllocError>
+    ensures { OnOk result (out.new.items ≡ out.old.items ++ section_at R.kind tables.now rules.now read.now first counts.now found.now place) }
+{
+    let count = count_at(counts, place);
+    let found = item(found, place);
+    push_section_of(
+        out,
+        tables,
+        item(rules, place),
+        read,
+        first,
+        place,
+        count,
+        found,
+    )
+}
+
+fn push_section_of<R: Rule>(
+    out: &mut Vec<u8>,
+    tables: &[Table],
+    rule: Option<&R>,
+    read: &[u64],
+    first: usize,
+    place: usize,
+    count: usize,
+    found: Option<&List<R::Found>>,
+) -> Result<(), AllocError>
+    ensures { OnOk result (out.new.items ≡ out.old.items ++ section_of R.kind tables.now (option_copied rule.entry) read.now first place count (option_copied found.entry)) }
+{
+    match (rule, found) {
+        (Some(rule), Some(found)) => {
+            let shown = shown_of(first, read, rule.table());
+            push_section(out, tables, rule, shown, place, count, found.as_slice())
+        }
+        _ => Ok(()),
+    }
+}
+
+fn shown_of(first: usize, read: &[u64], table: usize) -> Shown
+    ensures { result ≡ record { first = first; read = slice_index read.now table } }
+{
+    Shown {
+        first,
+        read: rows_at(read, table),
+    }
+}
+
+fn push_section<R: Rule>(
+    out: &mut Vec<u8>,
+    tables: &[Table],
+    rule: &R,
+    shown: Shown,
+    place: usize,
+    count: usize,
+    found: &[R::Found],
+) -> Result<(), AllocError>
+    ensures { OnOk result (out.new.items ≡ out.old.items ++ section R.kind tables.now rule.now shown place count found.now) }
+{
+    if found.is_empty() {
+        return Ok(());
+    }
+    push_section_head(out, R::section(), place, rule.name())?;
+    rule.push_words(out, tables)?;
+    push_counts(out, count, R::groups(), found.len())?;
+    push_body_of(out, item(tables, rule.table()), rule, shown, found)?;
+    push(out, Piece::SectionEnd)?;
+    Ok(())
+}
 
 fn push_section_head(
     out: &mut Vec<u8>,
@@ -42,217 +133,17 @@ fn push_counts(
     Ok(())
 }
 
-// ---- dependencies
-
-pub fn push_dep_sections(
-    out: &mut Vec<u8>,
-    tables: &[Table],
-    deps: &[Dep],
-    read: &[usize],
-    first: usize,
-    counts: &[usize],
-    found: &[List<Group>],
-) -> Result<(), AllocError>
-    ensures { OnOk result (out.new.items ≡ out.old.items ++ dep_sections tables.now deps.now read.now first counts.now found.now) }
-{
-    for place in 0..deps.len() {
-        push_dep_at(out, tables, deps, read, first, counts, found, place)?;
-    }
-    Ok(())
-}
-
-fn push_dep_at(
-    out: &mut Vec<u8>,
-    tables: &[Table],
-    deps: &[Dep],
-    read: &[usize],
-    first: usize,
-    counts: &[usize],
-    found: &[List<Group>],
-    place: usize,
-) -> Result<(), AllocError>
-    ensures { OnOk result (out.new.items ≡ out.old.items ++ dep_section_at tables.now deps.now read.now first counts.now found.now place) }
-{
-    let count = count_at(counts, place);
-    let groups = item(found, place);
-    push_dep_of(
-        out,
-        tables,
-        item(deps, place),
-        read,
-        first,
-        place,
-        count,
-        groups,
-    )
-}
-
-fn push_dep_of(
-    out: &mut Vec<u8>,
-    tables: &[Table],
-    dep: Option<&Dep>,
-    read: &[usize],
-    first: usize,
-    place: usize,
-    count: usize,
-    groups: Option<&List<Group>>,
-) -> Result<(), AllocError>
-    ensures { OnOk result (out.new.items ≡ out.old.items ++ dep_section_of tables.now (option_copied dep.entry) read.now first place count (option_copied groups.entry)) }
-{
-    match (dep, groups) {
-        (Some(dep), Some(groups)) => {
-            let shown = shown_of(first, read, dep.table);
-            push_dep_if(out, tables, dep, shown, place, count, groups.as_slice())
-        }
-        _ => Ok(()),
-    }
-}
-
-fn shown_of(first: usize, read: &[usize], table: usize) -> Shown
-    ensures { result ≡ record { first = first; read = slice_index read.now table } }
-{
-    Shown {
-        first,
-        read: count_at(read, table),
-    }
-}
-
-fn push_dep_if(
-    out: &mut Vec<u8>,
-    tables: &[Table],
-    dep: &Dep,
-    shown: Shown,
-    place: usize,
-    count: usize,
-    groups: &[Group],
-) -> Result<(), AllocError>
-    ensures { OnOk result (out.new.items ≡ out.old.items ++ dep_section tables.now dep.now shown place count groups.now) }
-{
-    if groups.is_empty() {
-        return Ok(());
-    }
-    push_section_head(out, Piece::DepSection, place, &dep.name)?;
-    push_dep_words(out, tables, dep)?;
-    push_counts(out, count, Piece::Groups, groups.len())?;
-    push_dep_body(out, item(tables, dep.table), dep, shown, groups)?;
-    push(out, Piece::SectionEnd)?;
-    Ok(())
-}
-
-fn push_dep_body(
+fn push_body_of<R: Rule>(
     out: &mut Vec<u8>,
     table: Option<&Table>,
-    dep: &Dep,
+    rule: &R,
     shown: Shown,
-    groups: &[Group],
+    found: &[R::Found],
 ) -> Result<(), AllocError>
-    ensures { OnOk result (out.new.items ≡ out.old.items ++ dep_body (option_copied table.entry) dep.now shown groups.now) }
+    ensures { OnOk result (out.new.items ≡ out.old.items ++ body_of R.kind (option_copied table.entry) rule.now shown found.now) }
 {
     match table {
-        Some(table) => push_groups(out, table.attrs.as_slice(), dep, shown, groups),
-        None => Ok(()),
-    }
-}
-
-// ---- inclusions
-
-pub fn push_cind_sections(
-    out: &mut Vec<u8>,
-    tables: &[Table],
-    cinds: &[Cind],
-    read: &[usize],
-    first: usize,
-    counts: &[usize],
-    found: &[List<Missing>],
-) -> Result<(), AllocError>
-    ensures { OnOk result (out.new.items ≡ out.old.items ++ cind_sections tables.now cinds.now read.now first counts.now found.now) }
-{
-    for place in 0..cinds.len() {
-        push_cind_at(out, tables, cinds, read, first, counts, found, place)?;
-    }
-    Ok(())
-}
-
-fn push_cind_at(
-    out: &mut Vec<u8>,
-    tables: &[Table],
-    cinds: &[Cind],
-    read: &[usize],
-    first: usize,
-    counts: &[usize],
-    found: &[List<Missing>],
-    place: usize,
-) -> Result<(), AllocError>
-    ensures { OnOk result (out.new.items ≡ out.old.items ++ cind_section_at tables.now cinds.now read.now first counts.now found.now place) }
-{
-    let count = count_at(counts, place);
-    let missing = item(found, place);
-    push_cind_of(
-        out,
-        tables,
-        item(cinds, place),
-        read,
-        first,
-        place,
-        count,
-        missing,
-    )
-}
-
-fn push_cind_of(
-    out: &mut Vec<u8>,
-    tables: &[Table],
-    cind: Option<&Cind>,
-    read: &[usize],
-    first: usize,
-    place: usize,
-    count: usize,
-    missing: Option<&List<Missing>>,
-) -> Result<(), AllocError>
-    ensures { OnOk result (out.new.items ≡ out.old.items ++ cind_section_of tables.now (option_copied cind.entry) read.now first place count (option_copied missing.entry)) }
-{
-    match (cind, missing) {
-        (Some(cind), Some(missing)) => {
-            let shown = shown_of(first, read, cind.left);
-            push_cind_if(out, tables, cind, shown, place, count, missing.as_slice())
-        }
-        _ => Ok(()),
-    }
-}
-
-fn push_cind_if(
-    out: &mut Vec<u8>,
-    tables: &[Table],
-    cind: &Cind,
-    shown: Shown,
-    place: usize,
-    count: usize,
-    missing: &[Missing],
-) -> Result<(), AllocError>
-    ensures { OnOk result (out.new.items ≡ out.old.items ++ cind_section tables.now cind.now shown place count missing.now) }
-{
-    if missing.is_empty() {
-        return Ok(());
-    }
-    push_section_head(out, Piece::CindSection, place, &cind.name)?;
-    push_cind_words(out, tables, cind)?;
-    push_counts(out, count, Piece::Keys, missing.len())?;
-    push_cind_body(out, item(tables, cind.left), cind, shown, missing)?;
-    push(out, Piece::SectionEnd)?;
-    Ok(())
-}
-
-fn push_cind_body(
-    out: &mut Vec<u8>,
-    table: Option<&Table>,
-    cind: &Cind,
-    shown: Shown,
-    missing: &[Missing],
-) -> Result<(), AllocError>
-    ensures { OnOk result (out.new.items ≡ out.old.items ++ cind_body (option_copied table.entry) cind.now shown missing.now) }
-{
-    match table {
-        Some(table) => push_missing_table(out, table.attrs.as_slice(), cind, shown, missing),
+        Some(table) => rule.push_body(out, table.attrs.as_slice(), shown, found),
         None => Ok(()),
     }
 }

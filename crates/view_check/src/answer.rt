@@ -26,50 +26,14 @@ use rule_model::RuleBook;
 use schema_core::{Limits, List, Table, Text, Texts, push_number};
 use shelf_io::{Shelf, Sink};
 use std::alloc::{AllocError, Global};
-use std::marker::Brand;
-use std::sync::ledger::{Blank, Ledger};
+use std::sync::ledger::Ledger;
 use table_flaws::{Flaw, flaws_of};
 
 /// Tells what is off in a project before anything is asked: of each table how many rows were read, and what is odd in
 /// them, and what of the rules can't work; or why a file of the project is refused, its script among them, and what stands
-/// where the refusal points. The script isn't run. Values are looked up by a hash with these keys.
-pub fn look_at_project<S: Shelf, O: Sink>(
-    alloc: Global,
-    keys: HashKeys,
-    project: &Text,
-    shelf: &mut S,
-    out: &mut O,
-    limits: &Limits,
-) -> Status
-    requires { AreLimits limits.now }
-    ensures written { Writes (Output limits.now (check_task limits.now project.now) (S.told shelf.old).holding) result (O.told out.old).written (O.told out.new).written }
-    ensures devices { UsesDevices limits.now (check_task limits.now project.now) result (S.told shelf.old) (S.told shelf.new) (O.told out.old) (O.told out.new) }
-{
-    look_opened::<S, O, Brand>(alloc, keys, project, shelf, out, limits, Blank::new(1))
-}
-
-/// The same, with a counter of index probes that is opened for this call. Nothing reads it.
-fn look_opened<S: Shelf, O: Sink, L: Ledger>(
-    alloc: Global,
-    keys: HashKeys,
-    project: &Text,
-    shelf: &mut S,
-    out: &mut O,
-    limits: &Limits,
-    blank: Blank,
-) -> Status
-    requires limits { AreLimits limits.now }
-    requires name { blank.name ≡ L.name }
-    requires parts { blank.parts ≡ L.parts }
-    requires some { 0 < blank.parts }
-    ensures written { Writes (Output limits.now (check_task limits.now project.now) (S.told shelf.old).holding) result (O.told out.old).written (O.told out.new).written }
-    ensures devices { UsesDevices limits.now (check_task limits.now project.now) result (S.told shelf.old) (S.told shelf.new) (O.told out.old) (O.told out.new) }
-{
-    let mut steps = Steps::<L>::open(blank);
-    look_counted(alloc, keys, project, shelf, out, limits, &mut steps)
-}
-
-fn look_counted<S: Shelf, O: Sink, L: Ledger>(
+/// where the refusal points. The script isn't run. Values are looked up by a hash with these keys. Nothing reads the
+/// counter of index probes.
+pub fn look_at_project<S: Shelf, O: Sink, L: Ledger>(
     alloc: Global,
     keys: HashKeys,
     project: &Text,

@@ -1,3 +1,3 @@
-pub mod Looking
+pub mod Statuses
 pub mod ListForm
 pub mod RowForm

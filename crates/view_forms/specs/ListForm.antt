@@ -10,8 +10,10 @@ use Rattle.view_options.specs.declared.options.ListOptions.{ListOptions}
 use Rattle.view_list.specs.Listed.{list_body, list_refusal, list_text}
 use Rattle.cli_output.specs.Output.{Only, Outputs, Task}
 use Rattle.cli_output.specs.declared.status.Status.TheVariants.{Refused}
-use Rattle.project_forms.specs.Project.{ProjectRead, fetch_project}
-use Rattle.view_forms.specs.Looking.{LooksAt, counts_of, status_of}
+use Rattle.project_forms.specs.Project.{ProjectRead}
+use Rattle.view_project.specs.Looking.{LooksAt, counts_of}
+use Rattle.view_project.specs.ProjectTask.{project_task}
+use Rattle.view_forms.specs.Statuses.{status_of}
 
 -- the line that refuses what is asked for, where there is one, and else what is told of the rules
 abbrev pub told_unless : List ℕ → List ℕ → Outputs
@@ -28,11 +30,5 @@ list_outputs options project bytes status =
     let start = project.tables in
     (last : History) × LooksAt options.loaded project last × list_of start.rules (counts_of start.history.present) last.present options bytes status
 
--- the schema, the rules, the script and 64 tables are fetched at most
 abbrev pub list_task : Limits → ListOptions → Task
-list_task limits options = record {
-  Found = ProjectRead;
-  fetching = fetch_project limits options.project;
-  outputs = list_outputs options;
-  most_fetches = 67;
-}
+list_task limits options = project_task limits options.project (list_outputs options)

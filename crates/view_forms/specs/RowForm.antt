@@ -15,8 +15,10 @@ use Rattle.session.specs.declared.command.Command.{Command}
 use Rattle.session.specs.declared.command.Command.TheVariants as command
 use Rattle.cli_output.specs.Output.{Only, Outputs, Task}
 use Rattle.cli_output.specs.declared.status.Status.TheVariants.{Refused}
-use Rattle.project_forms.specs.Project.{ProjectRead, fetch_project}
-use Rattle.view_forms.specs.Looking.{LooksAt, counts_of, status_of}
+use Rattle.project_forms.specs.Project.{ProjectRead}
+use Rattle.view_project.specs.Looking.{LooksAt, counts_of}
+use Rattle.view_project.specs.ProjectTask.{project_task}
+use Rattle.view_forms.specs.Statuses.{status_of}
 
 -- ---- how it would be fixed
 
@@ -57,11 +59,5 @@ row_outputs options project bytes status =
     let start = project.tables in
     (last : History) × LooksAt options.loaded project last × row_of start.rules start.limits (counts_of start.history.present) last options bytes status
 
--- the schema, the rules, the script and 64 tables are fetched at most
 abbrev pub row_task : Limits → RowOptions → Task
-row_task limits options = record {
-  Found = ProjectRead;
-  fetching = fetch_project limits options.project;
-  outputs = row_outputs options;
-  most_fetches = 67;
-}
+row_task limits options = project_task limits options.project (row_outputs options)

@@ -1,29 +1,26 @@
 //! The form `row PROJECT TABLE ROW`.
 
 ghost use Rattle.std.specs.Prelude.{◌≡◌, ◌++◌, ◌<◌, List, ℕ, IfOk, IfSome, OnOk, length};
-ghost use Rattle.text_lists.specs.Limits.{AreLimits};
 ghost use Rattle.schema_core.specs.Schemas.{table_place};
 ghost use Rattle.bench_core.specs.Answers.{row_texts};
-ghost use Rattle.cli_output.specs.Output.{Ends, IsWhole, Output, UsesDevices, Writes};
+ghost use Rattle.cli_output.specs.Output.{IsWhole};
 ghost use Rattle.project_forms.specs.Project.{read_of};
-ghost use Rattle.view_forms.specs.RowForm.{AreReplies, questions, row_in, row_of, row_outputs, row_task, row_with};
+ghost use Rattle.view_options.specs.declared.options.RowOptions.{RowOptions};
+ghost use Rattle.view_forms.specs.RowForm.{AreReplies, questions, row_in, row_of, row_outputs, row_with};
 
-use crate::looking::{Looked, look};
 use crate::row_values::row_texts;
-use crate::shown::{Shown, refused, status_of};
+use crate::told::{refused, status_of};
 use bench_core::Bench;
-use cli_output::{Status, end_by, end_with};
-use hash_keys::HashKeys;
 use probe_steps::Steps;
-use project_forms::{Project, fetch_project};
-use schema_core::{Limits, List, Texts};
+use project_forms::Project;
+use schema_core::{List, Text, Texts};
 use session::{Command, serve};
-use shelf_io::{MemorySink, Shelf, Sink};
+use shelf_io::MemorySink;
 use std::alloc::{AllocError, Global};
-use std::marker::Brand;
-use std::sync::ledger::{Blank, Ledger};
+use std::sync::ledger::Ledger;
 use view_list::{no_row, no_table, row_body, row_text};
 use view_options::RowOptions;
+use view_project::{Looked, ProjectForm, Shown, look};
 use violation_groups::findings;
 
 /// How many bytes the answer to a fix may have. It has fewer: at most 64 values are told twice, each of at most 65,535
@@ -32,99 +29,42 @@ const ANSWER_BYTES: usize = 20_000_000;
 
 /// Tells a row of a project, and the groups of violations in which it stands; where somebody vouches for attributes, also
 /// what a fix would be answered.
-pub fn row_project<S: Shelf, O: Sink>(
-    alloc: Global,
-    keys: HashKeys,
-    options: &RowOptions,
-    shelf: &mut S,
-    out: &mut O,
-    limits: &Limits,
-) -> Status
-    requires { AreLimits limits.now }
-    ensures written { Writes (Output limits.now (row_task limits.now options.now) (S.told shelf.old).holding) result (O.told out.old).written (O.told out.new).written }
-    ensures devices { UsesDevices limits.now (row_task limits.now options.now) result (S.told shelf.old) (S.told shelf.new) (O.told out.old) (O.told out.new) }
-{
-    row_opened::<S, O, Brand>(alloc, keys, options, shelf, out, limits, Blank::new(1))
-}
+pub struct RowForm;
 
-/// The same, with a counter of index probes that is opened for this call. Nothing reads it.
-fn row_opened<S: Shelf, O: Sink, L: Ledger>(
-    alloc: Global,
-    keys: HashKeys,
-    options: &RowOptions,
-    shelf: &mut S,
-    out: &mut O,
-    limits: &Limits,
-    blank: Blank,
-) -> Status
-    requires limits { AreLimits limits.now }
-    requires name { blank.name ≡ L.name }
-    requires parts { blank.parts ≡ L.parts }
-    requires some { 0 < blank.parts }
-    ensures written { Writes (Output limits.now (row_task limits.now options.now) (S.told shelf.old).holding) result (O.told out.old).written (O.told out.new).written }
-    ensures devices { UsesDevices limits.now (row_task limits.now options.now) result (S.told shelf.old) (S.told shelf.new) (O.told out.old) (O.told out.new) }
-{
-    let mut steps = Steps::<L>::open(blank);
-    row_counted(alloc, keys, options, shelf, out, limits, &mut steps)
-}
+impl ProjectForm for RowForm {
+    type Options = RowOptions;
 
-fn row_counted<S: Shelf, O: Sink, L: Ledger>(
-    alloc: Global,
-    keys: HashKeys,
-    options: &RowOptions,
-    shelf: &mut S,
-    out: &mut O,
-    limits: &Limits,
-    steps: &mut Steps<L>,
-) -> Status
-    requires { AreLimits limits.now }
-    ensures written { Writes (Output limits.now (row_task limits.now options.now) (S.told shelf.old).holding) result (O.told out.old).written (O.told out.new).written }
-    ensures devices { UsesDevices limits.now (row_task limits.now options.now) result (S.told shelf.old) (S.told shelf.new) (O.told out.old) (O.told out.new) }
-{
-    let mut left = limits.all_bytes;
-    match fetch_project(
-        alloc,
-        keys,
-        shelf,
-        &options.project,
-        limits,
-        &mut left,
-        steps,
-    ) {
-        Ok(project) => row(alloc, project, options, out, steps),
-        Err(stop) => end_by(alloc, &stop, out),
+    ghost name = { λ options. options.project };
+
+    ghost outputs = { row_outputs };
+
+    fn project(options: &RowOptions) -> &Text {
+        &options.project
+    }
+
+    fn show<L: Ledger>(
+        alloc: Global,
+        options: &RowOptions,
+        project: Project,
+        steps: &mut Steps<L>,
+    ) -> Result<Shown, AllocError> {
+        row(alloc, options, project, steps)
     }
 }
 
-fn row<O: Sink, L: Ledger>(
+fn row<L: Ledger>(
     alloc: Global,
+    options: &RowOptions,
     project: Project,
-    options: &RowOptions,
-    out: &mut O,
     steps: &mut Steps<L>,
-) -> Status
-    ensures { Ends (row_outputs options.now (read_of project)) result (O.told out.old) (O.told out.new) }
+) -> Result<Shown, AllocError>
+    ensures shown { IfOk result (λ shown. row_outputs options.now (read_of project) shown.text.items shown.status) }
+    ensures whole { IfOk result (λ shown. IsWhole shown.status) }
 {
-    match look(alloc, project, options.loaded, steps) {
-        Ok(mut looked) => tell(alloc, &mut looked, options, out, steps),
-        Err(AllocError) => Status::Memory,
-    }
-}
-
-fn tell<O: Sink, L: Ledger>(
-    alloc: Global,
-    looked: &mut Looked,
-    options: &RowOptions,
-    out: &mut O,
-    steps: &mut Steps<L>,
-) -> Status
-    ensures { Ends (row_of looked.old.bench.rules looked.old.bench.limits looked.old.counts looked.old.bench.history options.now) result (O.told out.old) (O.told out.new) }
-{
-    let counts = looked.counts.as_slice();
-    match row_shown(alloc, &mut looked.bench, counts, options, steps) {
-        Ok(shown) => end_with(out, &shown.text, shown.status),
-        Err(AllocError) => Status::Memory,
-    }
+    let looked = look(alloc, project, options.loaded, steps)?;
+    let Looked { mut bench, counts } = looked;
+    let shown = row_shown(alloc, &mut bench, counts.as_slice(), options, steps)?;
+    Ok(shown)
 }
 
 fn row_shown<L: Ledger>(

@@ -1,3 +1,2 @@
-mod RowCounts
 mod Statuses
-mod Pages
+mod Tables

@@ -1,9 +1,12 @@
 -- The form `page PROJECT` of `cfdview`: a project as a page.
-use Rattle.std.specs.Prelude.{◌≡◌, ◌↔◌, ℕ, Bool, true, false, List, [], ◌∷◌, Option, None, Some}
+use Rattle.std.specs.Prelude.{◌≡◌, ◌↔◌, ℕ, Bool, true, false, not, ◌&&◌, if◌then◌else◌, List, [], ◌∷◌, Option, None, Some, map, filter, codes, nat_eq}
+use Rattle.std.specs.List.{ends_with, starts_with}
 use Rattle.text_lists.specs.declared.limits.Limits.{Limits}
+use Rattle.line_grammar.specs.Lines.{lines}
+use Rattle.cfd_semantics.specs.Tuple.{tuples_of}
 use Rattle.rule_model.specs.Books.{Book}
 use Rattle.bench_core.specs.History.{History}
-use Rattle.bench_core.specs.State.{State}
+use Rattle.bench_core.specs.State.{State, TableState}
 use Rattle.violation_report.specs.Listing.{IsSatisfied, listing}
 use Rattle.violation_groups.specs.Groups.{AreFindings}
 use Rattle.violation_groups.specs.declared.Findings.{Findings}
@@ -14,15 +17,12 @@ use Rattle.view_options.specs.declared.options.PageOptions.{PageOptions}
 use Rattle.cli_output.specs.Output.{Outputs, Task}
 use Rattle.cli_output.specs.declared.status.Status.{Status}
 use Rattle.cli_output.specs.declared.status.Status.TheVariants.{Clean, Findings as Found}
-use Rattle.project_forms.specs.Project.{LeadsTo, ProjectRead, fetch_project}
-use Rattle.view_page.specs.Counts.{row_counts}
+use Rattle.project_forms.specs.Project.{ProjectRead}
+use Rattle.view_check.specs.CheckForm.{IsTold}
+use Rattle.view_project.specs.Looking.{LooksAt, counts_of}
+use Rattle.view_project.specs.ProjectTask.{project_task}
 
--- ---- the state that is shown
-
--- the tables as they were read, or those that the script leaves
-abbrev pub IsShown : Bool → ProjectRead → History → Type 0
-IsShown true project last = last ≡ project.tables.history
-IsShown false project last = LeadsTo project last
+-- ---- how much is shown
 
 -- how many of each kind are shown: all, where no number is given, since no list is longer
 abbrev pub first_shown : Option ℕ → ℕ
@@ -32,12 +32,41 @@ first_shown (Some first) = first
 abbrev pub options_of : PageOptions → Options
 options_of options = record { first = first_shown options.first; loaded = options.loaded }
 
--- ---- its page
+-- ---- what `check` finds
 
--- the page of what is found in a state
-abbrev pub IsTextOn : List ℕ → Options → RowCounts → Book → State → List ℕ → Type 0
-IsTextOn name options rows rules state text =
-    (findings : Findings) × AreFindings rules state findings × (text ≡ page_text name options rules rows findings)
+-- the rows of each table, without their ids
+abbrev pub tables_of : State → List (List (List (List ℕ)))
+tables_of state = map (λ (table : TableState). tuples_of table.rows) state
+
+-- it tells how many rows a table has, as `table t: 3 rows`
+abbrev pub is_count : List ℕ → Bool
+is_count line = starts_with nat_eq line (codes "table ") && ends_with nat_eq line (codes " rows")
+
+abbrev pub is_finding : List ℕ → Bool
+is_finding line = not (is_count line)
+
+-- the lines of a text, without those
+abbrev pub lines_found : List ℕ → List (List ℕ)
+lines_found told = filter is_finding (lines told)
+
+abbrev pub is_clean : Status → Bool
+is_clean Clean = true
+is_clean other = false
+
+-- what `check` finds, by the text that it tells and the status
+abbrev pub found_of : List ℕ → Status → List (List ℕ)
+found_of told status = if is_clean status then [] else lines_found told
+
+-- what it finds in the rules, and in the tables of a state
+abbrev pub IsChecked : Book → State → List (List ℕ) → Type 0
+IsChecked rules state found = (told : List ℕ) × (status : Status) × IsTold rules (tables_of state) told status × (found ≡ found_of told status)
+
+-- ---- the page of a state
+
+-- the page of the violations of a state, and of what `check` finds
+abbrev pub IsTextOn : List ℕ → Options → RowCounts → Book → State → List (List ℕ) → List ℕ → Type 0
+IsTextOn name options rows rules state checked text =
+    (findings : Findings) × AreFindings rules state findings × (text ≡ page_text name options rules rows findings checked)
 
 -- the status by what the list holds
 abbrev pub status_for : {X : Type 0} → List X → Status
@@ -45,22 +74,18 @@ status_for [] = Clean
 status_for (line ∷ lines) = Found
 
 -- The page of a state, with so many rows read, and its status: Clean exactly where its rows satisfy all rules.
-abbrev pub IsPageOf : List ℕ → Options → List ℕ → Book → State → Outputs
-IsPageOf name options read rules state bytes status =
-    IsTextOn name options (record { read = read; present = row_counts state }) rules state bytes × (status ≡ status_for (listing rules state)) × (status ≡ Clean ↔ IsSatisfied rules state)
+abbrev pub IsPageOf : List ℕ → Options → List ℕ → Book → State → List (List ℕ) → Outputs
+IsPageOf name options read rules state checked bytes status =
+    IsTextOn name options (record { read = read; present = counts_of state }) rules state found bytes × (status ≡ status_for (listing rules state)) × (status ≡ Clean ↔ IsSatisfied rules state)
 
 -- ---- what is written
 
+-- The violations are those of the state that is looked at; `check` looks at the tables as they were read.
 abbrev pub page_outputs : PageOptions → ProjectRead → Outputs
 page_outputs options project bytes status =
     let start = project.tables in
-    (last : History) × IsShown options.loaded project last × IsPageOf options.project (options_of options) (row_counts start.history.present) start.rules last.present bytes status
+    (last : History) × LooksAt options.loaded project last × (checked : List (List ℕ)) × IsChecked start.rules start.history.present checked
+    × IsPageOf options.project (options_of options) (counts_of start.history.present) start.rules last.present checked bytes status
 
--- the schema, the rules, the script and 64 tables are fetched at most
 abbrev pub page_task : Limits → PageOptions → Task
-page_task limits options = record {
-  Found = ProjectRead;
-  fetching = fetch_project limits options.project;
-  outputs = page_outputs options;
-  most_fetches = 67;
-}
+page_task limits options = project_task limits options.project (page_outputs options)

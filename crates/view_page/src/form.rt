@@ -1,154 +1,110 @@
 //! The form.
-ghost use Rattle.std.specs.Prelude.{◌≡◌, ◌↔◌, ◌<◌, IfOk};
-ghost use Rattle.text_lists.specs.Limits.{AreLimits};
+ghost use Rattle.std.specs.Prelude.{◌≡◌, ◌↔◌, IfOk};
 ghost use Rattle.violation_report.specs.Listing.{IsSatisfied, listing};
-ghost use Rattle.cli_output.specs.Output.{Ends, IsWhole, Output, UsesDevices, Writes};
+ghost use Rattle.cli_output.specs.Output.{IsWhole};
 ghost use Rattle.project_forms.specs.Project.{read_of};
-ghost use Rattle.view_page.specs.Counts.{row_counts};
-ghost use Rattle.view_page.specs.PageForm.{IsPageOf, IsTextOn, page_outputs, page_task, status_for};
+ghost use Rattle.view_options.specs.declared.options.PageOptions.{PageOptions};
+ghost use Rattle.view_page.specs.PageForm.{IsPageOf, IsTextOn, first_shown, options_of, page_outputs, status_for};
 
-use crate::counts::row_counts;
-use crate::shown::{bench_shown, options_of};
+use crate::found::checked;
 use bench_core::Bench;
-use cli_output::{Status, end_by, end_with};
-use hash_keys::HashKeys;
+use cli_output::Status;
 use page_text::{Options, RowCounts, page_text};
 use probe_steps::Steps;
-use project_forms::{Project, fetch_project};
-use schema_core::{Limits, List, Text};
-use shelf_io::{Shelf, Sink};
+use project_forms::Project;
 use std::alloc::{AllocError, Global};
-use std::marker::Brand;
-use std::sync::ledger::{Blank, Ledger};
+use std::sync::ledger::Ledger;
+use text_lists::{List, Text};
 use view_options::PageOptions;
+use view_project::{Looked, ProjectForm, Shown, counts_of, look};
 use violation_groups::findings;
 use violation_report::is_clean;
 
-/// Writes a page that tells what a project holds: what was read, and the violations of each rule, in groups. They are
-/// those of the state that the script leaves, or of the tables as they were read.
-pub fn page_project<S: Shelf, O: Sink>(
-    alloc: Global,
-    keys: HashKeys,
-    options: &PageOptions,
-    shelf: &mut S,
-    out: &mut O,
-    limits: &Limits,
-) -> Status
-    requires { AreLimits limits.now }
-    ensures written { Writes (Output limits.now (page_task limits.now options.now) (S.told shelf.old).holding) result (O.told out.old).written (O.told out.new).written }
-    ensures devices { UsesDevices limits.now (page_task limits.now options.now) result (S.told shelf.old) (S.told shelf.new) (O.told out.old) (O.told out.new) }
-{
-    page_opened::<S, O, Brand>(alloc, keys, options, shelf, out, limits, Blank::new(1))
-}
+/// Shows what a project holds as a page: what was read, the violations of each rule, in groups, and what `check` finds.
+/// The violations are those of the state that the script leaves, or of the tables as they were read.
+pub struct PageForm;
 
-/// The same, with a counter of probes that is opened for this call. Nothing reads it.
-fn page_opened<S: Shelf, O: Sink, L: Ledger>(
-    alloc: Global,
-    keys: HashKeys,
-    options: &PageOptions,
-    shelf: &mut S,
-    out: &mut O,
-    limits: &Limits,
-    blank: Blank,
-) -> Status
-    requires limits { AreLimits limits.now }
-    requires name { blank.name ≡ L.name }
-    requires parts { blank.parts ≡ L.parts }
-    requires some { 0 < blank.parts }
-    ensures written { Writes (Output limits.now (page_task limits.now options.now) (S.told shelf.old).holding) result (O.told out.old).written (O.told out.new).written }
-    ensures devices { UsesDevices limits.now (page_task limits.now options.now) result (S.told shelf.old) (S.told shelf.new) (O.told out.old) (O.told out.new) }
-{
-    let mut steps = Steps::<L>::open(blank);
-    page_counted(alloc, keys, options, shelf, out, limits, &mut steps)
-}
+impl ProjectForm for PageForm {
+    type Options = PageOptions;
 
-fn page_counted<S: Shelf, O: Sink, L: Ledger>(
-    alloc: Global,
-    keys: HashKeys,
-    options: &PageOptions,
-    shelf: &mut S,
-    out: &mut O,
-    limits: &Limits,
-    steps: &mut Steps<L>,
-) -> Status
-    requires { AreLimits limits.now }
-    ensures written { Writes (Output limits.now (page_task limits.now options.now) (S.told shelf.old).holding) result (O.told out.old).written (O.told out.new).written }
-    ensures devices { UsesDevices limits.now (page_task limits.now options.now) result (S.told shelf.old) (S.told shelf.new) (O.told out.old) (O.told out.new) }
-{
-    let mut left = limits.all_bytes;
-    match fetch_project(
-        alloc,
-        keys,
-        shelf,
-        &options.project,
-        limits,
-        &mut left,
-        steps,
-    ) {
-        Ok(project) => answer(alloc, options, project, out, steps),
-        Err(stop) => end_by(alloc, &stop, out),
+    ghost name = { λ options. options.project };
+
+    ghost outputs = { page_outputs };
+
+    fn project(options: &PageOptions) -> &Text {
+        &options.project
+    }
+
+    fn show<L: Ledger>(
+        alloc: Global,
+        options: &PageOptions,
+        project: Project,
+        steps: &mut Steps<L>,
+    ) -> Result<Shown, AllocError> {
+        page(alloc, options, project, steps)
     }
 }
 
-fn answer<O: Sink, L: Ledger>(
-    alloc: Global,
-    options: &PageOptions,
-    project: Project,
-    out: &mut O,
-    steps: &mut Steps<L>,
-) -> Status
-    ensures { Ends (page_outputs options.now (read_of project)) result (O.told out.old) (O.told out.new) }
-{
-    match page_of(alloc, options, project, steps) {
-        Ok(page) => end_with(out, &page.text, page.status),
-        Err(AllocError) => Status::Memory,
-    }
-}
-
-/// A page, and how the call ends that writes it.
-#[derive(Drop)]
-struct Page {
-    text: Vec<u8>,
-    status: Status,
-}
-
-fn page_of<L: Ledger>(
+fn page<L: Ledger>(
     alloc: Global,
     options: &PageOptions,
     project: Project,
     steps: &mut Steps<L>,
-) -> Result<Page, AllocError>
-    ensures page { IfOk result (λ page. page_outputs options.now (read_of project) page.text.items page.status) }
-    ensures whole { IfOk result (λ page. IsWhole page.status) }
+) -> Result<Shown, AllocError>
+    ensures shown { IfOk result (λ shown. page_outputs options.now (read_of project) shown.text.items shown.status) }
+    ensures whole { IfOk result (λ shown. IsWhole shown.status) }
 {
-    let read = row_counts(alloc, &project.bench)?;
-    let bench = bench_shown(alloc, project, options.loaded, steps)?;
-    page_on(
+    let checked = checked(alloc, &project.bench)?;
+    let looked = look(alloc, project, options.loaded, steps)?;
+    let Looked { bench, counts } = looked;
+    let shown = page_on(
         alloc,
         &options.project,
         options_of(options),
-        read,
+        counts,
         &bench,
+        checked.as_slice(),
         steps,
-    )
+    )?;
+    Ok(shown)
 }
 
 fn page_on<L: Ledger>(
     alloc: Global,
     name: &Text,
     options: Options,
-    read: List<usize>,
+    read: List<u64>,
     bench: &Bench,
+    checked: &[List<u8>],
     steps: &mut Steps<L>,
-) -> Result<Page, AllocError>
-    ensures page { IfOk result (λ page. IsPageOf name.now options read bench.now.rules bench.now.history.present page.text.items page.status) }
-    ensures whole { IfOk result (λ page. IsWhole page.status) }
+) -> Result<Shown, AllocError>
+    ensures page { IfOk result (λ shown. IsPageOf name.now options read bench.now.rules bench.now.history.present checked.now shown.text.items shown.status) }
+    ensures whole { IfOk result (λ shown. IsWhole shown.status) }
 {
-    let present = row_counts(alloc, bench)?;
+    let present = counts_of(alloc, bench)?;
     let rows = RowCounts { read, present };
-    let text = text_on(alloc, name, options, &rows, bench, steps)?;
+    let text = text_on(alloc, name, options, &rows, bench, checked, steps)?;
     let status = status_on(bench);
-    Ok(Page { text, status })
+    Ok(Shown { text, status })
+}
+
+fn options_of(options: &PageOptions) -> Options
+    ensures { result ≡ options_of options.now }
+{
+    Options {
+        first: first_shown(options.first),
+        loaded: options.loaded,
+    }
+}
+
+// No list has more than all.
+fn first_shown(first: Option<u64>) -> usize
+    ensures { result ≡ first_shown first }
+{
+    match first {
+        Some(first) => first as usize,
+        None => usize::MAX,
+    }
 }
 
 fn text_on<L: Ledger>(
@@ -157,12 +113,21 @@ fn text_on<L: Ledger>(
     options: Options,
     rows: &RowCounts,
     bench: &Bench,
+    checked: &[List<u8>],
     steps: &mut Steps<L>,
 ) -> Result<Vec<u8>, AllocError>
-    ensures { IfOk result (λ text. IsTextOn name.now options rows.now bench.now.rules bench.now.history.present text.items) }
+    ensures { IfOk result (λ text. IsTextOn name.now options rows.now bench.now.rules bench.now.history.present checked.now text.items) }
 {
     let findings = findings(alloc, bench, steps)?;
-    page_text(alloc, name, options, bench.rules(), rows, &findings)
+    page_text(
+        alloc,
+        name,
+        options,
+        bench.rules(),
+        rows,
+        &findings,
+        checked,
+    )
 }
 
 fn status_on(bench: &Bench) -> Status

@@ -1,9 +1,8 @@
-//! The form `page PROJECT` of `cfdview`: what a project holds, as one page of HTML. It writes what its task allows
-//! (`specs/PageForm.antt`), and ends with a status.
+//! The form `page PROJECT` of `cfdview`: what a project holds, as one page of HTML. What it shows is what its task allows
+//! (`specs/PageForm.antt`).
 #![tactic(auto)]
 
-mod counts;
 mod form;
-mod shown;
+mod found;
 
-pub use form::page_project;
+pub use form::PageForm;

@@ -4,7 +4,7 @@ use Rattle.std.proofs.lemmas.Slice.Zip.{AllZip-long}
 use Rattle.schema_core.specs.declared.schema.Schema.{Schema}
 use Rattle.schema_core.specs.declared.schema.Table.{Table}
 use Rattle.rule_model.specs.Books.{Book}
-use Rattle.view_forms.proofs.Counts.{IfSome-within}
+use Rattle.view_forms.proofs.Rows.{IfSome-within}
 use Rattle.view_forms.proofs.row_form.place_of.Goals as goal
 
 pub returns-clause-within : goal.returns-clause-within

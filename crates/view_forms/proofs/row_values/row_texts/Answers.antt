@@ -2,7 +2,7 @@ use Rattle.std.proofs.Common.{List, ℕ, Some, None, map, sym, ap, ◌∙◌}
 use Rattle.row_store.specs.Tuple.{ids_of}
 use Rattle.bench_core.specs.Stored.{stored, table_state, text_of}
 use Rattle.bench_core.proofs.Planned.{have-texts, texts-absent, texts-there}
-use Rattle.view_forms.proofs.Counts.{row-texts}
+use Rattle.view_forms.proofs.Rows.{row-texts}
 use Rattle.view_forms.proofs.row_values.row_texts.Goals as goal
 
 pub texts_of-requires : goal.texts_of-requires

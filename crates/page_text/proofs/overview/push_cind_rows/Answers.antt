@@ -1,6 +1,0 @@
-use Rattle.html_text.proofs.Places.{each_place-more}
-use Rattle.page_text.specs.Overview.{cind_row_at}
-use Rattle.page_text.proofs.overview.push_cind_rows.Goals as goal
-
-pub loop-place-preserved : goal.loop-place-preserved
-loop-place-preserved c = each_place-more (cind_row_at c.args.tables.now c.args.cinds.now c.args.counts.now) c.loop-place.place c.args.out.now.items c.loop-place.out.items c.push_cind_at.new.out.items c.loop-place.invariant c.in_ok-push_cind_at.ensures
