@@ -1,2 +1,2 @@
 mod Statuses
-mod Tables
+mod FoundLines

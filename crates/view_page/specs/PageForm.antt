@@ -1,12 +1,11 @@
 -- The form `page PROJECT` of `cfdview`: a project as a page.
-use Rattle.std.specs.Prelude.{◌≡◌, ◌↔◌, ℕ, Bool, true, false, not, ◌&&◌, if◌then◌else◌, List, [], ◌∷◌, Option, None, Some, map, filter, codes, nat_eq}
+use Rattle.std.specs.Prelude.{◌≡◌, ◌↔◌, ℕ, Bool, true, false, not, ◌&&◌, if◌then◌else◌, List, [], ◌∷◌, Option, None, Some, filter, codes, nat_eq}
 use Rattle.std.specs.List.{ends_with, starts_with}
 use Rattle.text_lists.specs.declared.limits.Limits.{Limits}
 use Rattle.line_grammar.specs.Lines.{lines}
-use Rattle.cfd_semantics.specs.Tuple.{tuples_of}
 use Rattle.rule_model.specs.Books.{Book}
 use Rattle.bench_core.specs.History.{History}
-use Rattle.bench_core.specs.State.{State, TableState}
+use Rattle.bench_core.specs.State.{State}
 use Rattle.violation_report.specs.Listing.{IsSatisfied, listing}
 use Rattle.violation_groups.specs.Groups.{AreFindings}
 use Rattle.violation_groups.specs.declared.Findings.{Findings}
@@ -19,6 +18,7 @@ use Rattle.cli_output.specs.declared.status.Status.{Status}
 use Rattle.cli_output.specs.declared.status.Status.TheVariants.{Clean, Findings as Found}
 use Rattle.project_forms.specs.Project.{ProjectRead}
 use Rattle.view_check.specs.CheckForm.{IsTold}
+use Rattle.view_check.specs.Rows.{all_rows}
 use Rattle.view_project.specs.Looking.{LooksAt, counts_of}
 use Rattle.view_project.specs.ProjectTask.{project_task}
 
@@ -33,10 +33,6 @@ abbrev pub options_of : PageOptions → Options
 options_of options = record { first = first_shown options.first; loaded = options.loaded }
 
 -- ---- what `check` finds
-
--- the rows of each table, without their ids
-abbrev pub tables_of : State → List (List (List (List ℕ)))
-tables_of state = map (λ (table : TableState). tuples_of table.rows) state
 
 -- it tells how many rows a table has, as `table t: 3 rows`
 abbrev pub is_count : List ℕ → Bool
@@ -59,7 +55,7 @@ found_of told status = if is_clean status then [] else lines_found told
 
 -- what it finds in the rules, and in the tables of a state
 abbrev pub IsChecked : Book → State → List (List ℕ) → Type 0
-IsChecked rules state found = (told : List ℕ) × (status : Status) × IsTold rules (tables_of state) told status × (found ≡ found_of told status)
+IsChecked rules state found = (told : List ℕ) × (status : Status) × IsTold rules (all_rows state) told status × (found ≡ found_of told status)
 
 -- ---- the page of a state
 

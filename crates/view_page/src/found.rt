@@ -1,29 +1,19 @@
 //! What `check` finds in the tables of a bench.
-ghost use Rattle.std.specs.Prelude.{◌≡◌, ◌<◌, ◌++◌, ◌∷◌, [], IfOk, OnOk, filter, length};
-ghost use Rattle.cfd_semantics.specs.Tuple.{tuples_of};
-ghost use Rattle.bench_core.specs.State.{rows_at};
-ghost use Rattle.view_page.specs.PageForm.{IsChecked, found_of, is_clean, is_finding, lines_found, tables_of};
+ghost use Rattle.std.specs.Prelude.{◌≡◌, ◌++◌, ◌∷◌, [], IfOk, OnOk, filter};
+ghost use Rattle.view_page.specs.PageForm.{IsChecked, found_of, is_clean, is_finding, lines_found};
 
 use bench_core::Bench;
 use cli_output::Status;
 use line_grammar::split_line;
-use row_store::RowId;
 use std::alloc::{AllocError, Global};
-use text_lists::{List, Texts};
-use view_check::{Told, told_of};
-use view_project::table_count;
+use text_lists::List;
+use view_check::{Told, told_on};
 
 /// What `check` finds in the rules and the tables of a bench, line by line.
 pub fn checked(alloc: Global, bench: &Bench) -> Result<List<List<u8>>, AllocError>
     ensures { IfOk result (IsChecked bench.now.rules bench.now.history.present) }
 {
-    let tables = tables_of(alloc, bench)?;
-    let told = told_of(
-        alloc,
-        bench.pool().hash_keys(),
-        bench.rules(),
-        tables.as_slice(),
-    )?;
+    let told = told_on(alloc, bench)?;
     let found = found_of(alloc, &told)?;
     Ok(found)
 }
@@ -81,33 +71,4 @@ fn bytes_of(alloc: Global, line: &[u8]) -> Result<List<u8>, AllocError>
     let mut bytes = Vec::new(alloc);
     bytes.extend_from_slice(line)?;
     Ok(List::from(bytes))
-}
-
-/// The rows of each table, without their ids.
-fn tables_of(alloc: Global, bench: &Bench) -> Result<List<List<Texts>>, AllocError>
-    ensures { IfOk result (λ tables. tables ≡ tables_of bench.now.history.present) }
-{
-    let mut tables = List::new(alloc);
-    for table in 0..table_count(bench) {
-        tables.push(rows_of(alloc, bench, table)?)?;
-    }
-    Ok(tables)
-}
-
-fn rows_of(alloc: Global, bench: &Bench, table: usize) -> Result<List<Texts>, AllocError>
-    requires { table < length bench.now.history.present }
-    ensures { IfOk result (λ rows. rows ≡ tuples_of (rows_at bench.now.history.present table)) }
-{
-    tuples_of(alloc, bench.rows(table)?)
-}
-
-/// The texts of rows, without their ids.
-fn tuples_of(alloc: Global, rows: List<(RowId, Texts)>) -> Result<List<Texts>, AllocError>
-    ensures { IfOk result (λ tuples. tuples ≡ tuples_of rows) }
-{
-    let mut tuples = List::new(alloc);
-    for row in rows.into_vec() {
-        tuples.push(row.1)?;
-    }
-    Ok(tuples)
 }

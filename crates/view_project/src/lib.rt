@@ -7,5 +7,5 @@ mod looking;
 mod shown;
 
 pub use form::{ProjectForm, show_project};
-pub use looking::{Looked, counts_of, look, table_count};
+pub use looking::{Looked, counts_of, look};
 pub use shown::Shown;

@@ -63,7 +63,7 @@ pub fn counts_of(alloc: Global, bench: &Bench) -> Result<List<u64>, AllocError>
 }
 
 /// How many tables there are.
-pub fn table_count(bench: &Bench) -> usize
+fn table_count(bench: &Bench) -> usize
     ensures { result ≡ length bench.now.history.present }
 {
     bench.rules().schema().tables.as_slice().len()

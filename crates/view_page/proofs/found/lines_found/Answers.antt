@@ -1,5 +1,5 @@
 use Rattle.std.proofs.Common.{◌∙◌}
-use Rattle.view_page.proofs.Tables.{lines_found-more}
+use Rattle.view_page.proofs.FoundLines.{lines_found-more}
 use Rattle.view_page.proofs.found.lines_found.Goals as goal
 
 pub loop-rest-preserved : goal.loop-rest-preserved
