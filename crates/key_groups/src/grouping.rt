@@ -24,6 +24,16 @@ pub fn by_key<K: Eq + Hash + Drop, T: Drop>(
     for (key, item) in items {
         add(alloc, &mut groups, key, item)?;
     }
+    listed(alloc, groups)
+}
+
+/// The groups of a map, in its order.
+fn listed<K: Eq + Hash + Drop, T: Drop>(
+    alloc: Global,
+    groups: IndexMap<K, List<T>, HashKeys>,
+) -> Result<Vec<(K, List<T>)>, AllocError>
+    ensures { IfOk result (λ list. list.items ≡ groups.entries) }
+{
     groups.into_iter().collect(alloc)
 }
 
