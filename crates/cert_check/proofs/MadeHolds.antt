@@ -1,6 +1,6 @@
--- The certificates of the deciders' answers hold.
+-- What the certificates of the deciders' answers say is shown.
 use Rattle.std.proofs.Common.{◌≡◌, ℕ, true, get_or, ◌<◌, ◌≤◌, List, [], ◌∷◌, length, Option, Some, None, refl, sym, ap, ◌∙◌, subst, arith}
-use Rattle.std.specs.Prelude.{map, All, Ok}
+use Rattle.std.specs.Prelude.{map, All, IsSomeAnd, Ok}
 use Rattle.std.specs.List.{AllByRecursion, AllZip}
 use Rattle.std.specs.Option.{option_map_or}
 use Rattle.std.proofs.lemmas.Option.{slice_get-get_or}
@@ -35,17 +35,17 @@ use Rattle.cfd_consistency.specs.declared.decider.Consistency.{Consistency}
 use Rattle.cfd_consistency.specs.declared.decider.Consistency.TheVariants as found
 use Rattle.cfd_implication.specs.declared.answer.Implication.{Implication}
 use Rattle.cfd_implication.specs.declared.answer.Implication.TheVariants as told
-use Rattle.cert_text.specs.Canonical.{tree_lines}
+use Rattle.cert_text.specs.Canonical.{node_lines, tree_lines}
 use Rattle.cert_text.specs.CertFiles.{tuple_line}
 use Rattle.cert_text.specs.declared.cert.Answer.{Answer}
 use Rattle.cert_text.specs.declared.cert.Answer.TheVariants.{Witness, Counter, Tree}
 use Rattle.cert_text.specs.declared.cert.CertParts.{CertParts}
+use Rattle.cert_text.specs.declared.cert.NodeLine.{NodeLine}
 use Rattle.cert_check.specs.Made.{IsCertOf, IsCertOfDep, IsFound, IsFoundOfDep, IsWrittenAnswer, IsWrittenDepAnswer, decl_of, decl_row}
 use Rattle.cfd_implication.specs.Question.{question}
-use Rattle.cert_check.specs.Verdict.{Asks, ConsistencyLines, ImplicationLines, IsShortTuple, IsVerdict, LineOf, TreePasses, accepted, asks_consistency, asks_implication}
-use Rattle.cert_check.specs.declared.verdict.CertVerdict.TheVariants.{Holds}
+use Rattle.cert_check.specs.Shown.{Asks, DepShows, IsShortTuple, IsRightCert, TableShows, TreeShows, accepted, asks_consistency, asks_implication, nodes_of}
 use Rattle.cert_check.proofs.QuestionNames.{names_of_one, names_of_two}
-use Rattle.cert_check.proofs.NodesBack.{closed_tree, spent_tree, tree_named}
+use Rattle.cert_check.proofs.NodesBack.{shown_by, tree_named}
 
 short_by : (attrs : List Attr) (tuple : List (List ℕ)) → IsTupleOf attrs tuple → AllByRecursion (λ (text : List ℕ). length text ≤ answer_bytes) tuple → IsShortTuple attrs tuple
 short_by [] [] typed short = tt
@@ -81,18 +81,19 @@ module _ (rules : Book) (good : IsBook rules) (table : ℕ) (within : table < le
       let partial = is.answer.0 in
       (tree_named (asks_consistency rules table).set (asks_consistency rules table).names (names_of_one rules good table within) partial.tree tree partial.listed partial.right, budget_of (leaf_count tree) is.budget is.answer.1 is.some is.within)
 
-  pub answer_holds : (name : List ℕ) → table_place rules.schema name ≡ Some table → (answer : Consistency) (cert : CertParts) → IsFound rules table answer → IsCertOf rules name table answer cert → IsVerdict rules cert Holds
-  answer_holds name is (found.Witness tuple) cert found made =
-      let lines : ConsistencyLines rules (Witness (tuple_line 2 tuple)) table Holds = (short_tuple (attrs_at rules.schema table) tuple found.answer.0.typed found.answer.1, (found.answer.0.satisfies, tt)) in
-      subst (λ (c : CertParts). IsVerdict rules c Holds) (sym made) (subst (λ (o : Option ℕ). LineOf 1 o (ConsistencyLines rules (Witness (tuple_line 2 tuple))) Holds) (sym is) lines)
-  answer_holds name is (found.Never tree) cert found made =
+  pub answer_right : (name : List ℕ) → table_place rules.schema name ≡ Some table → (answer : Consistency) (cert : CertParts) → IsFound rules table answer → IsCertOf rules name table answer cert → IsRightCert rules cert
+  answer_right name is (found.Witness tuple) cert found made =
+      let shows : TableShows rules (Witness (tuple_line 2 tuple)) table = (short_tuple (attrs_at rules.schema table) tuple found.answer.0.typed found.answer.1, found.answer.0.satisfies) in
+      subst (IsRightCert rules) (sym made) (subst (λ (o : Option ℕ). IsSomeAnd o (TableShows rules (Witness (tuple_line 2 tuple)))) (sym is) shows)
+  answer_right name is (found.Never tree) cert found made =
       let asks = asks_consistency rules table in
-      let lines : ConsistencyLines rules (Tree (tree_lines None made.named)) table Holds = closed_tree asks.set asks.names (names_of_one rules good table within) tree made.named made.nodes found.answer.0 in
-      subst (λ (c : CertParts). IsVerdict rules c Holds) (sym made.whole) (subst (λ (o : Option ℕ). LineOf 1 o (ConsistencyLines rules (Tree (tree_lines None made.named))) Holds) (sym is) lines)
-  answer_holds name is (found.Spent tree) cert found made =
+      let shows : TableShows rules (Tree (tree_lines None made.named)) table = shown_by asks.set asks.names (names_of_one rules good table within) None tree made.named made.nodes found.answer.0 in
+      subst (IsRightCert rules) (sym made.whole) (subst (λ (o : Option ℕ). IsSomeAnd o (TableShows rules (Tree (tree_lines None made.named)))) (sym is) shows)
+  answer_right name is (found.Spent tree) cert found made =
       let asks = asks_consistency rules table in
-      let lines : ConsistencyLines rules (Tree (tree_lines (Some (leaf_count tree)) made.named)) table Holds = spent_tree asks.set asks.names (names_of_one rules good table within) tree made.named made.nodes found.answer.0 in
-      subst (λ (c : CertParts). IsVerdict rules c Holds) (sym made.whole) (subst (λ (o : Option ℕ). LineOf 1 o (ConsistencyLines rules (Tree (tree_lines (Some (leaf_count tree)) made.named))) Holds) (sym is) lines)
+      let budget = Some (leaf_count tree) in
+      let shows : TableShows rules (Tree (tree_lines budget made.named)) table = shown_by asks.set asks.names (names_of_one rules good table within) budget tree made.named made.nodes (found.answer.0, refl) in
+      subst (IsRightCert rules) (sym made.whole) (subst (λ (o : Option ℕ). IsSomeAnd o (TableShows rules (Tree (tree_lines budget made.named)))) (sym is) shows)
 
 -- ---- implication
 
@@ -127,29 +128,27 @@ module _ (rules : Book) (good : IsBook rules) (dep : Dep) (valid : IsValidDep ru
   asked : accepted (judged_dep rules.schema (decl_of rules.schema dep)) ≡ Some (nameless dep)
   asked = ap accepted judged_decl
 
-  at_answer : (answer : Answer) → ImplicationLines rules answer (nameless dep) Holds → LineOf 1 (accepted (judged_dep rules.schema (decl_of rules.schema dep))) (ImplicationLines rules answer) Holds
-  at_answer answer lines = subst (λ (o : Option Dep). LineOf 1 o (ImplicationLines rules answer) Holds) (sym asked) lines
+  at_answer : (answer : Answer) → DepShows rules answer (nameless dep) → IsSomeAnd (accepted (judged_dep rules.schema (decl_of rules.schema dep))) (DepShows rules answer)
+  at_answer answer shows = subst (λ (o : Option Dep). IsSomeAnd o (DepShows rules answer)) (sym asked) shows
 
-  pub told_holds : (answer : Implication) (cert : CertParts) → IsFoundOfDep rules dep answer → IsCertOfDep rules dep answer cert → IsVerdict rules cert Holds
-  told_holds (told.Counter left right) cert found made =
+  at_tree : (budget : Option ℕ) (nodes : List NodeLine) → TreeShows (asks_implication rules dep).set budget (nodes_of (asks_implication rules dep).names nodes) → TreeShows (asks_implication rules (nameless dep)).set budget (nodes_of (asks_implication rules (nameless dep)).names nodes)
+  at_tree budget nodes shows = subst (λ (a : Asks). TreeShows a.set budget (nodes_of a.names nodes)) (sym same_asks) shows
+
+  pub told_right : (answer : Implication) (cert : CertParts) → IsFoundOfDep rules dep answer → IsCertOfDep rules dep answer cert → IsRightCert rules cert
+  told_right (told.Counter left right) cert found made =
       let attrs = attrs_at rules.schema dep.table in
       let counter = found.answer in
-      let lines : ImplicationLines rules (Counter (tuple_line 2 left) (tuple_line 3 right)) (nameless dep) Holds = (
-        short_tuple attrs left counter.one_tuple counter.one_short,
-        (short_tuple attrs right counter.other_tuple counter.other_short, (record { satisfy = counter.satisfy; break = counter.breaks }, tt)),
-      ) in
-      subst (λ (c : CertParts). IsVerdict rules c Holds) (sym made) (at_answer (Counter (tuple_line 2 left) (tuple_line 3 right)) lines)
-  told_holds (told.Implied tree) cert found made =
+      let shows : DepShows rules (Counter (tuple_line 2 left) (tuple_line 3 right)) (nameless dep) = (short_tuple attrs left counter.one_tuple counter.one_short, short_tuple attrs right counter.other_tuple counter.other_short, record { satisfy = counter.satisfy; break = counter.breaks }) in
+      subst (IsRightCert rules) (sym made) (at_answer (Counter (tuple_line 2 left) (tuple_line 3 right)) shows)
+  told_right (told.Implied tree) cert found made =
       let asks = asks_implication rules dep in
-      let passes = closed_tree asks.set asks.names (names_of_two rules good dep valid) tree made.named made.nodes found.answer.0 in
-      let lines : ImplicationLines rules (Tree (tree_lines None made.named)) (nameless dep) Holds = subst (λ (a : Asks). TreePasses a (tree_lines None made.named) Holds) (sym same_asks) passes in
-      subst (λ (c : CertParts). IsVerdict rules c Holds) (sym made.whole) (at_answer (Tree (tree_lines None made.named)) lines)
-  told_holds (told.Spent tree) cert found made =
+      let shows = shown_by asks.set asks.names (names_of_two rules good dep valid) None tree made.named made.nodes found.answer.0 in
+      subst (IsRightCert rules) (sym made.whole) (at_answer (Tree (tree_lines None made.named)) (at_tree None (node_lines 3 made.named) shows))
+  told_right (told.Spent tree) cert found made =
       let asks = asks_implication rules dep in
       let budget = Some (leaf_count tree) in
-      let passes = spent_tree asks.set asks.names (names_of_two rules good dep valid) tree made.named made.nodes found.answer.0 in
-      let lines : ImplicationLines rules (Tree (tree_lines budget made.named)) (nameless dep) Holds = subst (λ (a : Asks). TreePasses a (tree_lines budget made.named) Holds) (sym same_asks) passes in
-      subst (λ (c : CertParts). IsVerdict rules c Holds) (sym made.whole) (at_answer (Tree (tree_lines budget made.named)) lines)
+      let shows = shown_by asks.set asks.names (names_of_two rules good dep valid) budget tree made.named made.nodes (found.answer.0, refl) in
+      subst (IsRightCert rules) (sym made.whole) (at_answer (Tree (tree_lines budget made.named)) (at_tree budget (node_lines 3 made.named) shows))
 
 -- ---- the declaration can be written
 

@@ -20,7 +20,8 @@ use Rattle.cert_text.specs.declared.names.NodeName.TheVariants.{Split, Leaf, Ope
 use Rattle.cert_check.specs.Names.{Names}
 use Rattle.cert_check.specs.Nodes.{node_of, is_open}
 use Rattle.cert_text.specs.declared.cert.TreeLines.{TreeLines}
-use Rattle.cert_check.specs.Verdict.{Line, End, Asks, Passes, NodesPass, BudgetLine, nodes_of, TreePasses}
+use Rattle.cert_check.specs.Shown.{Asks, nodes_of}
+use Rattle.cert_check.specs.Verdict.{Line, End, Passes, NodesPass, BudgetLine, TreePasses}
 use Rattle.cert_check.specs.declared.verdict.CertVerdict.{CertVerdict}
 use Rattle.cert_check.specs.declared.verdict.CertVerdict.TheVariants.{Holds, Fails}
 use Rattle.cert_check.proofs.OneTrees.{place_node, nodes_at_places}

@@ -5,7 +5,7 @@ use Rattle.std.specs.Option.{option_map, option_and_then}
 use Rattle.std.specs.List.{Any, AllZip, AllByRecursion}
 use Rattle.std.proofs.lemmas.List.Elements.{All-from_recursion, recursion_from_All}
 use Rattle.std.proofs.lemmas.Slice.Zip.{AllZip-left}
-use Rattle.case_tree.specs.CaseTree.{CaseTree, ClauseSet, FollowFrom, IsIn, Place, preorder, places, IsRight, IsRightAt, Refutes, IsPartial, leaf_count, value_on, var_count}
+use Rattle.case_tree.specs.CaseTree.{CaseTree, ClauseSet, FollowFrom, IsIn, Place, preorder, places, IsRight, IsRightAt, value_on, var_count}
 use Rattle.case_tree.specs.declared.clauses.Literal.{Literal}
 use Rattle.case_tree.specs.declared.clauses.VarCell.{VarCell}
 use Rattle.case_tree.specs.declared.tree.Node.{Node}
@@ -14,7 +14,7 @@ use Rattle.case_tree.specs.declared.tree.Reason.{Reason}
 use Rattle.case_tree.specs.declared.tree.Reason.TheVariants as reasons
 use Rattle.case_tree.proofs.Cells.{ends_within}
 use Rattle.case_tree.proofs.Lists.{value_of}
-use Rattle.cert_text.specs.Canonical.{node_lines, tree_lines}
+use Rattle.cert_text.specs.Canonical.{node_lines}
 use Rattle.cert_text.specs.declared.names.CellName.{CellName}
 use Rattle.cert_text.specs.declared.names.VarName.{VarName}
 use Rattle.cert_text.specs.declared.names.ReasonName.{ReasonName}
@@ -24,10 +24,8 @@ use Rattle.cert_text.specs.declared.names.NodeName.TheVariants.{Split, Leaf, Ope
 use Rattle.cert_check.specs.Made.{AreNamed, both, named_node, named_reason}
 use Rattle.cert_check.specs.Names.{Names, var_number, cell_number}
 use Rattle.cert_check.specs.Nodes.{node_of, reason_of}
-use Rattle.cert_check.specs.Verdict.{nodes_of, TreePasses}
-use Rattle.cert_check.specs.declared.verdict.CertVerdict.TheVariants.{Holds}
+use Rattle.cert_check.specs.Shown.{TreeShows, nodes_of}
 use Rattle.cert_check.proofs.Fitting.{HasName}
-use Rattle.cert_check.proofs.NodeLines.{asks_with, closed_holds, spent_holds}
 use Rattle.cert_check.proofs.OneTrees.{place_node, nodes_at_places}
 
 -- the names are those of the variables and cells of a clause set, each its own
@@ -147,12 +145,6 @@ module _ (set : ClauseSet) (names : Names) (are : AreNamesOf set names) where
   nodes_back (node ∷ tree) (name ∷ rest) line named =
       ap (λ (n : Node). n ∷ nodes_of names (node_lines (line + 1) rest)) (node_back node name named.0) ∙ ap (λ (ns : List Node). node ∷ ns) (nodes_back tree rest (line + 1) named.1)
 
-  -- ---- so their lines pass
-
-  pub closed_tree : (tree : List Node) (named : List NodeName) → AreNamed names tree named → Refutes set tree → TreePasses (asks_with set names) (tree_lines None named) Holds
-  closed_tree tree named are_named refutes = closed_holds set names (node_lines 3 named) 2 (subst (Refutes set) (sym (nodes_back tree named 3 are_named)) refutes)
-
-  pub spent_tree : (tree : List Node) (named : List NodeName) → AreNamed names tree named → IsPartial set tree → TreePasses (asks_with set names) (tree_lines (Some (leaf_count tree)) named) Holds
-  spent_tree tree named are_named partial =
-      let back = nodes_back tree named 3 are_named in
-      spent_holds set names (node_lines 3 named) 2 (leaf_count tree) (subst (IsPartial set) (sym back) partial) (ap leaf_count back)
+  -- so they show the same
+  pub shown_by : (budget : Option ℕ) (tree : List Node) (named : List NodeName) → AreNamed names tree named → TreeShows set budget tree → TreeShows set budget (nodes_of names (node_lines 3 named))
+  shown_by budget tree named are_named shows = subst (TreeShows set budget) (sym (nodes_back tree named 3 are_named)) shows

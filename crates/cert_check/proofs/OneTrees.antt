@@ -19,7 +19,7 @@ use Rattle.cert_text.specs.declared.names.VarName.{VarName}
 use Rattle.cert_check.specs.Made.{AreNamed, named_reason}
 use Rattle.cert_check.specs.Names.{Names}
 use Rattle.cert_check.specs.Nodes.{node_of}
-use Rattle.cert_check.specs.Verdict.{nodes_of}
+use Rattle.cert_check.specs.Shown.{nodes_of}
 
 -- the kinds of nodes alone say whether they are trees
 kind_as : (names : Names) (n : ℕ) (lines : List NodeLine) (node : NodeName) → ((m : ℕ) → AreTrees m (shapes lines) → AreTrees m (nodes_of names lines)) → AreTrees (suc n) (shape_of node ∷ shapes lines) → AreTrees (suc n) (node_of names node ∷ nodes_of names lines)

@@ -14,7 +14,8 @@ use Rattle.cert_text.specs.declared.cert.TreeLines.{TreeLines}
 use Rattle.cert_text.specs.declared.cert.Answer.{Answer}
 use Rattle.cert_text.specs.declared.cert.Answer.TheVariants.{Witness, Counter, Tree}
 use Rattle.cert_text.specs.declared.cert.CertParts.{CertParts}
-use Rattle.cert_check.specs.Verdict.{Asks, BudgetLine, ConsistencyLines, End, ImplicationLines, IsSpent, IsVerdict, Line, LineOf, NodesPass, Passes, QuestionLines, TreePasses, accepted, nodes_of}
+use Rattle.cert_check.specs.Shown.{Asks, accepted, nodes_of}
+use Rattle.cert_check.specs.Verdict.{BudgetLine, ConsistencyLines, End, ImplicationLines, IsSpent, IsCertVerdict, Line, LineOf, NodesPass, Passes, QuestionLines, TreePasses}
 use Rattle.cert_check.specs.declared.verdict.CertVerdict.{CertVerdict}
 use Rattle.cert_check.specs.declared.verdict.CertVerdict.TheVariants.{Holds, Fails}
 
@@ -71,5 +72,5 @@ question_one : (rules : Book) (line : ℕ) (question : Question) (answer : Answe
 question_one rules line (Consistent table) answer = line_of_one line (table_place rules.schema table) (ConsistencyLines rules answer) (consistency_one rules answer)
 question_one rules line (Implies decl) answer = line_of_one line (accepted (judged_dep rules.schema decl)) (ImplicationLines rules answer) (implication_one rules answer)
 
-pub one_verdict : (rules : Book) (cert : CertParts) (one other : CertVerdict) → IsVerdict rules cert one → IsVerdict rules cert other → one ≡ other
+pub one_verdict : (rules : Book) (cert : CertParts) (one other : CertVerdict) → IsCertVerdict rules cert one → IsCertVerdict rules cert other → one ≡ other
 one_verdict rules cert = question_one rules cert.asked.line cert.asked.question cert.answer

@@ -18,7 +18,7 @@ use Rattle.cfd_implication.specs.Question.{question as question_of_two}
 use Rattle.cert_text.specs.declared.answers.Kind.{Kind}
 use Rattle.cert_text.specs.declared.answers.Kind.TheVariants.{Consistency, Implication}
 use Rattle.cert_check.specs.Names.{names_of}
-use Rattle.cert_check.specs.Verdict.{asks_consistency, asks_from, asks_implication}
+use Rattle.cert_check.specs.Shown.{asks_consistency, asks_from, asks_implication}
 use Rattle.cert_check.proofs.Fitting.{count_vars, cells_named, tuples_in}
 use Rattle.cert_check.proofs.NamesApart.{var_back, cell_back}
 use Rattle.cert_check.proofs.NodesBack.{AreNamesOf}

@@ -33,7 +33,7 @@ use Rattle.cert_text.specs.declared.names.ReasonName.TheVariants.{Clause, Two, N
 use Rattle.cert_text.specs.declared.names.NodeName.{NodeName}
 use Rattle.cert_text.specs.declared.names.NodeName.TheVariants.{Split, Leaf, Open}
 use Rattle.cert_check.specs.Names.{Names}
-use Rattle.cert_check.specs.Verdict.{asks_consistency, asks_implication}
+use Rattle.cert_check.specs.Shown.{asks_consistency, asks_implication}
 
 -- ---- nodes by names
 

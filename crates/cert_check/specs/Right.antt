@@ -10,7 +10,7 @@ use Rattle.cert_text.specs.declared.cert.Question.TheVariants.{Consistent, Impli
 use Rattle.cert_text.specs.declared.cert.Answer.{Answer}
 use Rattle.cert_text.specs.declared.cert.Answer.TheVariants.{Witness, Counter, Tree}
 use Rattle.cert_text.specs.declared.cert.CertParts.{CertParts}
-use Rattle.cert_check.specs.Verdict.{accepted}
+use Rattle.cert_check.specs.Shown.{accepted}
 
 -- an answer says yes or no; where the budget of a tree was spent it says neither
 abbrev pub TreeSays : Option ℕ → Type 0 → Type 0

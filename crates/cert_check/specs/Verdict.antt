@@ -1,25 +1,15 @@
 -- When a certificate holds over a rule book, and which line is the first that doesn't.
-use Rattle.std.specs.Prelude.{◌≡◌, ◌≢◌, ℕ, ◌≤◌, List, [], ◌∷◌, length, map, ◌⊎◌, Option, Some, None, IfNone, Result, Ok, Err}
-use Rattle.std.specs.List.{Any, AllZip}
+use Rattle.std.specs.Prelude.{◌≡◌, ◌≢◌, ℕ, List, [], ◌∷◌, ◌⊎◌, Option, Some, None, IfNone}
+use Rattle.std.specs.List.{Any}
 use Rattle.schema_core.specs.Lookups.{attrs_at}
-use Rattle.schema_core.specs.Schemas.{Admits, table_place}
-use Rattle.schema_core.specs.declared.schema.Attr.{Attr}
-use Rattle.schema_core.specs.declared.schema.Schema.{Schema}
+use Rattle.schema_core.specs.Schemas.{table_place}
 use Rattle.case_tree.specs.CaseTree.{CaseTree, ClauseSet, Place, preorder, places, IsRightAt, leaf_count}
 use Rattle.case_tree.specs.declared.tree.Node.{Node}
 use Rattle.case_tree.specs.declared.tree.Node.TheVariants.{Unclosed}
 use Rattle.rule_model.specs.Books.{Book, book_deps}
 use Rattle.rule_model.specs.Judged.{judged_dep}
-use Rattle.rule_model.specs.Satisfied.{SatisfyDep}
 use Rattle.rule_model.specs.declared.dep.Dep.{Dep}
-use Rattle.rule_model.specs.declared.fault.RuleFault.{RuleFault}
-use Rattle.cell_values.specs.TableRules.{rules_with}
-use Rattle.cell_values.specs.Tuples.{answer_bytes}
-use Rattle.cell_values.specs.Values.{occurring}
-use Rattle.cfd_consistency.specs.Question as consistency
 use Rattle.cfd_implication.specs.Implied.{SatisfyTable}
-use Rattle.cfd_implication.specs.Question as implication
-use Rattle.cert_text.specs.declared.answers.Kind.TheVariants.{Consistency, Implication}
 use Rattle.cert_text.specs.declared.cert.Question.{Question}
 use Rattle.cert_text.specs.declared.cert.Question.TheVariants.{Consistent, Implies}
 use Rattle.cert_text.specs.declared.cert.TupleLine.{TupleLine}
@@ -28,8 +18,7 @@ use Rattle.cert_text.specs.declared.cert.TreeLines.{TreeLines}
 use Rattle.cert_text.specs.declared.cert.Answer.{Answer}
 use Rattle.cert_text.specs.declared.cert.Answer.TheVariants.{Witness, Counter, Tree}
 use Rattle.cert_text.specs.declared.cert.CertParts.{CertParts}
-use Rattle.cert_check.specs.Names.{Names, names_of}
-use Rattle.cert_check.specs.Nodes.{node_of}
+use Rattle.cert_check.specs.Shown.{Asks, IsShortTuple, Refute, accepted, asks_consistency, asks_implication, nodes_of}
 use Rattle.cert_check.specs.declared.verdict.CertVerdict.{CertVerdict}
 use Rattle.cert_check.specs.declared.verdict.CertVerdict.TheVariants.{Holds, Fails}
 
@@ -53,25 +42,11 @@ LineOf line (Some x) rest verdict = rest x verdict
 
 -- ---- tuples
 
--- a text of the domain, which isn't long
-pub record IsShortText (attr : Attr) (text : List ℕ) : Type 0 where
-  pub admitted : Admits attr.domain text
-  pub short : length text ≤ answer_bytes
-
--- such a text for each attribute
-abbrev pub IsShortTuple : List Attr → List (List ℕ) → Type 0
-IsShortTuple attrs tuple = AllZip IsShortText attrs tuple
-
 -- a tuple that alone satisfies the dependencies of its table
 abbrev pub WitnessLines : Book → ℕ → TupleLine → CertVerdict → Type 0
 WitnessLines rules table one =
     Line one.line (IsShortTuple (attrs_at rules.schema table) one.values)
     (Line one.line (SatisfyTable table (book_deps rules) (one.values ∷ [])) End)
-
--- two tuples satisfy the dependencies of a table and not the asked one
-pub record Refute (rules : Book) (dep : Dep) (tuples : List (List (List ℕ))) : Type 0 where
-  pub satisfy : SatisfyTable dep.table (book_deps rules) tuples
-  pub break : ¬ SatisfyDep dep tuples
 
 abbrev pub CounterLines : Book → Dep → TupleLine → TupleLine → CertVerdict → Type 0
 CounterLines rules dep one other =
@@ -81,30 +56,6 @@ CounterLines rules dep one other =
     (Line other.line (Refute rules dep (one.values ∷ other.values ∷ [])) End))
 
 -- ---- trees
-
--- the clauses of a question, and its names
-pub record Asks : Type 0 where
-  pub set : ClauseSet
-  pub names : Names
-
-abbrev pub asks_consistency : Book → ℕ → Asks
-asks_consistency rules table =
-    let attrs = attrs_at rules.schema table in
-    record {
-      set = consistency.question rules table;
-      names = names_of Consistency attrs (occurring attrs (rules_with table (book_deps rules) []));
-    }
-
-abbrev pub asks_from : Schema → List Dep → Dep → Asks
-asks_from schema deps dep =
-    let attrs = attrs_at schema dep.table in
-    record {
-      set = implication.question schema deps dep;
-      names = names_of Implication attrs (occurring attrs (rules_with dep.table deps (dep ∷ [])));
-    }
-
-abbrev pub asks_implication : Book → Dep → Asks
-asks_implication rules dep = asks_from rules.schema (book_deps rules) dep
 
 -- a node is right under its path, and where no budget was spent it isn't open
 pub record Passes (set : ClauseSet) (budget : Option ℕ) (place : Place) : Type 0 where
@@ -127,10 +78,6 @@ abbrev pub BudgetLine : ℕ → Option ℕ → List Node → CertVerdict → Typ
 BudgetLine line None nodes = End
 BudgetLine line (Some budget) nodes = Line line (IsSpent budget nodes) End
 
--- the nodes with numbers in place of names
-abbrev pub nodes_of : Names → List NodeLine → List Node
-nodes_of names nodes = map (λ (node : NodeLine). node_of names node.node) nodes
-
 -- The nodes are one tree in preorder. Each passes, and then the budget was spent, where there is one.
 pub record TreePasses (asks : Asks) (lines : TreeLines) (verdict : CertVerdict) : Type 0 where
   pub tree : CaseTree
@@ -138,11 +85,6 @@ pub record TreePasses (asks : Asks) (lines : TreeLines) (verdict : CertVerdict) 
   pub passes : NodesPass asks.set lines.budget lines.nodes (places tree) (BudgetLine lines.line lines.budget (preorder tree)) verdict
 
 -- ---- certificates
-
--- the dependency that is asked about, where it has no fault
-abbrev pub accepted : Result Dep RuleFault → Option Dep
-accepted (Ok dep) = Some dep
-accepted (Err fault) = None
 
 abbrev pub ConsistencyLines : Book → Answer → ℕ → CertVerdict → Type 0
 ConsistencyLines rules (Witness one) table = WitnessLines rules table one
@@ -160,5 +102,5 @@ QuestionLines rules line (Consistent table) answer = LineOf line (table_place ru
 QuestionLines rules line (Implies decl) answer = LineOf line (accepted (judged_dep rules.schema decl)) (ImplicationLines rules answer)
 
 -- the certificate holds, or that is its first line that doesn't
-abbrev pub IsVerdict : Book → CertParts → CertVerdict → Type 0
-IsVerdict rules cert = QuestionLines rules cert.asked.line cert.asked.question cert.answer
+abbrev pub IsCertVerdict : Book → CertParts → CertVerdict → Type 0
+IsCertVerdict rules cert = QuestionLines rules cert.asked.line cert.asked.question cert.answer

@@ -1,8 +1,8 @@
 //! The check of a certificate.
 
-ghost use Rattle.std.specs.Prelude.{◌≡◌, ◌↔◌, ◌<◌, ◌∷◌, [], length, All, IfOk, IfSome, IsTrue};
+ghost use Rattle.std.specs.Prelude.{◌≡◌, ◌↔◌, ◌<◌, ◌∷◌, [], length, IfOk, IfSome, IsTrue};
 ghost use Rattle.schema_core.specs.Lookups.{attrs_at};
-ghost use Rattle.schema_core.specs.Schemas.{IsValidSchema, table_place};
+ghost use Rattle.schema_core.specs.Schemas.{IsValidSchema};
 ghost use Rattle.case_tree.specs.CaseTree.{IsOneTree};
 ghost use Rattle.rule_model.specs.Books.{IsBook, book_deps};
 ghost use Rattle.rule_model.specs.Judged.{judged_dep};
@@ -13,7 +13,8 @@ ghost use Rattle.cert_text.specs.Written.{IsAnswerTo, IsWrittenCert, shapes};
 ghost use Rattle.cert_text.specs.declared.answers.Kind.TheVariants.{Consistency, Implication};
 ghost use Rattle.cert_check.specs.Right.{IsRight};
 ghost use Rattle.cert_check.specs.declared.verdict.CertVerdict.{CertVerdict as AnyVerdict};
-ghost use Rattle.cert_check.specs.Verdict.{ConsistencyLines, CounterLines, ImplicationLines, IsShortTuple, IsVerdict, LineOf, Refute, TreePasses, WitnessLines, accepted, asks_consistency, asks_from, asks_implication};
+ghost use Rattle.cert_check.specs.Shown.{IsRightCert, IsShortTuple, Refute, accepted, asks_consistency, asks_from, asks_implication};
+ghost use Rattle.cert_check.specs.Verdict.{ConsistencyLines, CounterLines, ImplicationLines, IsCertVerdict, LineOf, TreePasses, WitnessLines};
 
 use crate::copies::copy_decl;
 use crate::names::Naming;
@@ -246,7 +247,7 @@ fn check_implication(
 
 fn verdict_of(alloc: Global, rules: &RuleBook, cert: &CertParts) -> Result<CertVerdict, AllocError>
     requires { IsWrittenCert cert.now }
-    ensures verdict { IfOk result (IsVerdict rules.now cert.now) }
+    ensures verdict { IfOk result (IsCertVerdict rules.now cert.now) }
     ensures valid { IsBook rules.now }
 {
     let schema = rules.schema();
@@ -265,12 +266,13 @@ fn verdict_of(alloc: Global, rules: &RuleBook, cert: &CertParts) -> Result<CertV
 
 /// Whether what the certificate says is so, over a rule book; and else the first line that isn't.
 pub fn check_cert(alloc: Global, rules: &RuleBook, cert: &Cert) -> Result<CertVerdict, AllocError>
-    ensures verdict { IfOk result (IsVerdict rules.now cert.now) }
+    ensures verdict { IfOk result (IsCertVerdict rules.now cert.now) }
 
     // It is the only one.
-    ensures only { IfOk result (λ verdict. (other : AnyVerdict) → IsVerdict rules.now cert.now other → other ≡ verdict) }
+    ensures only { IfOk result (λ verdict. (other : AnyVerdict) → IsCertVerdict rules.now cert.now other → other ≡ verdict) }
 
-    // One that holds gives the right answer to its question.
+    // It holds exactly where it is right, and then it gives the right answer to its question.
+    ensures law { IfOk result (λ verdict. (verdict ≡ CertVerdict.Holds) ↔ IsRightCert rules.now cert.now) }
     ensures right { IfOk result (λ verdict. verdict ≡ CertVerdict.Holds → IsRight rules.now cert.now) }
 {
     let verdict = verdict_of(alloc, rules, cert.parts())?;

@@ -14,12 +14,11 @@ ghost use Rattle.cert_text.specs.CertFiles.{kind_of};
 ghost use Rattle.rule_parser.specs.ReadRules.{IsDepDecl};
 ghost use Rattle.cert_text.specs.Written.{IsBudget, IsNodeOf, IsQuestion, IsReasonOf};
 ghost use Rattle.cert_check.specs.Made.{AreNamed, HaveNames, IsCertOf, IsCertOfDep, IsFound, IsFoundOfDep, IsTreeCert, IsWrittenAnswer, IsWrittenDepAnswer, decl_of, decl_row, named_node, named_reason};
-ghost use Rattle.cert_check.specs.Verdict.{IsVerdict, asks_consistency, asks_implication};
+ghost use Rattle.cert_check.specs.Shown.{IsRightCert, asks_consistency, asks_implication};
 
 use crate::check::{naming_of_dep, naming_of_table};
 use crate::copies::{copy_cell, copy_cells};
 use crate::names::{Naming, attr_name};
-use crate::verdict::CertVerdict;
 use case_tree::{Node, Reason, Tree};
 use cell_values::attrs_at;
 use cert_text::{Cert, NodeName, Question, ReasonName};
@@ -180,7 +179,7 @@ pub fn cert_of_consistency(
 ) -> Result<Cert, AllocError>
     requires { IsSomeAnd (table_place rules.now.schema table.now) (λ number. IsFound rules.now number answer) }
     ensures parts { IfOk result (λ cert. IfSome (table_place rules.now.schema table.now) (λ number. IsCertOf rules.now table.now number answer cert)) }
-    ensures holds { IfOk result (λ cert. IsVerdict rules.now cert CertVerdict.Holds) }
+    ensures right { IfOk result (IsRightCert rules.now) }
 {
     let Some(number) = rules.schema().table_named(table) else {
         unreachable!();
@@ -282,7 +281,7 @@ pub fn cert_of_implication(
     requires row { length dep.now.rule.rows ≡ 1 }
     requires answer { IsFoundOfDep rules.now dep.now answer }
     ensures parts { IfOk result (IsCertOfDep rules.now dep.now answer) }
-    ensures holds { IfOk result (λ cert. IsVerdict rules.now cert CertVerdict.Holds) }
+    ensures right { IfOk result (IsRightCert rules.now) }
 
     // It asks about the dependency itself.
     ensures asked { judged_dep rules.now.schema (decl_of rules.now.schema dep.now) ≡ Ok (record dep.now { name = [] }) }

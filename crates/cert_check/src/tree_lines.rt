@@ -6,7 +6,7 @@ ghost use Rattle.line_grammar.specs.Spelling.{file_text};
 ghost use Rattle.rule_model.specs.Rules.{IsValidDep};
 ghost use Rattle.cert_text.specs.CertText.{node_parts};
 ghost use Rattle.cert_check.specs.Made.{HaveNames, IsRightTree, IsTreeText};
-ghost use Rattle.cert_check.specs.Verdict.{asks_from};
+ghost use Rattle.cert_check.specs.Shown.{asks_from};
 
 use crate::check::naming_from;
 use crate::made::node_names;

@@ -8,7 +8,8 @@ ghost use Rattle.cert_text.specs.Written.{shapes};
 ghost use Rattle.cert_text.specs.declared.cert.NodeLine.{NodeLine as AnyLine};
 ghost use Rattle.cert_check.specs.Names.{Names};
 ghost use Rattle.cert_check.specs.Nodes.{reason_of, node_of, is_open};
-ghost use Rattle.cert_check.specs.Verdict.{TreePasses, nodes_of};
+ghost use Rattle.cert_check.specs.Shown.{nodes_of};
+ghost use Rattle.cert_check.specs.Verdict.{TreePasses};
 
 use crate::names::Naming;
 use crate::verdict::CertVerdict;

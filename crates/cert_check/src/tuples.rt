@@ -1,11 +1,10 @@
 //! Tuples, and the rules that they satisfy.
 
 ghost use Rattle.std.specs.Prelude.{◌≡◌, ◌↔◌, ◌∷◌, [], IsTrue, IfOk};
-ghost use Rattle.schema_core.specs.Schemas.{Admits};
 ghost use Rattle.cfd_semantics.specs.Tuple.{tuples_of};
 ghost use Rattle.rule_model.specs.Satisfied.{SatisfyDep};
 ghost use Rattle.cfd_implication.specs.Implied.{SatisfyTable};
-ghost use Rattle.cert_check.specs.Verdict.{IsShortTuple, IsShortText};
+ghost use Rattle.cert_check.specs.Shown.{IsShortTuple, IsShortText};
 
 use cfd_semantics::{Row, violations};
 use rule_model::Dep;

@@ -11,7 +11,7 @@ use Rattle.rule_model.specs.declared.dep.Dep.{Dep}
 use Rattle.rule_parser.specs.RuleText.{attr_name}
 use Rattle.cert_text.specs.CertText.{texts_line}
 use Rattle.cert_check.specs.Made.{IsTreeText}
-use Rattle.cert_check.specs.Verdict.{asks_from}
+use Rattle.cert_check.specs.Shown.{asks_from}
 use Rattle.rule_cover.specs.declared.fates.Fate.{Fate}
 use Rattle.rule_cover.specs.declared.fates.Fate.TheVariants.{Dropped, Kept, Spent}
 use Rattle.rule_cover.specs.declared.fates.Piece.{Piece}

@@ -28,13 +28,13 @@ impl Model for Round {
 
 /// The first piece that wasn't asked yet, and beside it the others.
 #[derive(Drop)]
-pub struct Question {
+pub struct Turn {
     others: List<Dep>,
     stay: usize,
     piece: Dep,
 }
 
-impl Model for Question {
+impl Model for Turn {
     ghost use Rattle.std.specs.Prelude.{◌≤◌, drop, length, take};
     ghost use Rattle.rule_cover.specs.Rounds.{AskedPiece};
 
@@ -60,13 +60,13 @@ impl Round {
         self.stay
     }
 
-    pub fn ask(self) -> Question
+    pub fn ask(self) -> Turn
         requires { 0 < length self.after }
         ensures { self ≡ record { before = result.before; after = result.piece ∷ result.after } }
     {
         let mut others = self.pieces.into_vec();
         let piece = others.remove(self.stay);
-        Question {
+        Turn {
             others: List::from(others),
             stay: self.stay,
             piece,
@@ -74,7 +74,7 @@ impl Round {
     }
 }
 
-impl Question {
+impl Turn {
     pub fn others(&self) -> &List<Dep>
         ensures { result.now ≡ self.now.before ++ self.now.after }
     {

@@ -9,14 +9,14 @@ ghost use Rattle.rule_model.specs.Rules.{IsValidDep};
 ghost use Rattle.rule_model.specs.declared.dep.Dep.{Dep as AnyDep};
 ghost use Rattle.rule_parser.specs.RuleText.{attr_name};
 ghost use Rattle.cert_check.specs.Made.{IsRightTree};
-ghost use Rattle.cert_check.specs.Verdict.{asks_from};
+ghost use Rattle.cert_check.specs.Shown.{asks_from};
 ghost use Rattle.rule_cover.specs.CoverText.{AreFateTexts, IsCoverText, AppendsSome, IsFateText, IsTextOf, IsTreeFate, head_parts, last_parts, place_parts};
 ghost use Rattle.rule_cover.specs.Fates.{AreNumbersOf, AreSomeFates, AreSomeRight, IsSomeAnswer, numbers_of};
 ghost use Rattle.rule_cover.specs.Pieces.{IsPiece};
 
 use crate::fates::{Fate, Piece, PieceFates};
 use crate::pieces::{Pieces, table_pieces};
-use crate::rounds::{Question, Round};
+use crate::rounds::{Round, Turn};
 use case_tree::Tree;
 use cert_check::tree_text;
 use cert_text::push_texts;
@@ -102,7 +102,7 @@ fn push_fate(
     alloc: Global,
     out: &mut Vec<u8>,
     schema: &Schema,
-    asked: &Question,
+    asked: &Turn,
     number: Piece,
     fate: &Fate,
 ) -> Result<(), AllocError>
@@ -129,7 +129,7 @@ fn push_tree_fate(
     alloc: Global,
     out: &mut Vec<u8>,
     schema: &Schema,
-    asked: &Question,
+    asked: &Turn,
     word: &str,
     number: Piece,
     tree: &Tree,

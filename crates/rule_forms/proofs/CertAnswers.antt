@@ -18,8 +18,7 @@ use Rattle.cert_text.specs.CertText.{cert_text}
 use Rattle.cert_text.specs.declared.cert.CertParts.{CertParts}
 use Rattle.cert_text.specs.declared.cert.Question.TheVariants.{Consistent, Implies}
 use Rattle.cert_check.specs.Made.{IsCertOf, IsCertOfDep, IsFound, decl_of}
-use Rattle.cert_check.specs.Verdict.{IsVerdict}
-use Rattle.cert_check.specs.declared.verdict.CertVerdict.TheVariants.{Holds}
+use Rattle.cert_check.specs.Shown.{IsRightCert}
 use Rattle.cli_output.specs.declared.status.Status.{Status}
 use Rattle.cli_output.specs.Output.{Ends, Only}
 use Rattle.cli_output.proofs.Outputs.{Ends-wider}
@@ -42,48 +41,48 @@ unspent cert budget enough none = subst (λ o. IfSome o (λ named. (named ≡ bu
 is_spent : (cert : CertParts) (leaves budget enough : ℕ) → spent_budget cert.answer ≡ Some leaves → leaves ≡ budget → budget < enough → IfSome (spent_budget cert.answer) (λ named. (named ≡ budget) × (budget < enough))
 is_spent cert leaves budget enough some same below = subst (λ o. IfSome o (λ named. (named ≡ budget) × (budget < enough))) (sym some) (same, below)
 
-of_table : (rules : Book) (name : List ℕ) (table budget : ℕ) (answer : Consistency) (cert : CertParts) → consistency.IsAnswer rules budget table answer → IsCertOf rules name table answer cert → IsVerdict rules cert Holds
+of_table : (rules : Book) (name : List ℕ) (table budget : ℕ) (answer : Consistency) (cert : CertParts) → consistency.IsAnswer rules budget table answer → IsCertOf rules name table answer cert → IsRightCert rules cert
     → Answers rules (Consistent name) budget (enough_of (consistency_question.question rules table).cells) cert
-of_table rules name table budget (found.Witness tuple) cert right is holds = record {
+of_table rules name table budget (found.Witness tuple) cert right is shown = record {
   asks = ap (λ (c : CertParts). c.asked.question) is;
-  holds = holds;
+  right = shown;
   spent = unspent cert budget (enough_of (consistency_question.question rules table).cells) (ap (λ (c : CertParts). spent_budget c.answer) is);
 }
-of_table rules name table budget (found.Never tree) cert right is holds = record {
+of_table rules name table budget (found.Never tree) cert right is shown = record {
   asks = ap (λ (c : CertParts). c.asked.question) is.whole;
-  holds = holds;
+  right = shown;
   spent = unspent cert budget (enough_of (consistency_question.question rules table).cells) (ap (λ (c : CertParts). spent_budget c.answer) is.whole);
 }
-of_table rules name table budget (found.Spent tree) cert right is holds = record {
+of_table rules name table budget (found.Spent tree) cert right is shown = record {
   asks = ap (λ (c : CertParts). c.asked.question) is.whole;
-  holds = holds;
+  right = shown;
   spent = is_spent cert (leaf_count tree) budget (enough_of (consistency_question.question rules table).cells) (ap (λ (c : CertParts). spent_budget c.answer) is.whole) right.1 right.2;
 }
 
 -- the certificate of what was answered about the table of a name answers its question
-pub table_answer : (rules : Book) (name : List ℕ) (budget : ℕ) (answer : Consistency) (cert : CertParts) (place : Option ℕ) → IsSome place → IfSome place (λ table. consistency.IsAnswer rules budget table answer) → IfSome place (λ table. IsCertOf rules name table answer cert) → IsVerdict rules cert Holds
+pub table_answer : (rules : Book) (name : List ℕ) (budget : ℕ) (answer : Consistency) (cert : CertParts) (place : Option ℕ) → IsSome place → IfSome place (λ table. consistency.IsAnswer rules budget table answer) → IfSome place (λ table. IsCertOf rules name table answer cert) → IsRightCert rules cert
     → Answers rules (Consistent name) budget (enough_of (consistency_question.question rules (unwrap_or place 0)).cells) cert
-table_answer rules name budget answer cert None there right is holds = absurd (cc)
-table_answer rules name budget answer cert (Some table) there right is holds = of_table rules name table budget answer cert right is holds
+table_answer rules name budget answer cert None there right is shown = absurd (cc)
+table_answer rules name budget answer cert (Some table) there right is shown = of_table rules name table budget answer cert right is shown
 
 -- ---- a dependency
 
 -- the certificate of what was answered about a dependency answers its question
-pub dep_answer : (rules : Book) (dep : Dep) (budget : ℕ) (answer : Implication) (cert : CertParts) → implication.IsAnswer rules.schema (book_deps rules) dep budget answer → IsCertOfDep rules dep answer cert → IsVerdict rules cert Holds
+pub dep_answer : (rules : Book) (dep : Dep) (budget : ℕ) (answer : Implication) (cert : CertParts) → implication.IsAnswer rules.schema (book_deps rules) dep budget answer → IsCertOfDep rules dep answer cert → IsRightCert rules cert
     → Answers rules (Implies (decl_of rules.schema dep)) budget (enough_of (implication_question.question rules.schema (book_deps rules) dep).cells) cert
-dep_answer rules dep budget (told.Counter one other) cert right is holds = record {
+dep_answer rules dep budget (told.Counter one other) cert right is shown = record {
   asks = ap (λ (c : CertParts). c.asked.question) is;
-  holds = holds;
+  right = shown;
   spent = unspent cert budget (enough_of (implication_question.question rules.schema (book_deps rules) dep).cells) (ap (λ (c : CertParts). spent_budget c.answer) is);
 }
-dep_answer rules dep budget (told.Implied tree) cert right is holds = record {
+dep_answer rules dep budget (told.Implied tree) cert right is shown = record {
   asks = ap (λ (c : CertParts). c.asked.question) is.whole;
-  holds = holds;
+  right = shown;
   spent = unspent cert budget (enough_of (implication_question.question rules.schema (book_deps rules) dep).cells) (ap (λ (c : CertParts). spent_budget c.answer) is.whole);
 }
-dep_answer rules dep budget (told.Spent tree) cert right is holds = record {
+dep_answer rules dep budget (told.Spent tree) cert right is shown = record {
   asks = ap (λ (c : CertParts). c.asked.question) is.whole;
-  holds = holds;
+  right = shown;
   spent = is_spent cert (leaf_count tree) budget (enough_of (implication_question.question rules.schema (book_deps rules) dep).cells) (ap (λ (c : CertParts). spent_budget c.answer) is.whole) right.1 right.2;
 }
 

@@ -9,8 +9,7 @@ use Rattle.cert_text.specs.declared.cert.Answer.{Answer}
 use Rattle.cert_text.specs.declared.cert.Answer.TheVariants.{Witness, Counter, Tree}
 use Rattle.cert_text.specs.declared.cert.CertParts.{CertParts}
 use Rattle.cert_text.specs.declared.cert.Question.{Question}
-use Rattle.cert_check.specs.Verdict.{IsVerdict}
-use Rattle.cert_check.specs.declared.verdict.CertVerdict.TheVariants.{Holds}
+use Rattle.cert_check.specs.Shown.{IsRightCert}
 use Rattle.cli_output.specs.declared.status.Status.{Status}
 use Rattle.cli_output.specs.declared.status.Status.TheVariants.{Clean, Findings, Spent}
 use Rattle.cli_output.specs.Output.{Outputs}
@@ -39,11 +38,11 @@ spent_budget (Witness one) = None
 spent_budget (Counter one other) = None
 spent_budget (Tree tree) = tree.budget
 
--- A certificate that answers a question with a budget. It asks the question, and it holds over the rules. Where the budget
+-- A certificate that answers a question with a budget. It asks the question, and it is right over the rules. Where the budget
 -- was spent, that is the given one, and it is less than enough.
 pub record Answers (rules : Book) (question : Question) (budget enough : ℕ) (cert : CertParts) : Type 0 where
   pub asks : cert.asked.question ≡ question
-  pub holds : IsVerdict rules cert Holds
+  pub right : IsRightCert rules cert
   pub spent : IfSome (spent_budget cert.answer) (λ named. (named ≡ budget) × (budget < enough))
 
 -- the canonical text of such a certificate, with the status of its answer

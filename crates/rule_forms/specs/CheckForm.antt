@@ -5,7 +5,7 @@ use Rattle.cert_text.specs.CertFiles.{reads_cert}
 use Rattle.cert_text.specs.declared.cert.CertParts.{CertParts}
 use Rattle.cert_text.specs.declared.fault.CertCause.{CertCause}
 use Rattle.cert_text.specs.declared.fault.CertCause.TheVariants as found
-use Rattle.cert_check.specs.Verdict.{IsVerdict}
+use Rattle.cert_check.specs.Verdict.{IsCertVerdict}
 use Rattle.cert_check.specs.declared.verdict.CertVerdict.{CertVerdict}
 use Rattle.cert_check.specs.declared.verdict.CertVerdict.TheVariants.{Holds, Fails}
 use Rattle.cli_output.specs.declared.refusal.Cause.{Cause}
@@ -49,7 +49,7 @@ verdict_status (Fails line) = Findings
 -- the line that tells the verdict
 abbrev pub check_outputs : Given → Outputs
 check_outputs read bytes status =
-    (verdict : CertVerdict) × IsVerdict read.rules read.cert verdict × (bytes ≡ verdict_text verdict) × (status ≡ verdict_status verdict)
+    (verdict : CertVerdict) × IsCertVerdict read.rules read.cert verdict × (bytes ≡ verdict_text verdict) × (status ≡ verdict_status verdict)
 
 -- the schema, the rules and the certificate are fetched
 abbrev pub check_task : Limits → List ℕ → List ℕ → Task

@@ -3,7 +3,7 @@ use Rattle.std.specs.Prelude.{IsTrue}
 use Rattle.schema_core.specs.Lookups.{attrs_at}
 use Rattle.schema_core.specs.declared.schema.Attr.{Attr}
 use Rattle.schema_core.specs.declared.schema.Schema.{Schema}
-use Rattle.cert_check.specs.Verdict.{IsShortTuple}
+use Rattle.cert_check.specs.Shown.{IsShortTuple}
 use Rattle.cert_check.proofs.check.is_tuple_of.Goals as goal
 
 pub returns : goal.returns

@@ -1,4 +1,4 @@
-use Rattle.cert_check.proofs.MadeHolds.{decl_written, judged_decl, told_holds, told_named}
+use Rattle.cert_check.proofs.MadeHolds.{decl_written, judged_decl, told_right, told_named}
 use Rattle.cert_check.proofs.made.cert_of_implication.Goals as goal
 
 pub implication_cert-requires-clause-decl : goal.implication_cert-requires-clause-decl
@@ -13,5 +13,5 @@ returns-in_err-cert-clause-asked c = judged_decl c.args.rules.now c.schema-schem
 pub returns-clause-asked : goal.returns-clause-asked
 returns-clause-asked c = judged_decl c.args.rules.now c.schema-schema.ensures.valid c.args.dep.now c.requires.dep c.requires.row
 
-pub returns-clause-holds : goal.returns-clause-holds
-returns-clause-holds c = told_holds c.args.rules.now c.schema-schema.ensures.valid c.args.dep.now c.requires.dep c.requires.row c.args.answer c.in_ok-cert.cert c.requires.answer c.in_ok-cert.ensures
+pub returns-clause-right : goal.returns-clause-right
+returns-clause-right c = told_right c.args.rules.now c.schema-schema.ensures.valid c.args.dep.now c.requires.dep c.requires.row c.args.answer c.in_ok-cert.cert c.requires.answer c.in_ok-cert.ensures

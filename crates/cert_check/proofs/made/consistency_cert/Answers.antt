@@ -3,7 +3,7 @@ use Rattle.std.specs.Prelude.{All}
 use Rattle.std.specs.Str.{IsUtf8}
 use Rattle.cfd_consistency.specs.declared.decider.Consistency.{Consistency}
 use Rattle.cert_check.specs.Made.{IsWrittenAnswer}
-use Rattle.cert_check.specs.Verdict.{asks_consistency}
+use Rattle.cert_check.specs.Shown.{asks_consistency}
 use Rattle.cert_check.proofs.made.consistency_cert.Goals as goal
 
 pub of_witness-requires-clause-values : goal.of_witness-requires-clause-values

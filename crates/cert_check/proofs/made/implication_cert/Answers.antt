@@ -3,7 +3,7 @@ use Rattle.std.specs.Prelude.{All}
 use Rattle.std.specs.Str.{IsUtf8}
 use Rattle.cfd_implication.specs.declared.answer.Implication.{Implication}
 use Rattle.cert_check.specs.Made.{IsWrittenDepAnswer}
-use Rattle.cert_check.specs.Verdict.{asks_implication}
+use Rattle.cert_check.specs.Shown.{asks_implication}
 use Rattle.cert_check.proofs.made.implication_cert.Goals as goal
 
 pub of_counter-requires-clause-one : goal.of_counter-requires-clause-one

@@ -2,7 +2,7 @@ use Rattle.std.proofs.Common.{List, ◌∙◌, sym, ap, subst}
 use Rattle.rule_model.specs.declared.dep.Dep.{Dep}
 use Rattle.cert_check.specs.Made.{HaveNames}
 use Rattle.cert_check.specs.Names.{Names}
-use Rattle.cert_check.specs.Verdict.{asks_from}
+use Rattle.cert_check.specs.Shown.{asks_from}
 use Rattle.cert_check.proofs.QuestionNames.{names_from}
 use Rattle.cert_check.proofs.NodesBack.{tree_named}
 use Rattle.cert_check.proofs.tree_lines.tree_text.Goals as goal

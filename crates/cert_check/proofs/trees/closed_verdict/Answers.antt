@@ -3,7 +3,7 @@ use Rattle.case_tree.specs.Verdict.{IsVerdict}
 use Rattle.case_tree.specs.declared.checker.Checked.{Checked}
 use Rattle.cert_text.specs.declared.cert.NodeLine.{NodeLine}
 use Rattle.cert_text.specs.declared.names.NodeName.TheVariants.{Open}
-use Rattle.cert_check.specs.Verdict.{nodes_of}
+use Rattle.cert_check.specs.Shown.{nodes_of}
 use Rattle.cert_check.proofs.NodeLines.{closed_holds, open_before_wrong, open_in_partial, some_open, wrong_first, wrong_within}
 use Rattle.cert_check.proofs.trees.closed_verdict.Goals as goal
 

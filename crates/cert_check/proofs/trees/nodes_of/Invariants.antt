@@ -1,5 +1,5 @@
 use Rattle.std.proofs.Common.{◌≡◌, take}
-use Rattle.cert_check.specs.Verdict.{nodes_of}
+use Rattle.cert_check.specs.Shown.{nodes_of}
 use Rattle.cert_check.proofs.trees.nodes_of.Given as goal
 
 abbrev pub invariant-loop-line : goal.invariant-loop-line

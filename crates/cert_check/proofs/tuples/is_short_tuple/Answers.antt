@@ -1,4 +1,4 @@
-use Rattle.cert_check.specs.Verdict.{IsShortText}
+use Rattle.cert_check.specs.Shown.{IsShortText}
 use Rattle.cell_values.proofs.Lists.{AllZip-long}
 use Rattle.cert_check.proofs.tuples.is_short_tuple.Goals as goal
 

@@ -1,6 +1,6 @@
 use Rattle.std.proofs.Common.{◌↔◌, drop}
 use Rattle.std.specs.List.{AllZip}
-use Rattle.cert_check.specs.Verdict.{IsShortText}
+use Rattle.cert_check.specs.Shown.{IsShortText}
 use Rattle.cert_check.proofs.tuples.is_short_tuple.Given as goal
 
 -- what is left decides

@@ -2,7 +2,7 @@ use Rattle.std.proofs.Common.{◌≡◌, ℕ, ◌++◌, ◌∷◌, [], List, ref
 use Rattle.line_grammar.specs.Spelling.{file_text}
 use Rattle.rule_model.specs.declared.dep.Dep.{Dep}
 use Rattle.cert_check.specs.Made.{IsTreeText}
-use Rattle.cert_check.specs.Verdict.{asks_from}
+use Rattle.cert_check.specs.Shown.{asks_from}
 use Rattle.rule_cover.specs.CoverText.{head_parts}
 use Rattle.rule_cover.proofs.text.push_tree_fate.Goals as goal
 
