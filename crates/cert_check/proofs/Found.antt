@@ -21,9 +21,6 @@ module _ {X : Type 0} (part : CellValues → List X) where
     pub there : slice_get (flat_map part all) number ≡ slice_get (flat_map part left) place
     pub within : place < length (flat_map part left)
 
-  pub at_first : (all : List CellValues) (number : ℕ) → number < length (flat_map part all) → IsAt all all number number
-  at_first all number within = record { there = refl; within = within }
-
   pub at_next : (all : List CellValues) (i number place : ℕ) (cell : CellValues) → i < length all → cell ≡ get_or all i cell → IsAt all (drop i all) number place → IsAt all (cell ∷ drop (i + 1) all) number place
   at_next all i number place cell within is at = subst (λ (left : List CellValues). IsAt all left number place) (drop_more all i cell within ∙ ap (λ (c : CellValues). c ∷ drop (i + 1) all) (sym is)) at
 

@@ -1,5 +1,5 @@
 -- The places of names among those of an attribute and of all attributes.
-use Rattle.std.proofs.Common.{inl, inr, ◌≡◌, ℕ, ◌+◌, ◌*◌, ◌^◌, ◌<◌, ◌≤◌, Bool, true, false, ◌&&◌, cond, List, [], ◌∷◌, ◌++◌, length, drop, get_or, Option, Some, None, refl, sym, ap, ◌∙◌, subst, arith, length-append}
+use Rattle.std.proofs.Common.{inl, inr, ◌≡◌, ℕ, ◌+◌, ◌*◌, ◌^◌, ◌<◌, ◌≤◌, Bool, true, false, ◌&&◌, cond, List, [], ◌∷◌, ◌++◌, length, drop, get_or, sym, ap, ◌∙◌, subst, arith, length-append}
 use Rattle.std.specs.Prelude.{◌==◌}
 use Rattle.std.specs.List.{flat_map, position_or_len, sum_by}
 use Rattle.std.specs.Str.{bytes_eq}
@@ -14,8 +14,8 @@ use Rattle.cert_text.specs.declared.names.Which.TheVariants.{Only, First, Second
 use Rattle.cert_text.specs.declared.names.CellName.{CellName}
 use Rattle.cert_text.specs.declared.names.VarName.{VarName}
 use Rattle.cert_text.specs.declared.names.VarName.TheVariants.{Value, Equal}
-use Rattle.cert_check.specs.Names.{cell_name, value_vars, attr_vars, value_cells, attr_cells, same_cell, same_var, is_cell}
-use Rattle.cert_check.proofs.Positions.{place-here, place-later, place-left, place-right, place-map, place-none, place_within}
+use Rattle.cert_check.specs.Names.{cell_name, value_vars, attr_vars, value_cells, attr_cells, same_cell, same_var}
+use Rattle.cert_check.proofs.Positions.{place-later, place-left, place-right, place-map, place-none, place_within}
 
 -- ---- variables of one attribute
 
@@ -43,9 +43,6 @@ module _ (attr : List ℕ) (values : List (List ℕ)) (name : VarName) where
   abbrev others : List VarName
   others = value_vars Second attr values
 
-  pub pair_equality : same_var name (Equal attr) ≡ true → position_or_len (same_var name) (attr_vars Implication attr values) ≡ 0
-  pair_equality is = place-here (same_var name) (Equal attr) (ones ++ others) is
-
   pub pair_first : same_var name (Equal attr) ≡ false → position_or_len (same_var name) ones < length values → position_or_len (same_var name) (attr_vars Implication attr values) ≡ 1 + position_or_len (same_var name) ones
   pair_first not_equality within =
       let front = place-left (same_var name) ones others (omega (arith, value_vars_count First attr values)) in
@@ -65,36 +62,6 @@ attr_vars_few Consistency attr values = omega (arith, value_vars_count Only attr
 attr_vars_few Implication attr values = omega (arith, pair_count attr values)
 
 -- ---- cells of one attribute
-
-pub value_cells_at : (tuple : Which) (attr : List ℕ) (values : List (List ℕ)) (empty : Bool) → (length values == 0) ≡ empty → value_cells tuple attr values ≡ cond empty [] (Some (cell_name tuple attr) ∷ [])
-value_cells_at tuple attr values empty is = ap (λ (b : Bool). cond b [] (Some (cell_name tuple attr) ∷ [])) is
-
-pub one_cell_place : (tuple : Which) (attr : List ℕ) (name : CellName) (named : Bool) → same_cell name (cell_name tuple attr) ≡ named → position_or_len (is_cell name) (Some (cell_name tuple attr) ∷ []) ≡ cond named 0 1
-one_cell_place tuple attr name true is = place-here (is_cell name) (Some (cell_name tuple attr)) [] is
-one_cell_place tuple attr name false is = place-later (is_cell name) (Some (cell_name tuple attr)) [] is
-
-pub value_cells_count : (tuple : Which) (attr : List ℕ) (values : List (List ℕ)) → length (value_cells tuple attr values) ≡ cond (length values == 0) 0 1
-value_cells_count tuple attr values = elim (cases_Bool (length values == 0)) [
-  | inl none ↦ rw none refl
-  | inr some ↦ rw some refl
-]
-
-module _ (attr : List ℕ) (values : List (List ℕ)) (name : CellName) where
-  abbrev one_cells : List (Option CellName)
-  one_cells = value_cells First attr values
-
-  abbrev other_cells : List (Option CellName)
-  other_cells = value_cells Second attr values
-
-  pub pair_cell_first : position_or_len (is_cell name) one_cells < length one_cells → position_or_len (is_cell name) (attr_cells Implication attr values) ≡ 1 + position_or_len (is_cell name) one_cells
-  pair_cell_first within =
-      let front = place-left (is_cell name) one_cells other_cells within in
-      place-later (is_cell name) None (one_cells ++ other_cells) refl ∙ omega arith
-
-  pub pair_cell_second : length one_cells ≤ position_or_len (is_cell name) one_cells → position_or_len (is_cell name) (attr_cells Implication attr values) ≡ 1 + length one_cells + position_or_len (is_cell name) other_cells
-  pair_cell_second past =
-      let behind = place-right (is_cell name) one_cells other_cells past in
-      place-later (is_cell name) None (one_cells ++ other_cells) refl ∙ omega arith
 
 pub pair_cell_count : (attr : List ℕ) (values : List (List ℕ)) → length (attr_cells Implication attr values) ≡ 1 + (length (value_cells First attr values) + length (value_cells Second attr values))
 pair_cell_count attr values = omega (arith, length-append (value_cells First attr values) (value_cells Second attr values))
@@ -118,9 +85,6 @@ module _ {X : Type 0} (named : CellValues → List X) (p : X → Bool) where
     pub place : first + position_or_len p (flat_map named left) ≡ position_or_len p (flat_map named all)
     pub count : first + length (flat_map named left) ≡ length (flat_map named all)
 
-  pub on_first : (all : List CellValues) → IsOn all all 0
-  on_first all = record { place = omega arith; count = omega arith }
-
   pub on_here : (all left : List CellValues) (cell : CellValues) (first : ℕ) → IsOn all (cell ∷ left) first → position_or_len p (named cell) < length (named cell) → first + position_or_len p (named cell) ≡ position_or_len p (flat_map named all)
   on_here all left cell first on within =
       let front = place-left p (named cell) (flat_map named left) within in
@@ -138,9 +102,6 @@ module _ {X : Type 0} (named : CellValues → List X) (p : X → Bool) where
   -- the next attribute
   pub on_at : (all : List CellValues) (i first : ℕ) (cell : CellValues) → i < length all → cell ≡ get_or all i cell → IsOn all (drop i all) first → IsOn all (cell ∷ drop (i + 1) all) first
   on_at all i first cell within is on = subst (λ (left : List CellValues). IsOn all left first) (drop_more all i cell within ∙ ap (λ (c : CellValues). c ∷ drop (i + 1) all) (sym is)) on
-
-  pub on_end : (all : List CellValues) (first : ℕ) → IsOn all [] first → first ≡ position_or_len p (flat_map named all)
-  on_end all first on = omega (arith, on.place)
 
   -- no number is too large
   pub on_fits : (all left : List CellValues) (cell : CellValues) (first : ℕ) → IsOn all (cell ∷ left) first → length (flat_map named all) < 2 ^ 64 → first + position_or_len p (named cell) < 2 ^ 64

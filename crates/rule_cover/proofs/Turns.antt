@@ -1,8 +1,8 @@
 -- The rounds of asking, one after the other.
 use Rattle.std.proofs.Common.{◌≡◌, ℕ, suc, ◌+◌, ◌<◌, ◌≤◌, ◌^◌, Bool, true, false, List, [], ◌∷◌, ◌++◌, length, take, drop, get_or, Result, Ok, Err, refl, sym, ap, ◌∙◌, subst, append_assoc, arith}
-use Rattle.std.specs.Prelude.{All, IfOk, map}
-use Rattle.std.specs.List.{insert, remove}
-use Rattle.std.proofs.lemmas.List.{append-nil, drop_all, drop_at, drop_more, get_or-map, length-append, length-map, length-take-le, length_push, map_push, nil_from_length, take_all, take_at, take_more}
+use Rattle.std.specs.Prelude.{All, IfOk}
+use Rattle.std.specs.List.{insert}
+use Rattle.std.proofs.lemmas.List.{append-nil, drop_all, drop_at, drop_more, get_or-map, length-append, length-map, length-take-le, length_push, map_push, take_all, take_at, take_more}
 use Rattle.std.proofs.lemmas.List.Elements.{All-append, All-cons, All-head, All-nil, All-tail}
 use Rattle.schema_core.specs.declared.schema.Schema.{Schema}
 use Rattle.rule_model.specs.declared.dep.Dep.{Dep}
@@ -18,20 +18,6 @@ use Rattle.rule_cover.specs.Rounds.{AskedPiece, Halves, again_if}
 
 pub stay_is : (pieces : List Dep) (stay : ℕ) → stay ≤ length pieces → stay ≡ length (take stay pieces)
 stay_is pieces stay le = sym (length-take-le stay pieces le)
-
-pub taken_off : (pieces : List Dep) (stay : ℕ) (piece : Dep) → stay < length pieces → piece ≡ get_or pieces stay piece
-    → (let halves : Halves = record { before = take stay pieces; after = drop stay pieces } in halves)
-    ≡ record { before = take stay (remove pieces stay); after = piece ∷ drop stay (remove pieces stay) }
-taken_off pieces stay piece lt is =
-    let long : length (take stay pieces) ≡ stay = length-take-le stay pieces (omega (arith, lt)) in
-    let next : stay + 1 ≡ suc stay = omega arith in
-    let front = sym (take_at (take stay pieces) (drop (suc stay) pieces) stay long) in
-    let back : drop stay pieces ≡ piece ∷ drop stay (remove pieces stay) =
-    drop_more pieces stay piece lt
-    ∙ ap (λ (p : Dep). p ∷ drop (stay + 1) pieces) (sym is)
-    ∙ ap (λ n. piece ∷ drop n pieces) next
-    ∙ ap (λ (ps : List Dep). piece ∷ ps) (sym (drop_at (take stay pieces) (drop (suc stay) pieces) stay long)) in
-    λ i. record { before = front i; after = back i }
 
 pub put_back : (others : List Dep) (stay : ℕ) (piece : Dep) → stay ≤ length others
     → (let halves : Halves = record { before = take (stay + 1) (insert others stay piece); after = drop (stay + 1) (insert others stay piece) } in halves)
