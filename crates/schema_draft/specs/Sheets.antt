@@ -1,5 +1,5 @@
 -- A table file by itself, under no schema: the table that its header names, and its rows as they stand.
-use Rattle.std.specs.Prelude.{ℕ, ◌+◌, List, [], ◌∷◌, length, map, not, if◌then◌else◌, Option, Some, None, Result, Ok, Err}
+use Rattle.std.specs.Prelude.{ℕ, ◌+◌, ◌-◌, ◌^◌, min, List, [], ◌∷◌, length, map, not, if◌then◌else◌, Option, Some, None, Result, Ok, Err}
 use Rattle.std.specs.List.{list_all}
 use Rattle.std.specs.Option.{option_or}
 use Rattle.std.specs.Str.{is_utf8}
@@ -54,3 +54,7 @@ sheet_of table limits bytes = sheet_unless (sheet_fault limits (file_records byt
 abbrev pub text_record : Option (List (List ℕ)) → Option (List (List ℕ))
 text_record None = None
 text_record (Some fields) = if list_all is_utf8 fields then Some fields else None
+
+-- how many records a file has, which stops at the last number of its type
+abbrev pub record_count : List ℕ → ℕ
+record_count bytes = min (length (file_records bytes)) (2 ^ 64 - 1)

@@ -10,4 +10,4 @@ mod sheet;
 pub use columns::{FEW, column_of, few_values, is_key};
 pub use draft::draft_of;
 pub use names::{is_name, tables_of};
-pub use sheet::{Sheet, read_sheet, record_at};
+pub use sheet::{Sheet, read_sheet, record_at, record_count};

@@ -9,7 +9,7 @@ ghost use Rattle.csv_tables.specs.Records.{file_records};
 ghost use Rattle.csv_tables.specs.TableFiles.{text_fault};
 ghost use Rattle.line_grammar.specs.Faults.{IsUnlessMemory};
 ghost use Rattle.text_lists.specs.Limits.{AreLimits};
-ghost use Rattle.schema_draft.specs.Sheets.{any_texts, sheet_of, text_record, texts_fault, unless_texts};
+ghost use Rattle.schema_draft.specs.Sheets.{any_texts, record_count, sheet_of, text_record, texts_fault, unless_texts};
 
 use crate::records::FileRecords;
 use csv::ByteRecord;
@@ -132,6 +132,19 @@ pub fn record_at(alloc: Global, bytes: &[u8], at: usize) -> Result<Option<Texts>
         ahead -= 1;
     }
     Ok(None)
+}
+
+/// How many records a file has, its header among them. The count stops at the last number of its type.
+pub fn record_count(alloc: Global, bytes: &[u8]) -> Result<u64, AllocError>
+    ensures { IfOk result (λ count. count ≡ record_count bytes.now) }
+{
+    let mut records = FileRecords::new(alloc, bytes);
+    let mut fields = ByteRecord::new(alloc);
+    let mut count: u64 = 0;
+    'records: while records.next(&mut fields)? {
+        count = count.saturating_add(1);
+    }
+    Ok(count)
 }
 
 fn texts_if(alloc: Global, fields: &ByteRecord) -> Result<Option<Texts>, AllocError>
