@@ -4,3 +4,4 @@ mod ItemAt
 mod Parts
 mod Ends
 mod Barred
+mod BenchRows

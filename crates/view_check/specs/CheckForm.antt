@@ -1,5 +1,5 @@
 -- The form `check PROJECT` of `cfdview`: what is off in a project before anything is asked.
-use Rattle.std.specs.Prelude.{◌≡◌, ℕ, zero, suc, Bool, true, false, not, ◌&&◌, List, [], ◌∷◌, ◌++◌, length, slice_get, is_none, ◌==◌, if◌then◌else◌, Option, None, Some, codes, decimal}
+use Rattle.std.specs.Prelude.{◌≡◌, ℕ, zero, suc, Bool, true, false, not, ◌&&◌, List, [], ◌∷◌, ◌++◌, length, slice_get, is_none, ◌==◌, if◌then◌else◌, Option, None, Some, Ok, Err, codes, decimal}
 use Rattle.std.specs.List.{flat_map, list_all, list_any}
 use Rattle.std.specs.Str.{bytes_eq}
 use Rattle.text_lists.specs.declared.limits.Limits.{Limits}
@@ -22,7 +22,10 @@ use Rattle.table_flaws.specs.declared.flaws.Flaw.TheVariants.{Long, Repeated, Sp
 use Rattle.cli_output.specs.declared.status.Status.{Status}
 use Rattle.cli_output.specs.declared.status.Status.TheVariants.{Clean, Findings, Refused}
 use Rattle.cli_output.specs.Output.{Only, Outputs, Task}
-use Rattle.view_check.specs.Seen.{fetch_seen}
+use Rattle.project_forms.specs.Project.{ProjectRead}
+use Rattle.view_check.specs.RowCounts.{count_line}
+use Rattle.view_check.specs.Rows.{all_rows}
+use Rattle.view_check.specs.Seen.{SeenRead, fetch_seen}
 use Rattle.view_check.specs.Shown.{off_text}
 use Rattle.view_check.specs.Verdicts.{AreVerdicts}
 use Rattle.view_check.specs.declared.cited.RowName.{RowName}
@@ -31,8 +34,7 @@ use Rattle.view_check.specs.declared.values.MayStand.TheVariants as may
 use Rattle.view_check.specs.declared.values.ValueVerdict.{ValueVerdict}
 use Rattle.view_check.specs.declared.verdicts.Verdict.{Verdict}
 use Rattle.view_check.specs.declared.verdicts.Verdict.TheVariants.{Holds, Never, Open}
-use Rattle.view_check.specs.declared.fetching.Seen.{Seen}
-use Rattle.view_check.specs.declared.fetching.Seen.TheVariants.{Off, Whole}
+use Rattle.view_check.specs.declared.fetching.Off.{Off}
 
 -- ---- what is odd in a table
 
@@ -48,9 +50,6 @@ flaw_line table (Long attr row) = row_words table row ++ attr_name (slice_get ta
 flaw_line table (Spaced attr row) =
     row_words table row ++ attr_name (slice_get table.attrs attr) ++ codes " has blanks at an end, and stands without them in another row\n"
 flaw_line table (Repeated row) = row_words table row ++ codes "stands above, too\n"
-
-abbrev pub count_line : Table → ℕ → List ℕ
-count_line table count = codes "table " ++ table.name ++ codes ": " ++ decimal count ++ codes " rows\n"
 
 -- how many rows were read, and what is odd in them
 abbrev pub table_text : Table → List (List (List ℕ)) → List ℕ
@@ -218,15 +217,22 @@ IsTold rules all bytes status = (verdicts : List Verdict) × AreVerdicts rules v
 
 -- ---- what is written
 
-abbrev pub check_outputs : Limits → Seen → Outputs
-check_outputs limits (Whole project) = IsTold project.rules project.tables
-check_outputs limits (Off refusal anew) = Only (off_text limits refusal anew) Refused
+-- of the tables as they were read: the script is read, too, and not run
+abbrev pub read_outputs : ProjectRead → Outputs
+read_outputs project = IsTold project.tables.rules (all_rows project.tables.history.present)
 
--- schema, rules and tables are fetched, and once more a file that is refused and the schema
+abbrev pub off_outputs : Limits → Off → Outputs
+off_outputs limits off = Only (off_text limits off.refusal off.anew) Refused
+
+abbrev pub check_outputs : Limits → SeenRead → Outputs
+check_outputs limits (Ok project) = read_outputs project
+check_outputs limits (Err off) = off_outputs limits off
+
+-- what `cfdbench run` fetches; and once more a file that is refused, the schema, and tables that are too many
 abbrev pub check_task : Limits → List ℕ → Task
 check_task limits project = record {
-  Found = Seen;
+  Found = SeenRead;
   fetching = fetch_seen limits project;
   outputs = check_outputs limits;
-  most_fetches = 68;
+  most_fetches = 134;
 }

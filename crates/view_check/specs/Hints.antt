@@ -17,6 +17,7 @@ use Rattle.schema_core.specs.declared.schema.Domain.{Domain}
 use Rattle.schema_core.specs.declared.schema.Domain.TheVariants.{AnyText, Finite}
 use Rattle.schema_core.specs.declared.schema.Schema.{Schema}
 use Rattle.schema_core.specs.declared.schema.Table.{Table}
+use Rattle.schema_draft.specs.Sheets.{record_count}
 use Rattle.rule_model.specs.declared.fault.RuleFault.{RuleFault}
 use Rattle.rule_model.specs.declared.fault.RuleFault.TheVariants as rule
 use Rattle.rule_parser.specs.declared.fault.ParseCause.{ParseCause}
@@ -135,14 +136,22 @@ bytes_line limits = codes "at most " ++ decimal limits.file_bytes ++ codes " byt
 abbrev pub rows_line : Limits → List ℕ
 rows_line limits = codes "at most " ++ decimal limits.rows ++ codes " rows\n"
 
-abbrev pub table_room : Limits → TableFault → List ℕ
-table_room limits (table.RowsFull at) = rows_line limits
-table_room limits other = []
+-- the rows of a file of so many records, of which one is the header
+abbrev pub rows_told : ℕ → List ℕ
+rows_told records = codes "this file has " ++ decimal (records - 1) ++ codes " rows\n"
 
--- of bytes and rows; the size of the file, where it is too large only beside the others
+abbrev pub file_rows : Option (List ℕ) → List ℕ
+file_rows None = []
+file_rows (Some bytes) = rows_told (record_count bytes)
+
+abbrev pub table_room : Limits → TableFault → Option (List ℕ) → List ℕ
+table_room limits (table.RowsFull at) bytes = rows_line limits ++ file_rows bytes
+table_room limits other bytes = []
+
+-- of bytes and rows; the size of the file, where it is too large only beside the others, and how many rows it has
 abbrev pub room_text : Limits → Cause → Option (List ℕ) → List ℕ
 room_text limits cause.TooLarge bytes = bytes_line limits ++ size_line bytes
-room_text limits (cause.Table fault) bytes = table_room limits fault
+room_text limits (cause.Table fault) bytes = table_room limits fault bytes
 room_text limits other bytes = []
 
 -- ---- by the cause

@@ -1,6 +1,9 @@
 pub mod Seen
 pub mod Hints
-pub mod Forms
+pub mod Misfits
+pub mod RowCounts
+pub mod Full
+pub mod Rows
 pub mod Shown
 pub mod Cited
 pub mod ValueVerdicts

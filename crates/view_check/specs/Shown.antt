@@ -22,8 +22,9 @@ use Rattle.cli_output.specs.declared.refusal.LineFlaw.{LineFlaw}
 use Rattle.cli_output.specs.declared.refusal.LineFlaw.TheVariants as flaw
 use Rattle.cli_output.specs.declared.refusal.Refusal.{Refusal}
 use Rattle.cli_output.specs.Refusals.{limit_text, refusal_line}
-use Rattle.view_check.specs.Forms.{form_text}
+use Rattle.view_check.specs.Full.{full_text}
 use Rattle.view_check.specs.Hints.{hint_text, room_text}
+use Rattle.view_check.specs.Misfits.{misfit_in, misfit_text}
 use Rattle.view_check.specs.declared.fetching.Anew.{Anew}
 
 -- ---- a line
@@ -118,4 +119,5 @@ bound_shown limits (Some most) = codes "at most " ++ decimal (limit_value limits
 abbrev pub off_text : Limits → Refusal → Anew → List ℕ
 off_text limits refusal anew =
     refusal_line refusal.what refusal.cause ++ line_at (line_in refusal.cause) anew.bytes ++ record_at (record_in refusal.cause) anew.bytes ++ bound_shown limits (limit_in refusal.cause)
-    ++ room_text limits refusal.cause anew.bytes ++ form_text refusal.cause anew.bytes ++ hint_text refusal.what refusal.cause anew.bytes anew.schema
+    ++ room_text limits refusal.cause anew.bytes ++ full_text limits refusal.cause anew ++ misfit_text (misfit_in refusal.cause) anew.bytes
+    ++ hint_text refusal.what refusal.cause anew.bytes anew.schema

@@ -1,28 +1,37 @@
 //! What is told of a project.
-ghost use Rattle.std.specs.Prelude.{◌≡◌, ◌++◌, ◌&&◌, IfOk, OnOk, length};
+ghost use Rattle.std.specs.Prelude.{◌≡◌, ◌++◌, ◌&&◌, ◌<◌, IfOk, OnOk, length};
 ghost use Rattle.std.specs.List.{flat_map};
 ghost use Rattle.std.specs.Option.{option_copied};
 ghost use Rattle.text_lists.specs.Limits.{AreLimits};
 ghost use Rattle.table_flaws.specs.declared.flaws.Flaw.TheVariants.{Long, Repeated, Spaced};
-ghost use Rattle.cli_output.specs.Output.{Ends, IsWhole, Only, Output, UsesDevices, Writes};
-ghost use Rattle.view_check.specs.Shown.{off_text};
-ghost use Rattle.view_check.specs.CheckForm.{IsTold, check_outputs, check_task, count_line, flaw_line, has_no_flaw, is_clean, part_clean, part_text, row_words, status_of, table_text, tables_clean, tables_text, whole_text};
+ghost use Rattle.cli_output.specs.Output.{Ends, IsWhole, Output, UsesDevices, Writes};
+ghost use Rattle.project_forms.specs.Project.{read_of};
+ghost use Rattle.view_check.specs.Rows.{all_rows};
+ghost use Rattle.view_check.specs.Seen.{seen_of};
+ghost use Rattle.view_check.specs.CheckForm.{IsTold, check_outputs, check_task, flaw_line, has_no_flaw, is_clean, off_outputs, part_clean, part_text, read_outputs, row_words, status_of, table_text, tables_clean, tables_text, whole_text};
 
 use crate::edits::push_edits;
-use crate::fetching::{Anew, Project, Seen, fetch_seen};
+use crate::fetching::{Off, Seen, fetch_seen};
 use crate::items::item;
-use crate::names::push_name;
+use crate::names::{push_count, push_name};
+use crate::rows::all_rows;
 use crate::shown::off_text;
 use crate::verdicts::{Verdict, are_good, push_verdicts, verdicts};
-use cli_output::{Refusal, Status, Stop, end_by, end_with};
+use bench_core::Bench;
+use cli_output::{Status, Stop, end_by, end_with};
+use probe_steps::Steps;
+use project_forms::Project;
 use rule_model::RuleBook;
 use schema_core::{Limits, List, Table, Text, Texts, push_number};
 use shelf_io::{Shelf, Sink};
 use std::alloc::{AllocError, Global};
+use std::marker::Brand;
+use std::sync::ledger::{Blank, Ledger};
 use table_flaws::{Flaw, flaws_of};
 
 /// Tells what is off in a project before anything is asked: of each table how many rows were read, and what is odd in
-/// them; or why a file of the project is refused, and the line of the file that the refusal names.
+/// them, and what of the rules can't work; or why a file of the project is refused, its script among them, and what stands
+/// where the refusal points. The script isn't run.
 pub fn look_at_project<S: Shelf, O: Sink>(
     alloc: Global,
     project: &Text,
@@ -34,41 +43,70 @@ pub fn look_at_project<S: Shelf, O: Sink>(
     ensures written { Writes (Output limits.now (check_task limits.now project.now) (S.told shelf.old).holding) result (O.told out.old).written (O.told out.new).written }
     ensures devices { UsesDevices limits.now (check_task limits.now project.now) result (S.told shelf.old) (S.told shelf.new) (O.told out.old) (O.told out.new) }
 {
+    look_opened::<S, O, Brand>(alloc, project, shelf, out, limits, Blank::new(1))
+}
+
+/// The same, with a counter of index probes that is opened for this call. Nothing reads it.
+fn look_opened<S: Shelf, O: Sink, L: Ledger>(
+    alloc: Global,
+    project: &Text,
+    shelf: &mut S,
+    out: &mut O,
+    limits: &Limits,
+    blank: Blank,
+) -> Status
+    requires limits { AreLimits limits.now }
+    requires name { blank.name ≡ L.name }
+    requires parts { blank.parts ≡ L.parts }
+    requires some { 0 < blank.parts }
+    ensures written { Writes (Output limits.now (check_task limits.now project.now) (S.told shelf.old).holding) result (O.told out.old).written (O.told out.new).written }
+    ensures devices { UsesDevices limits.now (check_task limits.now project.now) result (S.told shelf.old) (S.told shelf.new) (O.told out.old) (O.told out.new) }
+{
+    let mut steps = Steps::<L>::open(blank);
+    look_counted(alloc, project, shelf, out, limits, &mut steps)
+}
+
+fn look_counted<S: Shelf, O: Sink, L: Ledger>(
+    alloc: Global,
+    project: &Text,
+    shelf: &mut S,
+    out: &mut O,
+    limits: &Limits,
+    steps: &mut Steps<L>,
+) -> Status
+    requires { AreLimits limits.now }
+    ensures written { Writes (Output limits.now (check_task limits.now project.now) (S.told shelf.old).holding) result (O.told out.old).written (O.told out.new).written }
+    ensures devices { UsesDevices limits.now (check_task limits.now project.now) result (S.told shelf.old) (S.told shelf.new) (O.told out.old) (O.told out.new) }
+{
     let mut left = limits.all_bytes;
-    match fetch_seen(alloc, shelf, project, limits, &mut left) {
+    match fetch_seen(alloc, shelf, project, limits, &mut left, steps) {
         Ok(seen) => answer(alloc, limits, &seen, out),
         Err(stop) => end_by(alloc, &stop, out),
     }
 }
 
 fn answer<O: Sink>(alloc: Global, limits: &Limits, seen: &Seen, out: &mut O) -> Status
-    ensures { Ends (check_outputs limits.now seen.now) result (O.told out.old) (O.told out.new) }
+    ensures { Ends (check_outputs limits.now (seen_of seen.now)) result (O.told out.old) (O.told out.new) }
 {
     match seen {
         Seen::Whole(project) => tell_whole(alloc, project, out),
-        Seen::Off { refusal, anew } => tell_off(alloc, limits, refusal, anew, out),
+        Seen::Off(off) => tell_off(alloc, limits, off, out),
     }
 }
 
-fn tell_off<O: Sink>(
-    alloc: Global,
-    limits: &Limits,
-    refusal: &Refusal,
-    anew: &Anew,
-    out: &mut O,
-) -> Status
-    ensures { Ends (Only (off_text limits.now refusal.now anew.now) Status.Refused) result (O.told out.old) (O.told out.new) }
+fn tell_off<O: Sink>(alloc: Global, limits: &Limits, off: &Off, out: &mut O) -> Status
+    ensures { Ends (off_outputs limits.now off.now) result (O.told out.old) (O.told out.new) }
 {
-    match off_text(alloc, limits, refusal, anew) {
+    match off_text(alloc, limits, &off.refusal, &off.anew) {
         Ok(text) => end_with(out, &text, Status::Refused),
         Err(AllocError) => end_by(alloc, &Stop::Memory, out),
     }
 }
 
 fn tell_whole<O: Sink>(alloc: Global, project: &Project, out: &mut O) -> Status
-    ensures { Ends (IsTold project.now.rules project.now.tables) result (O.told out.old) (O.told out.new) }
+    ensures { Ends (read_outputs (read_of project.now)) result (O.told out.old) (O.told out.new) }
 {
-    match told_of(alloc, &project.rules, project.tables.as_slice()) {
+    match told_on(alloc, &project.bench) {
         Ok(told) => end_with(out, &told.text, told.status),
         Err(AllocError) => end_by(alloc, &Stop::Memory, out),
     }
@@ -90,6 +128,15 @@ fn status_of(clean: bool) -> Status
     } else {
         Status::Findings
     }
+}
+
+/// What is off in a project that was read, by the rows that its bench has.
+pub fn told_on(alloc: Global, bench: &Bench) -> Result<Told, AllocError>
+    ensures told { IfOk result (λ told. IsTold bench.now.rules (all_rows bench.now.history.present) told.text.items told.status) }
+    ensures whole { IfOk result (λ told. IsWhole told.status) }
+{
+    let all = all_rows(alloc, bench)?;
+    told_of(alloc, bench.rules(), all.as_slice())
 }
 
 /// What is off in a project that was read: its rules, and the rows of its tables in the order of the schema. Where the
@@ -175,16 +222,6 @@ fn push_table(
     push_count(out, table, rows.len())?;
     push_flaws(out, table, flaws.as_slice())?;
     Ok(flaws.as_slice().is_empty())
-}
-
-fn push_count(out: &mut Vec<u8>, table: &Table, count: usize) -> Result<(), AllocError>
-    ensures { OnOk result (out.new.items ≡ out.old.items ++ count_line table.now count) }
-{
-    out.extend_from_slice(b"table ")?;
-    out.extend_from_slice(table.name.as_str().as_bytes())?;
-    out.extend_from_slice(b": ")?;
-    push_number(out, count as u64)?;
-    out.extend_from_slice(b" rows\n")
 }
 
 fn push_flaws(out: &mut Vec<u8>, table: &Table, flaws: &[Flaw]) -> Result<(), AllocError>

@@ -1,7 +1,7 @@
 //! The limit that a file passed.
 ghost use Rattle.std.specs.Prelude.{◌≡◌, ◌++◌, OnOk, Some};
 ghost use Rattle.cli_output.specs.Refusals.{limit_text};
-ghost use Rattle.view_check.specs.Hints.{bytes_line, room_text, rows_line, size_line, table_room};
+ghost use Rattle.view_check.specs.Hints.{bytes_line, file_rows, room_text, rows_line, rows_told, size_line, table_room};
 ghost use Rattle.view_check.specs.Shown.{bound_shown, limit_in, limit_in_line, limit_in_rule, limit_in_rules, limit_in_schema, limit_value};
 
 use cli_output::{Cause, LineFlaw};
@@ -9,7 +9,8 @@ use csv_tables::TableFault;
 use rule_model::RuleFault;
 use rule_parser::ParseCause;
 use schema_core::{Limit, Limits, List, SchemaCause, push_number};
-use std::alloc::AllocError;
+use schema_draft::record_count;
+use std::alloc::{AllocError, Global};
 
 /// Tells how many there may be, where there are too many.
 pub fn push_bound(out: &mut Vec<u8>, limits: &Limits, cause: &Cause) -> Result<(), AllocError>
@@ -28,6 +29,7 @@ pub fn push_bound(out: &mut Vec<u8>, limits: &Limits, cause: &Cause) -> Result<(
 
 /// Tells how many bytes or rows there may be, where there are too many.
 pub fn push_room(
+    alloc: Global,
     out: &mut Vec<u8>,
     limits: &Limits,
     cause: &Cause,
@@ -40,7 +42,7 @@ pub fn push_room(
             push_bytes(out, limits)?;
             push_size(out, bytes)
         }
-        Cause::Table(fault) => push_table_room(out, limits, fault),
+        Cause::Table(fault) => push_table_room(alloc, out, limits, fault, bytes),
         _ => Ok(()),
     }
 }
@@ -72,13 +74,43 @@ fn push_length(out: &mut Vec<u8>, bytes: &[u8]) -> Result<(), AllocError>
     out.extend_from_slice(b" bytes\n")
 }
 
-fn push_table_room(out: &mut Vec<u8>, limits: &Limits, fault: &TableFault) -> Result<(), AllocError>
-    ensures { OnOk result (out.new.items ≡ out.old.items ++ table_room limits.now fault.now) }
+fn push_table_room(
+    alloc: Global,
+    out: &mut Vec<u8>,
+    limits: &Limits,
+    fault: &TableFault,
+    bytes: &Option<List<u8>>,
+) -> Result<(), AllocError>
+    ensures { OnOk result (out.new.items ≡ out.old.items ++ table_room limits.now fault.now bytes.now) }
 {
     match fault {
-        TableFault::RowsFull { .. } => push_rows(out, limits),
+        TableFault::RowsFull { .. } => {
+            push_rows(out, limits)?;
+            push_file_rows(alloc, out, bytes)
+        }
         _ => Ok(()),
     }
+}
+
+fn push_file_rows(
+    alloc: Global,
+    out: &mut Vec<u8>,
+    bytes: &Option<List<u8>>,
+) -> Result<(), AllocError>
+    ensures { OnOk result (out.new.items ≡ out.old.items ++ file_rows bytes.now) }
+{
+    match bytes {
+        Some(bytes) => push_rows_of(out, record_count(alloc, bytes.as_slice())?),
+        None => Ok(()),
+    }
+}
+
+fn push_rows_of(out: &mut Vec<u8>, records: u64) -> Result<(), AllocError>
+    ensures { OnOk result (out.new.items ≡ out.old.items ++ rows_told records) }
+{
+    out.extend_from_slice(b"this file has ")?;
+    push_number(out, records.saturating_sub(1))?;
+    out.extend_from_slice(b" rows\n")
 }
 
 fn push_rows(out: &mut Vec<u8>, limits: &Limits) -> Result<(), AllocError>

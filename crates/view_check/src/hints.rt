@@ -96,7 +96,7 @@ fn push_fault(out: &mut Vec<u8>, fault: &TableFault, table: &Table) -> Result<()
 
 // ---- a line of a rule file
 
-pub fn line_of(number: usize, bytes: &Option<List<u8>>) -> Option<&[u8]>
+fn line_of(number: usize, bytes: &Option<List<u8>>) -> Option<&[u8]>
     ensures { option_map (λ line. line.now) result ≡ line_of number bytes.now }
 {
     match bytes {
@@ -123,7 +123,7 @@ fn push_parse(
     }
 }
 
-pub fn tokens_of(alloc: Global, line: Option<&[u8]>) -> Result<LineTokens, AllocError>
+fn tokens_of(alloc: Global, line: Option<&[u8]>) -> Result<LineTokens, AllocError>
     ensures { IfOk result (λ tokens. token_list tokens ≡ tokens_of (option_map (λ l. l.now) line.entry)) }
 {
     match line {
@@ -132,7 +132,7 @@ pub fn tokens_of(alloc: Global, line: Option<&[u8]>) -> Result<LineTokens, Alloc
     }
 }
 
-pub fn token_list(tokens: &LineTokens) -> &[Token]
+fn token_list(tokens: &LineTokens) -> &[Token]
     ensures { result.now ≡ token_list tokens.now }
 {
     match tokens {

@@ -9,8 +9,9 @@ ghost use Rattle.view_check.specs.Shown.{line_at, line_in, line_shown, off_text,
 
 use crate::bounds::{push_bound, push_room};
 use crate::fetching::Anew;
-use crate::forms::push_form;
+use crate::full::push_full;
 use crate::hints::push_hint;
+use crate::misfits::push_misfit;
 use cli_output::{Cause, Refusal, refusal_line};
 use csv_tables::TableFault;
 use schema_core::{
@@ -32,8 +33,9 @@ pub fn off_text(
     push_line_at(&mut out, line_in(&refusal.cause), &anew.bytes)?;
     push_record_at(alloc, &mut out, record_in(&refusal.cause), &anew.bytes)?;
     push_bound(&mut out, limits, &refusal.cause)?;
-    push_room(&mut out, limits, &refusal.cause, &anew.bytes)?;
-    push_form(alloc, &mut out, &refusal.cause, &anew.bytes)?;
+    push_room(alloc, &mut out, limits, &refusal.cause, &anew.bytes)?;
+    push_full(&mut out, limits, &refusal.cause, anew)?;
+    push_misfit(alloc, &mut out, &refusal.cause, &anew.bytes)?;
     push_hint(alloc, &mut out, refusal, &anew.bytes, &anew.schema)?;
     Ok(out)
 }

@@ -3,14 +3,14 @@ use Rattle.cli_output.specs.declared.status.Status.{Status}
 use Rattle.cli_output.specs.Output.{Only}
 use Rattle.cli_output.proofs.Outputs.{Ends-wider}
 use Rattle.view_check.specs.CheckForm.{IsTold}
+use Rattle.view_check.specs.Rows.{all_rows}
 use Rattle.view_check.proofs.answer.tell_whole.Goals as goal
 
 pub returns-in-Ok : goal.returns-in-Ok
 returns-in-Ok g c =
-    let rules = c.args.project.now.rules in
-    let tables = c.args.project.now.tables in
+    let rules = c.args.project.now.bench.rules in
+    let tables = all_rows c.args.project.now.bench.history.present in
     let told = c.in-Ok.told in
-    let of_project : IsTold rules tables told.text.items told.status = subst (λ all. IsTold rules all told.text.items told.status) c.as_slice.ensures c.in-Ok.ensures.told in
     Ends-wider (Only c.deref.result.now told.status) (IsTold rules tables)
-    (λ (bytes : List ℕ) (status : Status) o. subst (λ s. IsTold rules tables bytes s) (sym o.1) (subst (λ b. IsTold rules tables b told.status) (sym o.0) (subst (λ b. IsTold rules tables b told.status) (sym c.deref.ensures.value) of_project)))
+    (λ (bytes : List ℕ) (status : Status) o. subst (λ s. IsTold rules tables bytes s) (sym o.1) (subst (λ b. IsTold rules tables b told.status) (sym o.0) (subst (λ b. IsTold rules tables b told.status) (sym c.deref.ensures.value) c.in-Ok.ensures.told)))
     c.end_with.result (g.O.Sink.told c.args.out.now) (g.O.Sink.told c.end_with.new.out) c.end_with.ensures.ends

@@ -1,12 +1,13 @@
 use Rattle.std.proofs.Common.{arith}
 use Rattle.cli_output.proofs.Outputs.{output-found, output-stopped, uses-stopped}
 use Rattle.view_check.specs.CheckForm.{check_task}
-use Rattle.view_check.proofs.answer.look_at_project.Goals as goal
+use Rattle.view_check.specs.Seen.{seen_of}
+use Rattle.view_check.proofs.answer.look_counted.Goals as goal
 
 pub returns-in-Ok-clause-written : goal.returns-in-Ok-clause-written
 returns-in-Ok-clause-written g c =
     let limits = c.args.limits.now in
-    output-found limits (check_task limits c.args.project.now) (g.S.Shelf.told c.args.shelf.now).holding c.in-Ok.seen c.in-Ok.ensures.gives
+    output-found limits (check_task limits c.args.project.now) (g.S.Shelf.told c.args.shelf.now).holding (seen_of c.in-Ok.seen) c.in-Ok.ensures.gives
     c.answer.result (g.O.Sink.told c.args.out.now).written (g.O.Sink.told c.answer.new.out).written c.answer.ensures.writes
 
 pub returns-in-Err-clause-written : goal.returns-in-Err-clause-written
