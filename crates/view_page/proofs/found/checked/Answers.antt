@@ -3,8 +3,8 @@ use Rattle.rule_model.specs.Books.{Book}
 use Rattle.view_check.specs.CheckForm.{IsTold}
 use Rattle.view_page.proofs.found.checked.Goals as goal
 
-pub returns-in_ok-found : goal.returns-in_ok-found
-returns-in_ok-found c =
+pub returns : goal.returns
+returns c =
     let bench = c.args.bench.now in
     let told = c.in_ok-told.told in
     let ruled = subst (λ (rules : Book). IsTold rules c.as_slice.result.now told.text.items told.status) c.rules.ensures.value c.in_ok-told.ensures.told in
