@@ -8,4 +8,3 @@ pub mod Overview
 pub mod Sections
 pub mod Checks
 pub mod Page
-pub mod Parts

@@ -72,7 +72,7 @@ status_for (line ∷ lines) = Found
 -- The page of a state, with so many rows read, and its status: Clean exactly where its rows satisfy all rules.
 abbrev pub IsPageOf : List ℕ → Options → List ℕ → Book → State → List (List ℕ) → Outputs
 IsPageOf name options read rules state checked bytes status =
-    IsTextOn name options (record { read = read; present = counts_of state }) rules state found bytes × (status ≡ status_for (listing rules state)) × (status ≡ Clean ↔ IsSatisfied rules state)
+    IsTextOn name options (record { read = read; present = counts_of state }) rules state checked bytes × (status ≡ status_for (listing rules state)) × (status ≡ Clean ↔ IsSatisfied rules state)
 
 -- ---- what is written
 

@@ -5,8 +5,8 @@ use Rattle.view_project.specs.Looking.{counts_of}
 use Rattle.view_forms.specs.RowForm.{row_of}
 use Rattle.view_forms.proofs.row_form.row.Goals as goal
 
-pub returns-in_ok-shown-clause-shown : goal.returns-in_ok-shown-clause-shown
-returns-in_ok-shown-clause-shown g c =
+pub returns-clause-shown : goal.returns-clause-shown
+returns-clause-shown g c =
     let start = c.args.project.bench in
     let options = c.args.options.now in
     let looked = c.in_ok-looked.looked in

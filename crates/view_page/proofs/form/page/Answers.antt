@@ -5,8 +5,8 @@ use Rattle.view_project.specs.Looking.{counts_of}
 use Rattle.view_page.specs.PageForm.{IsPageOf, options_of}
 use Rattle.view_page.proofs.form.page.Goals as goal
 
-pub returns-in_ok-shown-clause-shown : goal.returns-in_ok-shown-clause-shown
-returns-in_ok-shown-clause-shown g c =
+pub returns-clause-shown : goal.returns-clause-shown
+returns-clause-shown g c =
     let start = c.args.project.bench in
     let name = c.args.options.now.project in
     let options = options_of c.args.options.now in
