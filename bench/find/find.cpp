@@ -4,7 +4,7 @@
 // rows where each pair of a leader and an id finds a slot, else class by class.
 // A left side of which a part determines A is skipped for A, and so are rows for which a part settles A. Where parts
 // determine all attributes outside it, the rows aren't looked at. What is known of a left side is kept for those that it is
-// a part of.
+// a part of. Before the search it is told of many attributes that too many are found, where pairs of rows tell it.
 #include <algorithm>
 #include <cstdint>
 #include <cstdio>
@@ -266,8 +266,77 @@ static void push_found_on(const Table &table, const Side &x, uint32_t number, co
     }
 }
 
+// ---- what is told ahead: pairs of rows that agree on one attribute, and those of them that agree on two, tell what three
+// attributes determine where they are few
+
+struct Pair { size_t one, other; };
+struct Pairs { uint32_t attr; std::vector<Pair> list; bool whole; };
+struct Sample { uint32_t one, other; std::vector<Pair> list; bool whole; std::vector<uint8_t> apart; };
+static const size_t MOST_PAIRS = 4000000, MOST_OF_TWO = 1000;
+
+static Pairs pairs_at(const Table &table, uint32_t attr, size_t most) {
+    Pairs pairs{attr, {}, true};
+    Classes classes = with_attr(all_rows(table.rows), table.columns[attr]);
+    for (Row r = 0; r < table.rows; r++)
+        for (Row s = classes.nexts[r]; s < table.rows; s = classes.nexts[s]) {
+            if (pairs.list.size() >= most) { pairs.whole = false; return pairs; }
+            pairs.list.push_back({r, s});
+        }
+    return pairs;
+}
+
+static std::vector<Pair> same_pairs(const std::vector<Pair> &pairs, const Rows &ids) {
+    std::vector<Pair> same;
+    for (const Pair &pair : pairs)
+        if (ids[pair.one] == ids[pair.other]) same.push_back(pair);
+    return same;
+}
+
+static bool is_apart(const std::vector<Pair> &pairs, const Rows &ids) {
+    auto is_two = [&](const Pair &pair) { return ids[pair.one] != ids[pair.other]; };
+    return std::any_of(pairs.begin(), pairs.end(), is_two);
+}
+
+static Sample sample_of(const Table &table, const Pairs &one, const Pairs &other) {
+    const Pairs &from = !one.whole && other.whole ? other : one;
+    uint32_t by = !one.whole && other.whole ? one.attr : other.attr;
+    Sample sample{one.attr, other.attr, same_pairs(from.list, table.columns[by]), from.whole, {}};
+    for (const Rows &ids : table.columns) sample.apart.push_back(is_apart(sample.list, ids));
+    if (sample.list.size() > MOST_OF_TWO) sample.whole = false;
+    if (!sample.whole) std::vector<Pair>().swap(sample.list);
+    return sample;
+}
+
+static bool are_surely_more(const Table &table, const std::vector<Side> &sides) {
+    size_t attrs = table.columns.size(), room = MOST;
+    if (sides.back().size() != 3 || sides.size() * attrs <= MOST) return false;
+    std::vector<Pairs> pairs;
+    for (uint32_t attr = 0; attr < attrs; attr++) pairs.push_back(pairs_at(table, attr, MOST_PAIRS / attrs));
+    auto is_near_key = [](const Pairs &pairs) { return pairs.whole && !pairs.list.empty(); };
+    if (std::none_of(pairs.begin(), pairs.end(), is_near_key)) return false;
+    std::vector<Sample> samples(attrs * attrs);
+    for (uint32_t one = 0; one < attrs; one++)
+        for (uint32_t other = one + 1; other < attrs; other++)
+            samples[one * attrs + other] = sample_of(table, pairs[one], pairs[other]);
+    for (const Side &x : sides) {
+        if (x.size() != 3) continue;
+        const Sample &front = samples[x[0] * attrs + x[1]];
+        const Sample &ends = samples[x[0] * attrs + x[2]];
+        const Sample &back = samples[x[1] * attrs + x[2]];
+        if (!front.whole && !ends.whole && !back.whole) continue;
+        std::vector<Pair> rest = front.whole ? same_pairs(front.list, table.columns[x[2]])
+            : ends.whole ? same_pairs(ends.list, table.columns[x[1]]) : same_pairs(back.list, table.columns[x[0]]);
+        for (uint32_t a = 0; a < attrs; a++)
+            if (!has(x, a) && front.apart[a] && ends.apart[a] && back.apart[a] && !is_apart(rest, table.columns[a])
+                && room-- == 0)
+                return true;
+    }
+    return false;
+}
+
 // All that are found, or one more than MOST at least.
 static std::vector<Candidate> all_found(const Table &table, size_t support, const std::vector<Side> &sides) {
+    if (are_surely_more(table, sides)) return std::vector<Candidate>(MOST + 1);
     std::vector<Candidate> found;
     Store store;
     Side front;

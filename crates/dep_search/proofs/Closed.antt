@@ -21,7 +21,7 @@ has_covered rows (y ∷ x) a e = λ r s agreed.
     (λ (later : list_any (nat_eq a) x ≡ true). has_covered rows x a later r s both.1) (or_cases (nat_eq a y) (list_any (nat_eq a) x) e)
 
 -- what determines an attribute does so with more
-determines_more : (rows : List Row) (x part : List ℕ) (a : ℕ) → Covers rows x part → determines rows part a ≡ true → determines rows x a ≡ true
+pub determines_more : (rows : List Row) (x part : List ℕ) (a : ℕ) → Covers rows x part → determines rows part a ≡ true → determines rows x a ≡ true
 unfolding determines settles
 determines_more rows x part a covers e =
     every-all (settles rows x a) (length rows) (λ r rl.

@@ -8,3 +8,5 @@ pub mod Closed
 pub mod Kept
 pub mod InOrder
 pub mod Candidates
+pub mod Paired
+pub mod Agreed

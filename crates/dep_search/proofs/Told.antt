@@ -49,7 +49,7 @@ and-true true = refl
 and-true false = refl
 
 -- rows agree on X and an attribute more where they agree on both
-agree_more : (rows : List Row) (x : List ℕ) (a r s : ℕ) → agree rows (x ++ a ∷ []) r s ≡ (agree rows x r s && agree rows (a ∷ []) r s)
+pub agree_more : (rows : List Row) (x : List ℕ) (a r s : ℕ) → agree rows (x ++ a ∷ []) r s ≡ (agree rows x r s && agree rows (a ∷ []) r s)
 agree_more rows [] a r s = refl
 agree_more rows (y ∷ x) a r s =
     ap (λ b. bytes_eq (get_or (row_at rows r) y []) (get_or (row_at rows s) y []) && b) (agree_more rows x a r s)

@@ -6,3 +6,4 @@ pub mod Classes
 pub mod Settled
 pub mod Sides
 pub mod Keys
+pub mod Pairs

@@ -254,24 +254,31 @@ fn split(
     }
     let mut r = first;
     while r < ids.len() {
-        firsts[r] = last_new(leaders, ids, marks, r);
+        firsts[r] = last_new(leaders, ids, marks, first, r);
         r = nexts[r];
     }
 }
 
 // The row at which the id of a row was last new under its leader, which is this one where it wasn't yet.
-fn last_new(leaders: &[usize], ids: &[usize], marks: &mut Vec<usize>, r: usize) -> usize
+fn last_new(
+    leaders: &[usize],
+    ids: &[usize],
+    marks: &mut Vec<usize>,
+    first: usize,
+    r: usize,
+) -> usize
     requires long { length ids.now ≡ length leaders.now }
     requires within { AreWithin ids.now }
     requires marks { AreMarks leaders.now ids.now marks.old.items }
     requires r { r < length ids.now }
+    requires leads { slice_index leaders.now r ≡ first }
     requires seen { AreSeenBelow leaders.now ids.now marks.old.items (slice_index leaders.now r) r }
     ensures first { IsFirstPair ids.now leaders.now r result }
     ensures marks { AreMarks leaders.now ids.now marks.new.items }
     ensures seen { AreSeenBelow leaders.now ids.now marks.new.items (slice_index leaders.now r) (r + 1) }
 {
     let mark = marks[ids[r]];
-    if mark < ids.len() && leaders[mark] == leaders[r] {
+    if mark < ids.len() && leaders[mark] == first {
         return mark;
     }
     marks[ids[r]] = r;

@@ -9,6 +9,7 @@ ghost use Rattle.dep_search.specs.Sides.{IsPast, IsSide};
 ghost use Rattle.dep_search.specs.declared.candidate.Candidate.{Candidate};
 ghost use Rattle.dep_search.specs.declared.finder.FindFault.TheVariants.{TooMany};
 
+use crate::ahead::are_surely_more;
 use crate::candidate::Candidate;
 use crate::columns::columns;
 use crate::facts::{Facts, closed_facts, is_any_all, is_any_said, is_closed, places, settled_at};
@@ -406,6 +407,9 @@ pub fn all_found(
         columns: columns.as_slice(),
         support,
     };
+    if are_surely_more(alloc, &table, sides, most)? {
+        return Err(FindFault::TooMany);
+    }
     let mut past = Past {
         front: grouped_by(alloc, &table, &[])?,
         store: List::new(alloc),

@@ -6,13 +6,16 @@
 //! 1999); constants are the classes of enough rows (after Chiang and Miller, 2008, and Fan et al., 2011).
 #![tactic(auto)]
 
+mod ahead;
 pub mod candidate;
 mod classes;
 mod columns;
 mod facts;
 pub mod finder;
 mod grouped;
+mod pairs;
 mod parts;
+mod samples;
 mod settled;
 mod sides;
 mod sorting;
