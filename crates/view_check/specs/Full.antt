@@ -26,9 +26,11 @@ counts_text tables all (suc place) = counts_text tables all place ++ count_part 
 abbrev pub row_total : List (List (List (List ℕ))) → ℕ
 row_total all = min (sum_by (λ (rows : List (List (List ℕ))). length rows) all) (2 ^ 64 - 1)
 
+unfoldable pub most_words : Limits → List ℕ
+most_words limits = codes "; at most " ++ decimal limits.rows ++ codes " rows, and " ++ decimal limits.index_cells ++ codes " cells of indexes\n"
+
 abbrev pub total_line : Limits → ℕ → List ℕ
-total_line limits total =
-    decimal total ++ codes " rows in all tables; at most " ++ decimal limits.rows ++ codes " rows, and " ++ decimal limits.index_cells ++ codes " cells of indexes\n"
+total_line limits total = decimal total ++ codes " rows in all tables" ++ most_words limits
 
 abbrev pub tables_full : Limits → List Table → List (List (List (List ℕ))) → List ℕ
 tables_full limits tables all = counts_text tables all (length tables) ++ total_line limits (row_total all)

@@ -1,7 +1,7 @@
 //! Tables that together have too many rows, or would need too many cells of indexes: how many rows each has.
 ghost use Rattle.std.specs.Prelude.{◌≡◌, ◌++◌, OnOk, length};
 ghost use Rattle.std.specs.Option.{option_copied};
-ghost use Rattle.view_check.specs.Full.{anew_full, count_part, counts_text, full_text, row_total, tables_full, total_line};
+ghost use Rattle.view_check.specs.Full.{anew_full, count_part, counts_text, full_text, most_words, row_total, tables_full, total_line};
 
 use crate::fetching::Anew;
 use crate::items::item;
@@ -91,7 +91,15 @@ fn push_total(out: &mut Vec<u8>, limits: &Limits, total: u64) -> Result<(), Allo
     ensures { OnOk result (out.new.items ≡ out.old.items ++ total_line limits.now total) }
 {
     push_number(out, total)?;
-    out.extend_from_slice(b" rows in all tables; at most ")?;
+    out.extend_from_slice(b" rows in all tables")?;
+    push_most(out, limits)
+}
+
+#[tactic(auto, unfolding(crate::specs::Full::most_words))]
+fn push_most(out: &mut Vec<u8>, limits: &Limits) -> Result<(), AllocError>
+    ensures { OnOk result (out.new.items ≡ out.old.items ++ most_words limits.now) }
+{
+    out.extend_from_slice(b"; at most ")?;
     push_number(out, limits.rows)?;
     out.extend_from_slice(b" rows, and ")?;
     push_number(out, limits.index_cells)?;
