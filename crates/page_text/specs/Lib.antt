@@ -8,3 +8,4 @@ pub mod Overview
 pub mod Sections
 pub mod Checks
 pub mod Page
+pub mod Parts

@@ -2,6 +2,7 @@
 ghost use Rattle.std.specs.Prelude.{◌≡◌, ◌++◌, IfOk, OnOk};
 ghost use Rattle.page_text.specs.Markup.{markup, style};
 ghost use Rattle.page_text.specs.Page.{head_text, overview_text, page_text, sections_text, state_piece, styled};
+ghost use Rattle.page_text.specs.Parts.{IsMadeOfParts};
 ghost use Rattle.rule_model.specs.Books.{book_cinds, book_deps};
 
 use crate::checks::push_checks;
@@ -23,9 +24,25 @@ pub struct Options {
     pub loaded: bool,
 }
 
-/// The page of a project of that name: what was read, what is found, and the lines of what `check` finds.
-#[tactic(auto, unfolding(crate::specs::Page::page_text))]
+/// The page of a project of that name: what was read, what is found, and the lines of what `check` finds. Whatever these
+/// hold, it is made of markup that is always the same, of escaped texts, and of numbers.
 pub fn page_text(
+    alloc: Global,
+    name: &Text,
+    options: Options,
+    rules: &RuleBook,
+    rows: &RowCounts,
+    findings: &Findings,
+    checked: &[List<u8>],
+) -> Result<Vec<u8>, AllocError>
+    ensures text { IfOk result (λ text. text.items ≡ page_text name.now options rules.now rows.now findings.now checked.now) }
+    ensures law { IsMadeOfParts (page_text name.now options rules.now rows.now findings.now checked.now) }
+{
+    whole_page(alloc, name, options, rules, rows, findings, checked)
+}
+
+#[tactic(auto, unfolding(crate::specs::Page::page_text))]
+fn whole_page(
     alloc: Global,
     name: &Text,
     options: Options,
