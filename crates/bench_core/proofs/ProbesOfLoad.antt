@@ -1,4 +1,4 @@
--- The probes of loading: row by row, and table by table.
+-- The probes of loading, table by table.
 use Rattle.std.proofs.Common.{◌≡◌, ℕ, ◌+◌, ◌*◌, ◌≤◌, List, [], ◌∷◌, ◌++◌, length, arith, zero-mul, zero-add, ◌∙◌}
 use Rattle.std.specs.List.{enumerate_from}
 use Rattle.std.proofs.lemmas.List.{length-append}
@@ -10,16 +10,6 @@ use Rattle.bench_core.specs.State.{TableState, State}
 use Rattle.bench_core.specs.Indexed.{load_probes}
 use Rattle.bench_core.specs.Loading.{Tuples, loaded_table}
 use Rattle.bench_core.proofs.Numbers.{enumerate_from-push}
-
--- no row
-pub probes-none : (steps most : ℕ) → steps ≤ steps + 0 * most
-probes-none steps most = rw (zero-mul most) (omega arith)
-
--- one row more
-pub probes-row : {X : Type 0} (begun before after most : ℕ) (rows : List X) (row : X) → before ≤ begun + length rows * most → after ≤ before + most → after ≤ begun + length (rows ++ row ∷ []) * most
-probes-row begun before after most rows row so_far next =
-    let more : (length rows + 1) * most ≡ length rows * most + most = grind arith in
-    rw (length-append rows (row ∷ []), more) (omega (arith, so_far, next))
 
 -- the probes of one table more
 pub load_probes-push : (rules : Book) (state : State) (table : TableState) → load_probes rules (state ++ table ∷ []) ≡ load_probes rules state + length table.rows * most_probes rules (length state)

@@ -87,26 +87,9 @@ module _ (n row : ℕ) (ids : Option (List ℕ)) (becomes : Stored → Stored) (
 
 -- ---- a table joins
 
-pub tuple-empty : (tables : List Stored) (table : Stored) → table.rows ≡ finmap.empty → (t r : ℕ) → tuples_of tables t r ≡ tuples_of (tables ++ table ∷ []) t r
-tuple-empty [] table none zero r = sym (ap (λ rows. finmap.get rows r) none ∙ finmap.get-empty _ r)
-tuple-empty [] table none (suc t) r = refl
-tuple-empty (x ∷ tables) table none zero r = refl
-tuple-empty (x ∷ tables) table none (suc t) r = tuple-empty tables table none t r
-
 pub last-there : (tables : List Stored) (table : Stored) → slice_get (tables ++ table ∷ []) (length tables) ≡ Some table
 last-there [] table = refl
 last-there (x ∷ tables) table = last-there tables table
-
-pub last-changed : (tables : List Stored) (table : Stored) (becomes : Stored → Stored) → at_table (length tables) becomes (tables ++ table ∷ []) ≡ tables ++ becomes table ∷ []
-last-changed [] table becomes = refl
-last-changed (x ∷ tables) table becomes = ap (λ rest. x ∷ rest) (last-changed tables table becomes)
-
--- a row of the last table has another tuple
-pub last-row : (tables : List Stored) (table after : Stored) (row : ℕ) (ids : List ℕ) → after.rows ≡ finmap.insert table.rows row ids → (t r : ℕ)
-    → with_row (tuples_of (tables ++ table ∷ [])) (length tables) row (Some ids) t r ≡ tuples_of (tables ++ after ∷ []) t r
-last-row tables table after row ids rows t r =
-    tuple-changed (length tables) row (Some ids) (λ _. after) (tables ++ table ∷ []) table (last-there tables table) rows t r
-    ∙ ap (λ ts. tuples_of ts t r) (last-changed tables table (λ _. after))
 
 -- ---- each tuple has the attributes of its table
 

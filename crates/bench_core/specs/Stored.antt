@@ -1,6 +1,7 @@
 -- How tables are stored: rows are tuples of value ids, and an id is the place of its text in a list of texts.
-use Rattle.std.specs.Prelude.{ℕ, ◌<◌, List, [], length, map, get_or, All}
+use Rattle.std.specs.Prelude.{◌≡◌, ℕ, ◌<◌, List, [], length, map, get_or, All}
 use Rattle.std.specs.FinMap as finmap
+use Rattle.std.specs.Option.{ForSome}
 use Rattle.row_store.specs.Store.{Store, Rows}
 use Rattle.bench_core.specs.State.{Row, TableState, State}
 
@@ -38,3 +39,8 @@ HaveTexts texts values = All (λ value. value < length texts) values
 -- each id of each row has a text
 abbrev pub RowsHaveTexts : List (List ℕ) → Rows → Type 0
 RowsHaveTexts texts rows = All (λ (row : StoredRow). HaveTexts texts row.1) (finmap.entries rows)
+
+-- where all of these tuples have as many texts, each row has as many ids
+abbrev pub HaveWidthOf : List (List (List ℕ)) → Rows → Type 0
+HaveWidthOf tuples rows =
+    (width : ℕ) → All (λ texts. length texts ≡ width) tuples → (row : ℕ) → ForSome (finmap.get rows row) (λ ids. length ids ≡ width)

@@ -1,12 +1,13 @@
 //! Loading tables, one after another.
 
-ghost use Rattle.std.specs.Prelude.{◌≡◌, ◌+◌, ◌-◌, ◌*◌, ◌^◌, ◌<◌, ◌≤◌, ◌++◌, ◌∷◌, [], length, map, All, IfOk, OnOk};
+ghost use Rattle.std.specs.Prelude.{◌≡◌, ◌+◌, ◌-◌, ◌*◌, ◌^◌, ◌<◌, ◌≤◌, ◌++◌, ◌∷◌, [], None, length, map, All, IfOk, OnOk};
+ghost use Rattle.std.specs.FinMap as finmap;
 ghost use Rattle.text_lists.specs.Limits.{AreLimits};
 ghost use Rattle.schema_core.specs.Lookups.{attrs_at};
 ghost use Rattle.line_grammar.specs.Faults.{GivesUnlessMemory};
 ghost use Rattle.value_pool.specs.Pool.{KeepsIds};
 ghost use Rattle.bench_core.specs.Loading.{AreTables, full_table, loaded, loaded_table};
-ghost use Rattle.bench_core.specs.Stored.{RowsHaveTexts, state_of, stored, table_state};
+ghost use Rattle.bench_core.specs.Stored.{HaveWidthOf, RowsHaveTexts, state_of, stored, table_state};
 ghost use Rattle.bench_core.specs.Bench.{AreCounts, IsHeld, history, present_of};
 ghost use Rattle.bench_core.specs.Indexed.{IsIndexed, IsInStepWith, load_probes, tuples_of};
 ghost use Rattle.bench_index.specs.AllIndexes.{most_probes};
@@ -125,7 +126,8 @@ fn add_table<L: Ledger>(
     Ok(())
 }
 
-/// The rows of the table after those that stand before it, as it is loaded: they get the ids 1, 2, 3 in order.
+/// The rows of the table after those that stand before it, as it is loaded. All of them are stored before the indexes take
+/// them, one index after the other.
 fn load_table<L: Ledger>(
     alloc: Global,
     pool: &mut Pool,
@@ -144,18 +146,24 @@ fn load_table<L: Ledger>(
     ensures indexed { IfOk result (λ store. IsIndexed rules.now pool.new (tuples_of (map stored before.now ++ stored store ∷ [])) index.new) }
     ensures probes { OnOk result (steps.new ≤ steps.old + length tuples * most_probes rules.now (length before.now)) }
 {
+    let store = store_table(alloc, pool, tuples)?;
+    index.load(rules, before.len(), &store, steps)?;
+    Ok(store)
+}
+
+/// Stores the tuples of a table as rows, which get the ids 1, 2, 3 in order.
+fn store_table(alloc: Global, pool: &mut Pool, tuples: List<Texts>) -> Result<RowStore, AllocError>
+    requires few { length tuples < 2 ^ 64 - 1 }
+    ensures loaded { IfOk result (λ store. table_state pool.new (stored store) ≡ loaded_table tuples) }
+    ensures named { IfOk result (λ store. RowsHaveTexts pool.new store.rows) }
+    ensures kept { KeepsIds pool.old pool.new }
+    ensures wide { IfOk result (λ store. HaveWidthOf tuples store.rows) }
+    ensures first { IfOk result (λ store. finmap.get store.rows 0 ≡ None) }
+{
     let mut store = RowStore::new(alloc);
     for texts in tuples.into_vec() {
         let tuple = intern_all(alloc, pool, texts.as_slice())?;
         store.ready_insert()?;
-        index.follow(
-            rules,
-            before.len(),
-            store.next_id(),
-            None,
-            Some(&tuple),
-            steps,
-        )?;
         store.put(tuple);
     }
     Ok(store)

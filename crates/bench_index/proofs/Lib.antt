@@ -13,3 +13,5 @@ pub mod ListsOnce
 pub mod Widths
 pub mod MasterChanges
 pub mod AllSteps
+pub mod Loaded
+pub mod AllLoads

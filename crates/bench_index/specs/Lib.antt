@@ -4,5 +4,6 @@ pub mod ByIds
 pub mod InStep
 pub mod Indexes
 pub mod Watching
+pub mod Loading
 pub mod MasterLists
 pub mod AllIndexes

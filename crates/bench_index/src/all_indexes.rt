@@ -1,7 +1,7 @@
 //! All indexes of a rule book, which follow a row together: those of its dependencies and inclusions, and the rows of
 //! master tables by the columns in which its editing rules look values up.
 
-ghost use Rattle.std.specs.Prelude.{◌≡◌, ◌+◌, ◌*◌, ◌≤◌, None, Some, Ok, IsTrue, IfOk, OnOk, OnErr, sum_by};
+ghost use Rattle.std.specs.Prelude.{◌≡◌, ◌+◌, ◌-◌, ◌*◌, ◌≤◌, ℕ, None, Some, Ok, IsTrue, IfOk, OnOk, OnErr, sum_by};
 ghost use Rattle.std.specs.FinMap as finite;
 ghost use Rattle.std.specs.Option.{ForSome};
 ghost use Rattle.row_store.specs.Tuple.{ids_of, ids_behind};
@@ -9,14 +9,16 @@ ghost use Rattle.row_store.specs.Watches.{probes_of};
 ghost use Rattle.value_pool.specs.Pool.{KeepsIds};
 ghost use Rattle.master_index.specs.Masters.{IsWideFor, lists_of};
 ghost use Rattle.bench_index.specs.InStep.{AreMadeAlike, AreTheSame, CanFollow, Follow};
+ghost use Rattle.bench_index.specs.Loading.{AllLoad, HaveNoRows};
 ghost use Rattle.bench_index.specs.AllIndexes.{AllFollow, AreAsBefore, AreInStepWith, FollowAsMaster, HaveRow, IsAsWide, most_probes};
 
 use crate::following::{gain, lose};
 use crate::index::BenchIndex;
+use crate::loading::load;
 use crate::masters::{follow_as_master, is_master_table, master_lists};
 use master_index::MasterIndex;
 use probe_steps::Steps;
-use row_store::{RowId, Tuple, Watch};
+use row_store::{RowId, RowStore, Tuple, Watch};
 use rule_model::RuleBook;
 use std::alloc::{AllocError, Global};
 use std::sync::ledger::Ledger;
@@ -135,6 +137,28 @@ impl AllIndexes {
         let lists = master_lists(alloc, rules)?;
         let masters = MasterIndex::new(alloc, pool.hash_keys(), lists)?;
         Ok(AllIndexes { index, masters })
+    }
+
+    /// Takes all rows of a table of which there were none so far, one index after the other. Where memory is refused, some of
+    /// them have taken the rows and others haven't.
+    pub fn load<L: Ledger>(
+        &mut self,
+        rules: &RuleBook,
+        table: usize,
+        store: &RowStore,
+        steps: &mut Steps<L>,
+    ) -> Result<(), AllocError>
+        requires none { HaveNoRows rules.now table self.old }
+        requires wide { (row : ℕ) → ForSome (finite.get store.now.rows row) (IsAsWide rules.now table) }
+        requires first { finite.get store.now.rows 0 ≡ None }
+        ensures ok { OnOk result (AllLoad rules.now table (finite.get store.now.rows) self.old self.new) }
+        ensures probes { OnOk result (steps.new ≤ steps.old + (store.now.next - 1) * most_probes rules.now table) }
+    {
+        let is_master = is_master_table(rules.schema(), table);
+        let groups = self.index.groups.as_mut_slice();
+        let cinds = self.index.cinds.as_mut_slice();
+        let masters = &mut self.masters;
+        load(groups, cinds, masters, is_master, table, store, steps)
     }
 
     /// Follows a row from its old tuple to its new one, where None is no row. All of them follow, or none where memory is

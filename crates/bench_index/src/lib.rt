@@ -9,6 +9,7 @@ mod following;
 mod ids;
 mod index;
 mod listing;
+mod loading;
 mod masters;
 mod matching;
 mod row_lines;
