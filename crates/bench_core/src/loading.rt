@@ -29,7 +29,7 @@ use std::sync::ledger::Ledger;
 use value_pool::Pool;
 
 impl Project {
-    /// Loads tables, in the order of the schema, unless they have too many rows or cells. The indexes follow each row.
+    /// Loads tables, in the order of the schema, unless they have too many rows or cells. The indexes take each table as a whole.
     pub(crate) fn load<L: Ledger>(
         alloc: Global,
         keys: HashKeys,
