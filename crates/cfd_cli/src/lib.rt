@@ -5,4 +5,4 @@
 mod program;
 
 pub use cli_output::Status;
-pub use program::{run, run_counted, run_keyed, run_with, run_with_keys};
+pub use program::{run, run_counted, run_with, run_with_keys};

@@ -94,12 +94,13 @@ fn run_opened<S: Shelf, O: Sink, L: Ledger>(
     ensures unread { (task_of limits.now words.now).most_fetches ≡ 0 → result ≢ Status.ReadFault }
 {
     let mut steps = Steps::<L>::open(blank);
-    run_keyed(alloc, keys, words, shelf, out, limits, &mut steps)
+    run_counted(alloc, keys, words, shelf, out, limits, &mut steps)
 }
 
 /// The same, with the counter of index probes of the caller.
 pub fn run_counted<S: Shelf, O: Sink, L: Ledger>(
     alloc: Global,
+    keys: HashKeys,
     words: &Texts,
     shelf: &mut S,
     out: &mut O,
@@ -114,26 +115,6 @@ pub fn run_counted<S: Shelf, O: Sink, L: Ledger>(
 
     // Where a script was answered to its end, the output goes with counts of probes: each row that is loaded and each
     // command took no more of them than it may.
-    ensures probes { IsWhole result → Writes (Output limits.now (counted_task_of steps.old steps.new limits.now words.now) (S.told shelf.old).holding) result (O.told out.old).written (O.told out.new).written }
-{
-    run_keyed(alloc, HashKeys::fixed(), words, shelf, out, limits, steps)
-}
-
-/// The same, with keys of the hash by which the texts of tables are looked up.
-pub fn run_keyed<S: Shelf, O: Sink, L: Ledger>(
-    alloc: Global,
-    keys: HashKeys,
-    words: &Texts,
-    shelf: &mut S,
-    out: &mut O,
-    limits: &Limits,
-    steps: &mut Steps<L>,
-) -> Status
-    requires { AreLimits limits.now }
-    ensures written { Writes (Output limits.now (task_of limits.now words.now) (S.told shelf.old).holding) result (O.told out.old).written (O.told out.new).written }
-    ensures usage { (HasForm words.now → ⊥) → (result ≡ Status.Usage) ⊎ (result ≡ Status.WriteFault) }
-    ensures devices { UsesDevices limits.now (task_of limits.now words.now) result (S.told shelf.old) (S.told shelf.new) (O.told out.old) (O.told out.new) }
-    ensures unread { (task_of limits.now words.now).most_fetches ≡ 0 → result ≢ Status.ReadFault }
     ensures probes { IsWhole result → Writes (Output limits.now (counted_task_of steps.old steps.new limits.now words.now) (S.told shelf.old).holding) result (O.told out.old).written (O.told out.new).written }
 {
     match form_of(alloc, words.as_slice()) {

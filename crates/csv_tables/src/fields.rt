@@ -16,7 +16,7 @@ fn field_bytes(fields: &ByteRecord, place: usize) -> &[u8]
 }
 
 /// The field at the place, if it is UTF-8.
-pub(crate) fn field_text(fields: &ByteRecord, place: usize) -> Option<&str>
+pub fn field_text(fields: &ByteRecord, place: usize) -> Option<&str>
     requires { place < length (fields_of fields.now) }
     ensures { let field = slice_index_or (fields_of fields.now) place [] in MatchOption result (is_utf8 field ≡ false) (λ text. (text.now ≡ field) × (is_utf8 field ≡ true)) }
 {
@@ -48,7 +48,7 @@ pub(crate) fn is_text(fields: &ByteRecord) -> bool
 }
 
 /// Whether a field has more bytes than that.
-pub(crate) fn has_longer_field(fields: &ByteRecord, most: u64) -> bool
+pub fn has_longer_field(fields: &ByteRecord, most: u64) -> bool
     ensures { result ≡ list_any (λ (f : List ℕ). nat_lt most (length f)) (fields_of fields.now) }
 {
     for place in 0..fields.len() {

@@ -12,7 +12,7 @@ use std::marker::Model;
 
 /// The records of a file that are not read yet. Clauses see them as the list of their fields.
 #[derive(Drop)]
-pub(crate) struct FileRecords<'a> {
+pub struct FileRecords<'a> {
     reader: Reader<&'a [u8]>,
 }
 

@@ -67,10 +67,10 @@ leads_support rows x leaders support r size led rl e =
 pub leaders_within : (rows : List Row) (x : List ℕ) (leaders : List ℕ) → AreLeaders rows x leaders → AreWithin leaders
 leaders_within rows x leaders led = λ r rl. omega (arith, led.below r (omega (arith, led.tells.long)), led.tells.long, rl)
 
--- the column of an attribute tells the rows apart there
-pub column_tells : (rows : List Row) (columns : List (List ℕ)) (a : ℕ) (column : List ℕ) → AreColumns rows (length columns) columns → a < length columns
-    → column ≡ get_or columns a column → Tells rows (a ∷ []) column
-column_tells rows columns a column are al e = subst (Tells rows (a ∷ [])) (sym (get_or_read columns a column al e [])) (are.each a al)
+-- the column of an attribute, as it is lent, tells the rows apart there
+pub lent_tells : (rows : List Row) (columns : List (List ℕ)) (a : ℕ) (column lent : List ℕ) → AreColumns rows (length columns) columns → a < length columns
+    → column ≡ get_or columns a column → lent ≡ get_or columns a column → Tells rows (a ∷ []) lent
+lent_tells rows columns a column lent are al is lent_is = subst (Tells rows (a ∷ [])) (sym (get_or_read columns a column al is []) ∙ is ∙ sym lent_is) (are.each a al)
 
 -- ---- the first rows of classes with support
 

@@ -1,5 +1,5 @@
 -- Whether a line has a form of its place, or where it leaves it; and how that is told.
-use Rattle.std.specs.Prelude.{ℕ, ◌==◌, ◌&&◌, Bool, List, [], ◌++◌, length, drop, if◌then◌else◌, Option, None, Some, option_and_then, codes}
+use Rattle.std.specs.Prelude.{ℕ, ◌==◌, ◌&&◌, Bool, List, [], ◌++◌, length, drop, if◌then◌else◌, option_and_then, codes}
 use Rattle.std.specs.List.{list_all}
 use Rattle.std.specs.Option.{option_map_or}
 use Rattle.line_grammar.specs.Leads.{are_tokens, given}

@@ -1,6 +1,6 @@
 -- The forms of lines, by their first word and by what stands above them, each with the pieces behind its first word, and
 -- as it is told.
-use Rattle.std.specs.Prelude.{ℕ, ◌-◌, ◌||◌, List, [], ◌∷◌, take, slice_get, if◌then◌else◌, Option, None, Some, option_and_then, codes}
+use Rattle.std.specs.Prelude.{ℕ, ◌-◌, ◌||◌, List, [], ◌∷◌, find, take, slice_get, if◌then◌else◌, Option, None, Some, option_and_then, codes}
 use Rattle.std.specs.Str.{bytes_eq}
 use Rattle.line_grammar.specs.Leads.{given}
 use Rattle.line_grammar.specs.Lines.{lines}
@@ -73,51 +73,41 @@ form_words form.Export = codes "export TABLE"
 
 -- ---- by the first word
 
-abbrev pub schema_form : List ℕ → Option Form
-schema_form word =
-    if bytes_eq word (codes "table") then Some form.Table
-    else if bytes_eq word (codes "master") then Some form.Master
-    else if bytes_eq word (codes "rules") then Some form.Rules
-    else if bytes_eq word (codes "script") then Some form.Script
-    else None
+-- the word with which a form begins
+abbrev pub leading : Form → List ℕ
+leading form.Table = codes "table"
+leading form.Master = codes "master"
+leading form.Attr = codes "attr"
+leading form.Rules = codes "rules"
+leading form.Script = codes "script"
+leading form.Cfd = codes "cfd"
+leading form.Cind = codes "cind"
+leading form.Edit = codes "edit"
+leading form.CfdRow = codes "row"
+leading form.CindRow = codes "row"
+leading form.Insert = codes "insert"
+leading form.Set = codes "set"
+leading form.Delete = codes "delete"
+leading form.Fix = codes "fix"
+leading form.Undo = codes "undo"
+leading form.Redo = codes "redo"
+leading form.List = codes "list"
+leading form.Count = codes "count"
+leading form.Explain = codes "explain"
+leading form.Export = codes "export"
 
-abbrev pub rule_form : List ℕ → Option Form
-rule_form word =
-    if bytes_eq word (codes "cfd") then Some form.Cfd
-    else if bytes_eq word (codes "cind") then Some form.Cind
-    else if bytes_eq word (codes "edit") then Some form.Edit
-    else None
-
-abbrev pub question_form : List ℕ → Option Form
-question_form word =
-    if bytes_eq word (codes "list") then Some form.List
-    else if bytes_eq word (codes "count") then Some form.Count
-    else if bytes_eq word (codes "explain") then Some form.Explain
-    else if bytes_eq word (codes "export") then Some form.Export
-    else None
-
-abbrev pub command_form : List ℕ → Option Form
-command_form word =
-    if bytes_eq word (codes "insert") then Some form.Insert
-    else if bytes_eq word (codes "set") then Some form.Set
-    else if bytes_eq word (codes "delete") then Some form.Delete
-    else if bytes_eq word (codes "fix") then Some form.Fix
-    else if bytes_eq word (codes "undo") then Some form.Undo
-    else if bytes_eq word (codes "redo") then Some form.Redo
-    else question_form word
-
--- a form of members, where the word is theirs
-abbrev pub or_member : List ℕ → Form → List ℕ → Option Form → Option Form
-or_member member form word other = if bytes_eq word member then Some form else other
+-- the forms of the lines at a place
+abbrev pub forms_at : Place → List Form
+forms_at place.Schema = form.Table ∷ form.Master ∷ form.Rules ∷ form.Script ∷ []
+forms_at place.BelowTable = form.Table ∷ form.Master ∷ form.Attr ∷ form.Rules ∷ form.Script ∷ []
+forms_at place.Rules = form.Cfd ∷ form.Cind ∷ form.Edit ∷ []
+forms_at place.BelowCfd = form.Cfd ∷ form.CfdRow ∷ form.Cind ∷ form.Edit ∷ []
+forms_at place.BelowCind = form.Cfd ∷ form.CindRow ∷ form.Cind ∷ form.Edit ∷ []
+forms_at place.Script = form.Insert ∷ form.Set ∷ form.Delete ∷ form.Fix ∷ form.Undo ∷ form.Redo ∷ form.List ∷ form.Count ∷ form.Explain ∷ form.Export ∷ []
 
 -- the form of lines with that first word at that place
 abbrev pub form_named : Place → List ℕ → Option Form
-form_named place.Schema word = schema_form word
-form_named place.BelowTable word = or_member (codes "attr") form.Attr word (schema_form word)
-form_named place.Rules word = rule_form word
-form_named place.BelowCfd word = or_member (codes "row") form.CfdRow word (rule_form word)
-form_named place.BelowCind word = or_member (codes "row") form.CindRow word (rule_form word)
-form_named place.Script word = command_form word
+form_named place word = find (λ form. bytes_eq word (leading form)) (forms_at place)
 
 -- with which words a line begins there
 abbrev pub words_told : Place → List ℕ

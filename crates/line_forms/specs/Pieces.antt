@@ -1,6 +1,6 @@
 -- The parts that a line is made of behind its first word: with which tokens each begins, and what has to follow such a
 -- token. LIST(ITEM) is `Any ITEM`, and LIST1(ITEM) is `One ITEM` and `More ITEM`.
-use Rattle.std.specs.Prelude.{ℕ, ◌+◌, Bool, true, false, ◌||◌, ◌&&◌, nat_le, nat_lt, List, [], ◌∷◌, ◌++◌, if◌then◌else◌, Option, None, Some, codes}
+use Rattle.std.specs.Prelude.{ℕ, ◌+◌, Bool, true, false, ◌||◌, ◌&&◌, nat_le, nat_lt, List, [], ◌∷◌, ◌++◌, if◌then◌else◌, codes}
 use Rattle.std.specs.Str.{bytes_eq}
 use Rattle.text_lists.specs.declared.bounds.TheConstants.{SET_MEMBERS}
 use Rattle.line_grammar.specs.Marks.{same_mark}

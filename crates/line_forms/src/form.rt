@@ -1,8 +1,9 @@
 //! The forms of lines.
 
-ghost use Rattle.std.specs.Prelude.{◌≡◌, ◌++◌, OnOk};
+ghost use Rattle.std.specs.Prelude.{◌≡◌, ◌++◌, OnOk, find};
 ghost use Rattle.std.specs.Option.{option_copied};
-ghost use Rattle.line_forms.specs.Forms.{command_form, form_named, form_words, or_member, pieces_of, question_form, rule_form, schema_form, words_told};
+ghost use Rattle.std.specs.Str.{bytes_eq};
+ghost use Rattle.line_forms.specs.Forms.{form_named, form_words, forms_at, leading, pieces_of, words_told};
 
 use crate::pieces::{Item, Piece, Word};
 use crate::place::Place;
@@ -204,90 +205,79 @@ pub fn form_words(form: Form) -> &'static str
 
 // ---- by the first word
 
-fn schema_form(word: &Text) -> Option<Form>
-    ensures { result ≡ schema_form word.now }
+fn leading(form: Form) -> &'static str
+    ensures { result.now ≡ leading form }
 {
-    if word.is("table") {
-        Some(Form::Table)
-    } else if word.is("master") {
-        Some(Form::Master)
-    } else if word.is("rules") {
-        Some(Form::Rules)
-    } else if word.is("script") {
-        Some(Form::Script)
-    } else {
-        None
+    match form {
+        Form::Table => "table",
+        Form::Master => "master",
+        Form::Attr => "attr",
+        Form::Rules => "rules",
+        Form::Script => "script",
+        Form::Cfd => "cfd",
+        Form::Cind => "cind",
+        Form::Edit => "edit",
+        Form::CfdRow | Form::CindRow => "row",
+        Form::Insert => "insert",
+        Form::Set => "set",
+        Form::Delete => "delete",
+        Form::Fix => "fix",
+        Form::Undo => "undo",
+        Form::Redo => "redo",
+        Form::List => "list",
+        Form::Count => "count",
+        Form::Explain => "explain",
+        Form::Export => "export",
     }
 }
 
-fn rule_form(word: &Text) -> Option<Form>
-    ensures { result ≡ rule_form word.now }
+fn forms_at(place: Place) -> &'static [Form]
+    ensures { result.now ≡ forms_at place }
 {
-    if word.is("cfd") {
-        Some(Form::Cfd)
-    } else if word.is("cind") {
-        Some(Form::Cind)
-    } else if word.is("edit") {
-        Some(Form::Edit)
-    } else {
-        None
+    match place {
+        Place::Schema => &[Form::Table, Form::Master, Form::Rules, Form::Script],
+        Place::BelowTable => &[
+            Form::Table,
+            Form::Master,
+            Form::Attr,
+            Form::Rules,
+            Form::Script,
+        ],
+        Place::Rules => &[Form::Cfd, Form::Cind, Form::Edit],
+        Place::BelowCfd => &[Form::Cfd, Form::CfdRow, Form::Cind, Form::Edit],
+        Place::BelowCind => &[Form::Cfd, Form::CindRow, Form::Cind, Form::Edit],
+        Place::Script => &[
+            Form::Insert,
+            Form::Set,
+            Form::Delete,
+            Form::Fix,
+            Form::Undo,
+            Form::Redo,
+            Form::List,
+            Form::Count,
+            Form::Explain,
+            Form::Export,
+        ],
     }
 }
 
-fn question_form(word: &Text) -> Option<Form>
-    ensures { result ≡ question_form word.now }
+fn begins(form: Form, word: &Text) -> bool
+    ensures { result ≡ bytes_eq word.now (leading form) }
 {
-    if word.is("list") {
-        Some(Form::List)
-    } else if word.is("count") {
-        Some(Form::Count)
-    } else if word.is("explain") {
-        Some(Form::Explain)
-    } else if word.is("export") {
-        Some(Form::Export)
-    } else {
-        None
-    }
+    word.is(leading(form))
 }
 
-fn command_form(word: &Text) -> Option<Form>
-    ensures { result ≡ command_form word.now }
+fn named_among<'a>(forms: &'a [Form], word: &Text) -> Option<&'a Form>
+    ensures { option_copied result ≡ find (λ form. bytes_eq word.now (leading form)) forms.now }
 {
-    if word.is("insert") {
-        Some(Form::Insert)
-    } else if word.is("set") {
-        Some(Form::Set)
-    } else if word.is("delete") {
-        Some(Form::Delete)
-    } else if word.is("fix") {
-        Some(Form::Fix)
-    } else if word.is("undo") {
-        Some(Form::Undo)
-    } else if word.is("redo") {
-        Some(Form::Redo)
-    } else {
-        question_form(word)
-    }
-}
-
-fn or_member(member: &str, form: Form, word: &Text, other: Option<Form>) -> Option<Form>
-    ensures { result ≡ or_member member.now form word.now other }
-{
-    if word.is(member) { Some(form) } else { other }
+    forms.iter().find(|form| begins(**form, word))
 }
 
 /// The form of the lines with that first word at that place.
 pub fn form_named(place: Place, word: &Text) -> Option<Form>
     ensures { result ≡ form_named place word.now }
 {
-    match place {
-        Place::Schema => schema_form(word),
-        Place::BelowTable => or_member("attr", Form::Attr, word, schema_form(word)),
-        Place::Rules => rule_form(word),
-        Place::BelowCfd => or_member("row", Form::CfdRow, word, rule_form(word)),
-        Place::BelowCind => or_member("row", Form::CindRow, word, rule_form(word)),
-        Place::Script => command_form(word),
-    }
+    named_among(forms_at(place), word).copied()
 }
 
 /// With which words a line begins at that place.

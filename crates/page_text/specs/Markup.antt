@@ -1,9 +1,56 @@
--- The markup of a page, in one table.
-use Rattle.std.specs.Prelude.{ℕ, List, codes}
+-- The markup of a page, in three tables, each of which goes on where the one before it ends.
+use Rattle.std.specs.Prelude.{ℕ, List, [], codes}
 use Rattle.html_text.specs.Elements.{more_in}
 use Rattle.page_text.specs.declared.markup.Piece.{Piece}
 use Rattle.page_text.specs.declared.markup.Piece.TheVariants.{Head, StyleOpen, StyleClose, AsRead, AfterScript, Tables, Row, RowEnd, Rules, RulesEnd, DepLink, CindLink, LinkText, LinkEnd, Break, Bar, Slash, BarEnd, NoBar, DepSection, CindSection, Heading, HeadingEnd, Violations, Groups, Keys, CountsEnd, SectionEnd, GroupTable, CaptionEnd, MissingTable, Columns, TableEnd, FirstCell, Cell, CellEnd, LastCellEnd, WideCell, More, MoreEnd, MoreGroups, MoreGroupsEnd, Small, Dot, SmallEnd, Blank, Star, Colon, Arrow, Equals, SideOpen, SideMid, SideClose, In, MustBe, OneOf, NoneOf, Checks, NoChecks, ChecksOpen, Item, ItemEnd, ChecksClose, Foot}
 
+-- between the words and the numbers of a line
+unfoldable pub word_markup : Piece → List ℕ
+word_markup Small = codes "<small>"
+word_markup Dot = codes "."
+word_markup SmallEnd = codes "</small> "
+word_markup Blank = codes " "
+word_markup Star = codes "* "
+word_markup Colon = codes ": "
+word_markup Arrow = codes "&rarr; "
+word_markup Equals = codes "= "
+word_markup SideOpen = codes "[ "
+word_markup SideMid = codes "; "
+word_markup SideClose = codes "] "
+word_markup In = codes "in "
+word_markup MustBe = codes "must be "
+word_markup OneOf = codes "must be one of "
+word_markup NoneOf = codes "must be none of "
+word_markup other = []
+
+-- in a section, and what stands there too
+unfoldable pub section_markup : Piece → List ℕ
+section_markup DepSection = codes "<section id=\"d"
+section_markup CindSection = codes "<section id=\"c"
+section_markup Heading = codes "\"><h3>"
+section_markup HeadingEnd = codes "</h3>\n<p>"
+section_markup Violations = codes "</p>\n<p>Violations: "
+section_markup Groups = codes ". Groups: "
+section_markup Keys = codes ". Missing keys: "
+section_markup CountsEnd = codes ".</p>\n"
+section_markup SectionEnd = codes "</section>\n"
+section_markup GroupTable = codes "<table><caption>"
+section_markup CaptionEnd = codes "</caption><thead><tr><th>"
+section_markup MissingTable = codes "<table><thead><tr><th>"
+section_markup Columns = codes "</th><th class=\"n\">Rows</th><th>Row ids</th></tr></thead><tbody>\n"
+section_markup TableEnd = codes "</tbody></table>\n"
+section_markup FirstCell = codes "<tr><td>"
+section_markup Cell = codes "<td>"
+section_markup CellEnd = codes "</td>"
+section_markup LastCellEnd = codes "</td></tr>\n"
+section_markup WideCell = codes "<tr><td colspan=\"3\">"
+section_markup More = codes "<em>"
+section_markup MoreEnd = codes "</em>"
+section_markup MoreGroups = codes "<p>"
+section_markup MoreGroupsEnd = codes "</p>\n"
+section_markup other = word_markup other
+
+-- all of it
 unfoldable pub markup : Piece → List ℕ
 markup Head = codes "<!DOCTYPE html>\n<html lang=\"en\"><head><meta charset=\"utf-8\"><meta name=\"viewport\" content=\"width=device-width, initial-scale=1\"><title>"
 markup StyleOpen = codes "</title><style>\n"
@@ -24,44 +71,6 @@ markup Bar = codes "<td class=\"w\"><i style=\"width:calc(100%*"
 markup Slash = codes "/"
 markup BarEnd = codes ")\"></i></td></tr>\n"
 markup NoBar = codes "<td class=\"w\"></td></tr>\n"
-markup DepSection = codes "<section id=\"d"
-markup CindSection = codes "<section id=\"c"
-markup Heading = codes "\"><h3>"
-markup HeadingEnd = codes "</h3>\n<p>"
-markup Violations = codes "</p>\n<p>Violations: "
-markup Groups = codes ". Groups: "
-markup Keys = codes ". Missing keys: "
-markup CountsEnd = codes ".</p>\n"
-markup SectionEnd = codes "</section>\n"
-markup GroupTable = codes "<table><caption>"
-markup CaptionEnd = codes "</caption><thead><tr><th>"
-markup MissingTable = codes "<table><thead><tr><th>"
-markup Columns = codes "</th><th class=\"n\">Rows</th><th>Row ids</th></tr></thead><tbody>\n"
-markup TableEnd = codes "</tbody></table>\n"
-markup FirstCell = codes "<tr><td>"
-markup Cell = codes "<td>"
-markup CellEnd = codes "</td>"
-markup LastCellEnd = codes "</td></tr>\n"
-markup WideCell = codes "<tr><td colspan=\"3\">"
-markup More = codes "<em>"
-markup MoreEnd = codes "</em>"
-markup MoreGroups = codes "<p>"
-markup MoreGroupsEnd = codes "</p>\n"
-markup Small = codes "<small>"
-markup Dot = codes "."
-markup SmallEnd = codes "</small> "
-markup Blank = codes " "
-markup Star = codes "* "
-markup Colon = codes ": "
-markup Arrow = codes "&rarr; "
-markup Equals = codes "= "
-markup SideOpen = codes "[ "
-markup SideMid = codes "; "
-markup SideClose = codes "] "
-markup In = codes "in "
-markup MustBe = codes "must be "
-markup OneOf = codes "must be one of "
-markup NoneOf = codes "must be none of "
 markup Checks = codes "<h2>What check finds</h2>\n"
 markup NoChecks = codes "<p>Nothing.</p>\n"
 markup ChecksOpen = codes "<p><small>In the rules, and in the tables as they were read.</small></p>\n<ul>\n"
@@ -69,6 +78,7 @@ markup Item = codes "<li>"
 markup ItemEnd = codes "</li>\n"
 markup ChecksClose = codes "</ul>\n"
 markup Foot = codes "</body></html>\n"
+markup other = section_markup other
 
 -- how it looks, on a screen and on paper
 unfoldable pub style : List ℕ

@@ -1,6 +1,6 @@
-//! The markup of a page, in one table. All else in it are escaped texts and numbers.
+//! The markup of a page, in three tables. All else in it are escaped texts and numbers.
 ghost use Rattle.std.specs.Prelude.{◌≡◌, ◌++◌, OnOk};
-ghost use Rattle.page_text.specs.Markup.{markup, more_text, style};
+ghost use Rattle.page_text.specs.Markup.{markup, more_text, section_markup, style, word_markup};
 
 use html_text::push_more;
 use std::alloc::AllocError;
@@ -102,6 +102,23 @@ pub fn markup(piece: Piece) -> &'static [u8]
         Piece::Slash => b"/",
         Piece::BarEnd => b")\"></i></td></tr>\n",
         Piece::NoBar => b"<td class=\"w\"></td></tr>\n",
+        Piece::Checks => b"<h2>What check finds</h2>\n",
+        Piece::NoChecks => b"<p>Nothing.</p>\n",
+        Piece::ChecksOpen =>
+            b"<p><small>In the rules, and in the tables as they were read.</small></p>\n<ul>\n",
+        Piece::Item => b"<li>",
+        Piece::ItemEnd => b"</li>\n",
+        Piece::ChecksClose => b"</ul>\n",
+        Piece::Foot => b"</body></html>\n",
+        other => section_markup(other),
+    }
+}
+
+#[tactic(auto, unfolding(crate::specs::Markup::section_markup))]
+fn section_markup(piece: Piece) -> &'static [u8]
+    ensures { result.now ≡ section_markup piece }
+{
+    match piece {
         Piece::DepSection => b"<section id=\"d",
         Piece::CindSection => b"<section id=\"c",
         Piece::Heading => b"\"><h3>",
@@ -125,6 +142,15 @@ pub fn markup(piece: Piece) -> &'static [u8]
         Piece::MoreEnd => b"</em>",
         Piece::MoreGroups => b"<p>",
         Piece::MoreGroupsEnd => b"</p>\n",
+        other => word_markup(other),
+    }
+}
+
+#[tactic(auto, unfolding(crate::specs::Markup::word_markup))]
+fn word_markup(piece: Piece) -> &'static [u8]
+    ensures { result.now ≡ word_markup piece }
+{
+    match piece {
         Piece::Small => b"<small>",
         Piece::Dot => b".",
         Piece::SmallEnd => b"</small> ",
@@ -140,14 +166,7 @@ pub fn markup(piece: Piece) -> &'static [u8]
         Piece::MustBe => b"must be ",
         Piece::OneOf => b"must be one of ",
         Piece::NoneOf => b"must be none of ",
-        Piece::Checks => b"<h2>What check finds</h2>\n",
-        Piece::NoChecks => b"<p>Nothing.</p>\n",
-        Piece::ChecksOpen =>
-            b"<p><small>In the rules, and in the tables as they were read.</small></p>\n<ul>\n",
-        Piece::Item => b"<li>",
-        Piece::ItemEnd => b"</li>\n",
-        Piece::ChecksClose => b"</ul>\n",
-        Piece::Foot => b"</body></html>\n",
+        _ => b"",
     }
 }
 

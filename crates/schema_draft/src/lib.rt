@@ -4,7 +4,6 @@
 mod columns;
 mod draft;
 mod names;
-mod records;
 mod repeats;
 mod sheet;
 

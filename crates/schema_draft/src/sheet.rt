@@ -1,8 +1,6 @@
 //! A table file by itself: the table that its header names, and its rows as they stand.
 
-ghost use Rattle.std.specs.Prelude.{◌≡◌, ◌<◌, ◌≤◌, ℕ, List, [], IfOk, MatchOption, OnOk, Some, length, nat_lt, slice_get, slice_index_or, false, true};
-ghost use Rattle.std.specs.List.{list_any};
-ghost use Rattle.std.specs.Str.{is_utf8};
+ghost use Rattle.std.specs.Prelude.{◌≡◌, ◌≤◌, IfOk, OnOk, Some, slice_get};
 ghost use Rattle.csv.specs.Records.{fields_of};
 ghost use Rattle.csv_tables.specs.Faults.{IsFirstFault, table_tells};
 ghost use Rattle.csv_tables.specs.Records.{file_records};
@@ -11,12 +9,10 @@ ghost use Rattle.line_grammar.specs.Faults.{IsUnlessMemory};
 ghost use Rattle.text_lists.specs.Limits.{AreLimits};
 ghost use Rattle.schema_draft.specs.Sheets.{any_texts, record_count, sheet_of, text_record, texts_fault, unless_texts};
 
-use crate::records::FileRecords;
 use csv::ByteRecord;
-use csv_tables::TableFault;
+use csv_tables::{FileRecords, TableFault, field_text, has_longer_field};
 use schema_core::{Attr, Domain, Limits, List, Table, Text, Texts};
 use std::alloc::{AllocError, Global};
-use std::str;
 
 /// The table that a file would have, with an attribute for each column, and the rows of the file.
 #[derive(Drop)]
@@ -112,7 +108,7 @@ fn read_row(
         return Err(TableFault::Width { at });
     }
     let row = texts_of(alloc, at, fields)?;
-    if has_longer(row.as_slice(), limits.cell_bytes) {
+    if has_longer_field(fields, limits.cell_bytes) {
         return Err(TableFault::TextTooLong { at });
     }
     Ok(row)
@@ -160,47 +156,13 @@ fn texts_if(alloc: Global, fields: &ByteRecord) -> Result<Option<Texts>, AllocEr
     Ok(Some(texts))
 }
 
-/// Whether a text has more bytes than that.
-fn has_longer(texts: &[Text], most: u64) -> bool
-    ensures { result ≡ list_any (λ (t : List ℕ). nat_lt most (length t)) texts.now }
-{
-    for text in texts {
-        if text.as_str().len() as u64 > most {
-            return true;
-        }
-    }
-    false
-}
-
 /// The fields of the record of that number, if each is UTF-8.
 fn texts_of(alloc: Global, at: usize, fields: &ByteRecord) -> Result<Texts, TableFault>
     ensures fault { IsFirstFault (unless_texts at (fields_of fields.now)) result }
     ensures texts { IfOk result (λ texts. texts ≡ fields_of fields.now) }
 {
-    let mut texts = List::new(alloc);
-    for place in 0..fields.len() {
-        match field_text(fields, place) {
-            Some(text) => texts.push(Text::new(alloc, text)?)?,
-            None => return Err(TableFault::NotUtf8 { at }),
-        }
-    }
-    Ok(texts)
-}
-
-fn field_bytes(fields: &ByteRecord, place: usize) -> &[u8]
-    requires { place < length (fields_of fields.now) }
-    ensures { result.now ≡ slice_index_or (fields_of fields.now) place [] }
-{
-    fields.get(place).unwrap()
-}
-
-/// The field at the place, if it is UTF-8.
-fn field_text(fields: &ByteRecord, place: usize) -> Option<&str>
-    requires { place < length (fields_of fields.now) }
-    ensures { let field = slice_index_or (fields_of fields.now) place [] in MatchOption result (is_utf8 field ≡ false) (λ text. (text.now ≡ field) × (is_utf8 field ≡ true)) }
-{
-    match str::from_utf8(field_bytes(fields, place)) {
-        Ok(text) => Some(text),
-        Err(_) => None,
+    match texts_if(alloc, fields)? {
+        Some(texts) => Ok(texts),
+        None => Err(TableFault::NotUtf8 { at }),
     }
 }

@@ -1,8 +1,7 @@
-use Rattle.std.proofs.Common.{◌≡◌, true, false, [], ◌∷◌, ◌∙◌, sym, subst}
+use Rattle.std.proofs.Common.{◌≡◌, true, false, [], ◌∷◌, ◌∙◌, sym}
 use Rattle.dep_search.specs.Found.{determines, is_plain}
-use Rattle.dep_search.specs.Leaders.{Tells}
 use Rattle.dep_search.specs.Pairs.{is_apart}
-use Rattle.dep_search.proofs.Parted.{column_tells}
+use Rattle.dep_search.proofs.Parted.{lent_tells}
 use Rattle.dep_search.proofs.Agreed.{least_three, not_true, surely_determined}
 use Rattle.dep_search.proofs.ahead.is_surely_plain.Goals as goal
 
@@ -16,8 +15,7 @@ returns-clause-plain c = λ e.
     let two = c.args.parts.now.front.now.other in
     let three = c.args.parts.now.back.now.other in
     let known = c.if-not-are_apart.false in
-    let column = column_tells rows table.columns.now a c.index-table-a.result c.requires.table.columns c.requires.a c.index-table-a.is in
-    let tells = subst (Tells rows (a ∷ [])) (c.index-table-a.is ∙ sym c.as_slice.ensures) column in
+    let tells = lent_tells rows table.columns.now a c.index-table-a.result c.as_slice.result.now c.requires.table.columns c.requires.a c.index-table-a.is c.as_slice.ensures in
     let together : is_apart c.as_slice.result.now c.args.rest.now ≡ false = sym c.is_apart.ensures ∙ not_true c.is_apart.result e in
     let all : determines rows c.args.x.now a ≡ true = surely_determined rows c.args.x.now a c.as_slice.result.now c.args.rest.now tells c.requires.all together in
     let all_three : determines rows (one ∷ two ∷ three ∷ []) a ≡ true = sym (λ i. determines rows (p.attrs i) a) ∙ all in

@@ -1,9 +1,8 @@
 use Rattle.std.proofs.Common.{[], ◌∷◌, length, refl, ◌∙◌, sym, ap, subst}
 use Rattle.std.specs.Prelude.{All}
-use Rattle.dep_search.specs.Leaders.{Tells}
 use Rattle.dep_search.specs.Pairs.{HasAll, IsBelow, same_of}
 use Rattle.dep_search.proofs.Listed.{if_ok}
-use Rattle.dep_search.proofs.Parted.{column_tells}
+use Rattle.dep_search.proofs.Parted.{lent_tells}
 use Rattle.dep_search.proofs.Agreed.{pairs_below, same_below, same_has_all}
 use Rattle.dep_search.proofs.ahead.rest_by.Goals as goal
 
@@ -23,8 +22,7 @@ returns-clause-all c =
     let sample = c.args.sample.now in
     let attr = c.args.attr in
     let ids = c.as_slice-2.result.now in
-    let column = column_tells rows table.columns.now attr c.index-table-attr.result c.requires.table.columns c.requires.attr c.index-table-attr.is in
-    let tells = subst (Tells rows (attr ∷ [])) (c.index-table-attr.is ∙ sym c.as_slice-2.ensures) column in
+    let tells = lent_tells rows table.columns.now attr c.index-table-attr.result c.as_slice-2.result.now c.requires.table.columns c.requires.attr c.index-table-attr.is c.as_slice-2.ensures in
     let all = same_has_all rows (sample.one ∷ sample.other ∷ []) attr ids sample.list tells (c.requires.sample.whole c.requires.whole) in
     if_ok c.same_pairs.result (λ list e.
     subst (HasAll rows (sample.one ∷ sample.other ∷ attr ∷ [])) (sym (e ∙ ap (same_of ids) c.as_slice.ensures)) all) c.same_pairs.ensures

@@ -2,9 +2,8 @@ use Rattle.std.proofs.Common.{◌≡◌, true, false, [], ◌∷◌, ◌∙◌, 
 use Rattle.std.specs.Prelude.{All}
 use Rattle.std.proofs.lemmas.Bool.{cases_Bool}
 use Rattle.std.proofs.lemmas.List.Elements.{All-nil}
-use Rattle.dep_search.specs.Leaders.{Tells}
 use Rattle.dep_search.specs.Pairs.{HasAll, IsPair, same_of}
-use Rattle.dep_search.proofs.Parted.{column_tells}
+use Rattle.dep_search.proofs.Parted.{lent_tells}
 use Rattle.dep_search.proofs.Agreed.{same_has_all, same_pairs_agree}
 use Rattle.dep_search.proofs.samples.sample_by.Goals as goal
 
@@ -15,8 +14,7 @@ all_apart-requires-clause-pairs c =
     let from = c.args.from.now in
     let by = c.args.by in
     let ids = c.as_slice-2.result.now in
-    let column = column_tells rows table.columns.now by c.index-table-by.result c.requires.table.columns c.requires.by c.index-table-by.is in
-    let tells = subst (Tells rows (by ∷ [])) (c.index-table-by.is ∙ sym c.as_slice-2.ensures) column in
+    let tells = lent_tells rows table.columns.now by c.index-table-by.result c.as_slice-2.result.now c.requires.table.columns c.requires.by c.index-table-by.is c.as_slice-2.ensures in
     let list = c.as_slice-3.ensures ∙ c.in_ok-list.ensures ∙ ap (same_of ids) c.as_slice.ensures in
     subst (All (IsPair rows (from.attr ∷ by ∷ []))) (sym list) (same_pairs_agree rows (from.attr ∷ []) by ids from.list tells c.requires.from.each)
 
@@ -27,8 +25,7 @@ returns c =
     let from = c.args.from.now in
     let by = c.args.by in
     let ids = c.as_slice-2.result.now in
-    let column = column_tells rows table.columns.now by c.index-table-by.result c.requires.table.columns c.requires.by c.index-table-by.is in
-    let tells = subst (Tells rows (by ∷ [])) (c.index-table-by.is ∙ sym c.as_slice-2.ensures) column in
+    let tells = lent_tells rows table.columns.now by c.index-table-by.result c.as_slice-2.result.now c.requires.table.columns c.requires.by c.index-table-by.is c.as_slice-2.ensures in
     let list : c.in_ok-list.list ≡ same_of ids from.list = c.in_ok-list.ensures ∙ ap (same_of ids) c.as_slice.ensures in
     record {
       each =
