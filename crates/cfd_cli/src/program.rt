@@ -47,7 +47,8 @@ pub fn run_with<S: Shelf, O: Sink>(
     // Words without a form are answered by the usage line.
     ensures usage { (HasForm words.now → ⊥) → (result ≡ Status.Usage) ⊎ (result ≡ Status.WriteFault) }
 
-    // Nothing is fetched that isn't asked for, and a fault is told only where a device counted one.
+    // Nothing is fetched that isn't asked for, a file that isn't there is asked for only where it is refused as absent, and
+    // a fault is told only where a device counted one.
     ensures devices { UsesDevices limits (task_of limits words.now) result (S.told shelf.old) (S.told shelf.new) (O.told out.old) (O.told out.new) }
 
     // Where nothing is to be fetched, as for `generate`, no failed fetch is told.

@@ -41,7 +41,8 @@ pub fn run_with<S: Shelf, O: Sink>(
     // What was appended is an output of what the words ask for, or a front of one, by how the call ended.
     ensures written { Writes (Output limits (task_of limits words.now) (S.told shelf.old).holding) result (O.told out.old).written (O.told out.new).written }
 
-    // Nothing is fetched that isn't asked for, and a fault is told only where a device counted one.
+    // Nothing is fetched that isn't asked for, a file that isn't there is asked for only where it is refused as absent, and
+    // a fault is told only where a device counted one.
     ensures devices { UsesDevices limits (task_of limits words.now) result (S.told shelf.old) (S.told shelf.new) (O.told out.old) (O.told out.new) }
 {
     run_with_keys(alloc, HashKeys::fixed(), words, shelf, out, limits)

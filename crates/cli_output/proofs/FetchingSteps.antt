@@ -6,7 +6,7 @@ use Rattle.shelf_io.specs.Shelf.{ShelfTold}
 use Rattle.cli_output.specs.declared.fetching.Stop.{Stop}
 use Rattle.cli_output.specs.declared.fetching.Stop.TheVariants.{Refused, ReadFault, Memory}
 use Rattle.cli_output.proofs.Faults.{Rose-from, same_fault}
-use Rattle.cli_output.specs.Fetching.{Fetches, Fetching, OrRefusal, Outcome, Reads, ◌>>=◌, followed, given, refusal_in}
+use Rattle.cli_output.specs.Fetching.{Fetches, Fetching, NoneIsAbsent, OrRefusal, Outcome, Reads, ◌>>=◌, followed, given, refusal_in}
 
 -- ---- no step
 
@@ -16,6 +16,7 @@ fetches-given {X} {Y} found view result shelf left reads = record {
   gives = λ files is. reads.gives;
   told_left = λ files is. still result;
   told_fetches = λ files is. omega arith;
+  absences = λ files is none. refl;
   fetches = omega arith;
   read_fault = λ fault. absurd (reads.no_fault fault);
   calls = omega arith;
@@ -38,12 +39,18 @@ at_least : {X Y : Type 0} (found : OrRefusal X) (fetches left : ℕ) (further : 
 at_least (Ok x) fetches left further = omega arith
 at_least (Err refusal) fetches left further = omega arith
 
+-- where no file is refused as absent in the end, none was in the first step
+pub none_in_first : {X Y : Type 0} (found : OrRefusal X) (fetches left : ℕ) (further : X → ℕ → Outcome Y) → NoneIsAbsent (followed fetches left found further).found → NoneIsAbsent found
+none_in_first (Ok x) fetches left further none = tt
+none_in_first (Err refusal) fetches left further none = none
+
 pub fetches-stopped : {X Y Z W : Type 0} (first : Fetching X) (further : X → Fetching Y) (view : W → X) (last : Z → Y) (some more : ℕ) (stop : Stop) (result : Result Z Stop) (before after : ShelfTold) (left still_left : ℕ) → result ≡ Err stop
     → Fetches first view some (Err stop) before after left still_left → Fetches (first >>= further) last (some + more) result before after left still_left
 fetches-stopped {X} {Y} {Z} {W} first further view last some more stop result before after left still_left is step = subst (λ r. Fetches (first >>= further) last (some + more) r before after left still_left) (sym is) (record {
   gives = λ files told. stops (first files left).found (first files left).fetches (first files left).left (λ x. further x files) stop (step.gives files told);
   told_left = λ files told. tt;
   told_fetches = λ files told. omega (arith, step.told_fetches files told, at_least (first files left).found (first files left).fetches (first files left).left (λ x. further x files));
+  absences = λ files told none. step.absences files told (none_in_first (first files left).found (first files left).fetches (first files left).left (λ x. further x files) none);
   fetches = omega (arith, step.fetches);
   read_fault = λ fault. step.read_fault (same_fault Z W stop fault);
   calls = step.calls;
@@ -53,12 +60,19 @@ fetches-stopped {X} {Y} {Z} {W} first further view last some more stop result be
 
 -- ---- one step after the other
 
+-- where all was read, no absence was counted
+pub none_absent : {X Y : Type 0} (fetching : Fetching Y) (view : X → Y) (most : ℕ) (x : X) (before after : ShelfTold) (left still_left : ℕ) → Fetches fetching view most (Ok x) before after left still_left → (files : Files) → before.holding ≡ Some files → after.absences ≡ before.absences
+none_absent fetching view most x before after left still_left step files told = step.absences files told (subst (λ f. NoneIsAbsent f) (sym (step.gives files told)) tt)
+
 pub fetches-next : {X Y Z W : Type 0} (first : Fetching X) (further : X → Fetching Y) (view : W → X) (last : Z → Y) (some more : ℕ) (w : W) (result : Result Z Stop) (before between after : ShelfTold) (left middle still_left : ℕ)
     → Fetches first view some (Ok w) before between left middle → Fetches (further (view w)) last more result between after middle still_left → Fetches (first >>= further) last (some + more) result before after left still_left
 fetches-next first further view last some more w result before between after left middle still_left one two = record {
   gives = λ files told. subst (λ o. GivesUnlessMemory refusal_in o.found last result) (sym (joined files told)) (two.gives files (one.holding ∙ told));
   told_left = λ files told. subst (λ o. IfOk result (λ x. o.left ≡ still_left)) (sym (joined files told)) (two.told_left files (one.holding ∙ told));
   told_fetches = λ files told. omega (arith, one.told_fetches files told, two.told_fetches files (one.holding ∙ told), ap (λ o. o.fetches) (joined files told));
+  absences = λ files told none.
+      two.absences files (one.holding ∙ told) (subst (λ o. NoneIsAbsent o.found) (joined files told) none)
+      ∙ one.absences files told (none_in_first (first files left).found (first files left).fetches (first files left).left (λ x. further x files) none);
   fetches = omega (arith, one.fetches, two.fetches);
   read_fault = λ fault. Rose-from _ _ _ (two.read_fault fault) one.faults;
   calls = omega (arith, one.calls, two.calls);

@@ -1,3 +1,4 @@
+pub mod EachLoop
 pub mod Faults
 pub mod FetchingSteps
 pub mod Outputs

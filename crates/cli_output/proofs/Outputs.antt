@@ -61,6 +61,7 @@ pub uses-stopped : {X : Type 0} (limits : Limits) (task : Task) (view : X → ta
 uses-stopped limits task view (stop.Refused refusal) status shelf shelf_after sink sink_after left some f ends = record {
   fetches = f.fetches;
   told_fetches = f.told_fetches;
+  absences = f.absences;
   no_fetch = λ none. absurd (omega (arith, some, none));
   read_fault = λ is. absurd (ends.no_read_fault is);
   write_fault = ends.write_fault;
@@ -68,6 +69,7 @@ uses-stopped limits task view (stop.Refused refusal) status shelf shelf_after si
 uses-stopped limits task view stop.ReadFault status shelf shelf_after sink sink_after left some f ends = record {
   fetches = f.fetches;
   told_fetches = f.told_fetches;
+  absences = f.absences;
   no_fetch = λ none. absurd (omega (arith, some, none));
   read_fault = λ is. f.read_fault tt;
   write_fault = λ is. let other : ReadFault ≡ WriteFault = sym ends.0 ∙ is in absurd (cc);
@@ -75,6 +77,7 @@ uses-stopped limits task view stop.ReadFault status shelf shelf_after sink sink_
 uses-stopped limits task view stop.Memory status shelf shelf_after sink sink_after left some f ends = record {
   fetches = f.fetches;
   told_fetches = f.told_fetches;
+  absences = f.absences;
   no_fetch = λ none. absurd (omega (arith, some, none));
   read_fault = λ is. let other : Memory ≡ ReadFault = sym ends.0 ∙ is in absurd (cc);
   write_fault = λ is. let other : Memory ≡ WriteFault = sym ends.0 ∙ is in absurd (cc);

@@ -1,5 +1,5 @@
 -- Files that are fetched and read one after the other: a value, or the first refusal.
-use Rattle.std.specs.Prelude.{◌≡◌, ℕ, ◌+◌, ◌-◌, ◌≤◌, List, length, min, nat_lt, if◌then◌else◌, Option, None, Some, Result, Ok, Err, IfOk}
+use Rattle.std.specs.Prelude.{◌≡◌, ◌≢◌, ℕ, ◌+◌, ◌-◌, ◌≤◌, List, length, min, nat_lt, if◌then◌else◌, Option, None, Some, Result, Ok, Err, IfOk}
 use Rattle.shelf_io.specs.Files.{Files, file_at}
 use Rattle.shelf_io.specs.Rising.{Rose}
 use Rattle.shelf_io.specs.Shelf.{ShelfTold}
@@ -21,6 +21,11 @@ OrRefusal X = Result X Refusal
 abbrev pub about : {X : Type 0} → List ℕ → Result X Cause → OrRefusal X
 about what (Ok x) = Ok x
 about what (Err cause) = Err (record { what = what; cause = cause })
+
+-- no file is refused since it isn't there
+abbrev pub NoneIsAbsent : {X : Type 0} → OrRefusal X → Type 0
+NoneIsAbsent (Ok x) = Unit {0}
+NoneIsAbsent (Err refusal) = refusal.cause ≢ Absent
 
 -- what fetching came to, how many fetches it took, and how many bytes the files after it may have together
 pub record Outcome (X : Type 0) : Type 0 where
@@ -87,6 +92,8 @@ pub record Fetches {X Y : Type 0} (fetching : Fetching Y) (view : X → Y) (most
   -- and so are the bytes that are left and the number of fetches.
   pub told_left : (files : Files) → before.holding ≡ Some files → IfOk result (λ x. (fetching files left).left ≡ still_left)
   pub told_fetches : (files : Files) → before.holding ≡ Some files → after.calls ≤ before.calls + (fetching files left).fetches
+  -- An absence is counted only where a file is refused as absent.
+  pub absences : (files : Files) → before.holding ≡ Some files → NoneIsAbsent (fetching files left).found → after.absences ≡ before.absences
   pub fetches : after.calls ≤ before.calls + most
   -- A failed fetch is told only where the shelf counted one.
   pub read_fault : IsReadFault result → Rose before.faults after.faults

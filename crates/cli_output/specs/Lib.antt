@@ -1,3 +1,4 @@
+pub mod Each
 pub mod Fetching
 pub mod Output
 pub mod Refusals

@@ -9,7 +9,7 @@ use Rattle.cli_output.specs.declared.status.Status.{Status}
 use Rattle.cli_output.specs.declared.status.Status.TheVariants.{Refused, ReadFault, WriteFault, Memory}
 use Rattle.cli_output.specs.declared.fetching.Stop.{Stop}
 use Rattle.cli_output.specs.declared.fetching.Stop.TheVariants as stop
-use Rattle.cli_output.specs.Fetching.{Fetching, OrRefusal}
+use Rattle.cli_output.specs.Fetching.{Fetching, NoneIsAbsent, OrRefusal}
 use Rattle.cli_output.specs.Refusals.{refusal_line}
 
 -- texts, each with the status that goes with it
@@ -83,7 +83,9 @@ pub record UsesDevices (limits : Limits) (task : Task) (status : Status) (shelf 
   -- No more is fetched than the task asks for,
   pub fetches : shelf_after.calls ≤ shelf.calls + task.most_fetches
   pub told_fetches : (files : Files) → shelf.holding ≡ Some files → shelf_after.calls ≤ shelf.calls + (task.fetching files limits.all_bytes).fetches
-  -- and nothing, where it asks for nothing.
+  -- and an absence is counted only where the file is refused as absent: then one line says so.
+  pub absences : (files : Files) → shelf.holding ≡ Some files → NoneIsAbsent (task.fetching files limits.all_bytes).found → shelf_after.absences ≡ shelf.absences
+  -- Nothing is fetched, where it asks for nothing.
   pub no_fetch : task.most_fetches ≡ 0 → shelf_after.calls ≡ shelf.calls
   -- A fault is told only where the device counted one.
   pub read_fault : status ≡ ReadFault → Rose shelf.faults shelf_after.faults

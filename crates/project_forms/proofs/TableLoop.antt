@@ -1,120 +1,14 @@
 -- The tables' files, fetched one after the other.
-use Rattle.std.proofs.Common.{◌≡◌, ℕ, ◌+◌, ◌<◌, ◌≤◌, List, [], ◌∷◌, ◌++◌, length, take, drop, get_or, Some, Ok, Err, IfSome, refl, append_assoc, ap, sym, subst, ◌∙◌, arith}
+use Rattle.std.proofs.Common.{◌≡◌, ℕ, ◌+◌, ◌<◌, List, [], ◌∷◌, ◌++◌, length, take, get_or, ap, sym, subst, ◌∙◌}
 use Rattle.std.specs.List.{All, AllZip}
-use Rattle.std.proofs.lemmas.List.{at_drop_more, at_drop_all, append-nil, take_more}
+use Rattle.std.proofs.lemmas.List.{take_more}
 use Rattle.schema_core.specs.Rows.{IsRowOf}
 use Rattle.text_lists.specs.declared.limits.Limits.{Limits}
 use Rattle.schema_core.specs.declared.schema.Table.{Table}
-use Rattle.shelf_io.specs.Files.{Files}
 use Rattle.shelf_io.specs.Shelf.{ShelfTold}
-use Rattle.cli_output.specs.declared.fetching.Stop.{Stop}
-use Rattle.cli_output.specs.declared.fetching.Stop.TheVariants.{Refused, ReadFault, Memory}
-use Rattle.cli_output.specs.Fetching.{Fetching, OrRefusal, Outcome, ◌>>=◌, followed, given, refusal_in}
 use Rattle.bench_core.specs.Loading.{Tuples}
 use Rattle.cli_output.specs.TableFiles.{fetch_table}
-use Rattle.project_forms.specs.Project.{fetch_tables}
-
--- ---- the tables that are left, behind those that were fetched
-
-abbrev with_before : List Tuples → OrRefusal (List Tuples) → OrRefusal (List Tuples)
-with_before before (Ok others) = Ok (before ++ others)
-with_before before (Err refusal) = Err refusal
-
--- what all tables come to, where these were fetched before, in so many fetches
-abbrev behind : List Tuples → ℕ → Outcome (List Tuples) → Outcome (List Tuples)
-behind before fetches outcome = record { found = with_before before outcome.found; fetches = fetches + outcome.fetches; left = outcome.left }
-
--- what is left of all tables
-abbrev pub GoesOn : Limits → Files → List Table → ℕ → ℕ → List Tuples → ℕ → ℕ → Type 0
-GoesOn limits files tables room place before fetches left = behind before fetches (fetch_tables limits (drop place tables) files left) ≡ fetch_tables limits tables files room
-
-abbrev outcome_of : {X : Type 0} → OrRefusal X → ℕ → ℕ → Outcome X
-outcome_of found fetches left = record { found = found; fetches = fetches; left = left }
-
-same_outcome : {X : Type 0} {f g : OrRefusal X} {m n k l : ℕ} → f ≡ g → m ≡ n → k ≡ l → outcome_of f m k ≡ outcome_of g n l
-same_outcome f m k = λ i. outcome_of (f i) (m i) (k i)
-
--- before the first table
-pub goes_on-none : (limits : Limits) (files : Files) (tables : List Table) (room : ℕ) → GoesOn limits files tables room 0 [] 0 room
-goes_on-none limits files tables room = go (fetch_tables limits tables files room)
-  where
-    go : (o : Outcome (List Tuples)) → behind [] 0 o ≡ o
-    go o = same_outcome (found o.found) (omega arith) refl
-      where
-        found : (f : OrRefusal (List Tuples)) → with_before [] f ≡ f
-        found (Ok others) = refl
-        found (Err refusal) = refl
-
--- one more table, which was fetched
-next_outcome : (before : List Tuples) (fetches more still : ℕ) (rows : Tuples) (others : Fetching (List Tuples)) (files : Files) → behind before fetches (followed more still (Ok rows) (λ r. (others >>= λ rest. given (Ok (r ∷ rest))) files)) ≡ behind (before ++ rows ∷ []) (fetches + more) (others files still)
-next_outcome before fetches more still rows others files = go (others files still)
-  where
-    go : (o : Outcome (List Tuples)) → behind before fetches (record (followed o.fetches o.left o.found (λ rest left. outcome_of (Ok (rows ∷ rest)) 0 left)) { fetches = more + (followed o.fetches o.left o.found (λ rest left. outcome_of (Ok (rows ∷ rest)) 0 left)).fetches }) ≡ behind (before ++ rows ∷ []) (fetches + more) o
-    go o = by o.found
-      where
-        by : (f : OrRefusal (List Tuples)) → behind before fetches (record (followed o.fetches o.left f (λ rest left. outcome_of (Ok (rows ∷ rest)) 0 left)) { fetches = more + (followed o.fetches o.left f (λ rest left. outcome_of (Ok (rows ∷ rest)) 0 left)).fetches }) ≡ behind (before ++ rows ∷ []) (fetches + more) (record o { found = f })
-        by (Ok rest) = same_outcome (ap Ok (sym (append_assoc before (rows ∷ []) rest))) (omega arith) refl
-        by (Err refusal) = same_outcome refl (omega arith) refl
-
-pub goes_on-more : (limits : Limits) (files : Files) (tables : List Table) (room place : ℕ) (before : List Tuples) (fetches left : ℕ) (table : Table) (rows : Tuples) (still : ℕ) → place < length tables → table ≡ get_or tables place table → GoesOn limits files tables room place before fetches left
-    → (fetch_table limits table files left).found ≡ Ok rows → (fetch_table limits table files left).left ≡ still → GoesOn limits files tables room (place + 1) (before ++ rows ∷ []) (fetches + (fetch_table limits table files left).fetches) still
-goes_on-more limits files tables room place before fetches left table rows still within is so_far found kept =
-    let more = (fetch_table limits table files left).fetches in
-    let rest = fetch_tables limits (drop (place + 1) tables) in
-    sym (next_outcome before fetches more still rows rest files)
-    ∙ sym (ap (λ f. behind before fetches (followed more (fetch_table limits table files left).left f (λ r. (rest >>= λ others. given (Ok (r ∷ others))) files))) found
-    ∙ ap (λ l. behind before fetches (followed more l (Ok rows) (λ r. (rest >>= λ others. given (Ok (r ∷ others))) files))) kept)
-    ∙ sym (ap (λ t. behind before fetches (fetch_tables limits (t ∷ drop (place + 1) tables) files left)) (sym is))
-    ∙ sym (at_drop_more (λ others. behind before fetches (fetch_tables limits others files left)) tables place table within)
-    ∙ so_far
-
--- the next table takes as many fetches as it takes, and where it is refused, all of them are
-next_fetches : (limits : Limits) (files : Files) (tables : List Table) (room place : ℕ) (before : List Tuples) (fetches left : ℕ) (table : Table) → place < length tables → table ≡ get_or tables place table → GoesOn limits files tables room place before fetches left
-    → behind before fetches (fetch_tables limits (table ∷ drop (place + 1) tables) files left) ≡ fetch_tables limits tables files room
-next_fetches limits files tables room place before fetches left table within is so_far =
-    ap (λ t. behind before fetches (fetch_tables limits (t ∷ drop (place + 1) tables) files left)) is
-    ∙ sym (at_drop_more (λ others. behind before fetches (fetch_tables limits others files left)) tables place table within)
-    ∙ so_far
-
-some_fetches : {X Y : Type 0} (found : OrRefusal X) (fetches left : ℕ) (further : X → ℕ → Outcome Y) → fetches ≤ (followed fetches left found further).fetches
-some_fetches (Ok x) fetches left further = omega arith
-some_fetches (Err refusal) fetches left further = omega arith
-
-pub goes_on-fetches : (limits : Limits) (files : Files) (tables : List Table) (room place : ℕ) (before : List Tuples) (fetches left : ℕ) (table : Table) → place < length tables → table ≡ get_or tables place table → GoesOn limits files tables room place before fetches left
-    → fetches + (fetch_table limits table files left).fetches ≤ (fetch_tables limits tables files room).fetches
-goes_on-fetches limits files tables room place before fetches left table within is so_far =
-    let this = fetch_table limits table files left in
-    omega (
-      arith,
-      ap (λ o. o.fetches) (next_fetches limits files tables room place before fetches left table within is so_far),
-      some_fetches this.found this.fetches this.left (λ r. (fetch_tables limits (drop (place + 1) tables) >>= λ others. given (Ok (r ∷ others))) files),
-    )
-
-pub goes_on-refused : (limits : Limits) (files : Files) (tables : List Table) (room place : ℕ) (before : List Tuples) (fetches left : ℕ) (table : Table) (stop : Stop) → place < length tables → table ≡ get_or tables place table → GoesOn limits files tables room place before fetches left
-    → IfSome (refusal_in stop) (λ refusal. (fetch_table limits table files left).found ≡ Err refusal) → IfSome (refusal_in stop) (λ refusal. (fetch_tables limits tables files room).found ≡ Err refusal)
-goes_on-refused limits files tables room place before fetches left table (Refused refusal) within is so_far this =
-    sym (ap (λ o. o.found) (next_fetches limits files tables room place before fetches left table within is so_far))
-    ∙ ap (λ f. with_before before (followed (fetch_table limits table files left).fetches (fetch_table limits table files left).left f (λ r. (fetch_tables limits (drop (place + 1) tables) >>= λ others. given (Ok (r ∷ others))) files)).found) this
-goes_on-refused limits files tables room place before fetches left table ReadFault within is so_far this = tt
-goes_on-refused limits files tables room place before fetches left table Memory within is so_far this = tt
-
--- past the last table
-pub goes_on-all : (limits : Limits) (files : Files) (tables : List Table) (room place : ℕ) (before : List Tuples) (fetches left : ℕ) → length tables ≤ place → GoesOn limits files tables room place before fetches left → outcome_of (Ok before) fetches left ≡ fetch_tables limits tables files room
-goes_on-all limits files tables room place before fetches left past so_far =
-    same_outcome (ap Ok (sym (append-nil before))) (omega arith) refl
-    ∙ sym (at_drop_all (λ others. behind before fetches (fetch_tables limits others files left)) tables place past)
-    ∙ so_far
-
-pub all_found : (limits : Limits) (files : Files) (tables : List Table) (room place : ℕ) (before : List Tuples) (fetches left : ℕ) → length tables ≤ place → GoesOn limits files tables room place before fetches left → (fetch_tables limits tables files room).found ≡ Ok before
-all_found limits files tables room place before fetches left past so_far = sym (ap (λ o. o.found) (goes_on-all limits files tables room place before fetches left past so_far))
-
-pub all_left : (limits : Limits) (files : Files) (tables : List Table) (room place : ℕ) (before : List Tuples) (fetches left : ℕ) → length tables ≤ place → GoesOn limits files tables room place before fetches left → (fetch_tables limits tables files room).left ≡ left
-all_left limits files tables room place before fetches left past so_far = sym (ap (λ o. o.left) (goes_on-all limits files tables room place before fetches left past so_far))
-
-pub all_fetches : (limits : Limits) (files : Files) (tables : List Table) (room place : ℕ) (before : List Tuples) (fetches left : ℕ) → length tables ≤ place → GoesOn limits files tables room place before fetches left → (fetch_tables limits tables files room).fetches ≡ fetches
-all_fetches limits files tables room place before fetches left past so_far = sym (ap (λ o. o.fetches) (goes_on-all limits files tables room place before fetches left past so_far))
-
--- ---- the loop
+use Rattle.cli_output.proofs.EachLoop as each
 
 -- what a row of rows has that belongs to a table
 abbrev pub AreRowsOf : Limits → Table → Tuples → Type 0
@@ -122,12 +16,8 @@ AreRowsOf limits table rows = All (IsRowOf table.attrs limits.cell_bytes) rows
 
 -- a fetch for each table so far, and what came of them
 pub record IsUnderWay (limits : Limits) (tables : List Table) (place : ℕ) (all : List Tuples) (before after : ShelfTold) (room left : ℕ) : Type 0 where
-  pub told : (files : Files) → before.holding ≡ Some files → (fetches : ℕ) × GoesOn limits files tables room place all fetches left × (after.calls ≤ before.calls + fetches)
+  pub fetched : each.IsUnderWay (fetch_table limits) tables place all before after room left
   pub valid : AllZip (AreRowsOf limits) (take place tables) all
-  pub fetches : after.calls ≤ before.calls + place
-  pub calls : before.calls ≤ after.calls
-  pub faults : before.faults ≤ after.faults
-  pub holding : after.holding ≡ before.holding
 
 -- pairs that meet a fact, with one more at the end
 AllZip-snoc : {A B : Type 0} (R : A → B → Type 0) (xs : List A) (ys : List B) (x : A) (y : B) → AllZip R xs ys → R x y → AllZip R (xs ++ x ∷ []) (ys ++ y ∷ [])

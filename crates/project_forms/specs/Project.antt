@@ -1,5 +1,5 @@
 -- A project: its schema, its rules, its tables and its script, in the order in which they are fetched and read.
-use Rattle.std.specs.Prelude.{ℕ, List, [], ◌∷◌, Option, None, Some, Result, Ok, Err, slice_get}
+use Rattle.std.specs.Prelude.{ℕ, List, [], Option, None, Some, Result, Ok, Err, slice_get}
 use Rattle.std.specs.Option.{option_map_or}
 use Rattle.text_lists.specs.declared.limits.Limits.{Limits}
 use Rattle.schema_core.specs.declared.schema.Schema.{Schema}
@@ -20,6 +20,7 @@ use Rattle.cli_output.specs.declared.refusal.Cause.{Cause}
 use Rattle.cli_output.specs.declared.refusal.Cause.TheVariants as cause
 use Rattle.cli_output.specs.declared.refusal.LineFlaw.{LineFlaw}
 use Rattle.cli_output.specs.declared.refusal.LineFlaw.TheVariants as flaw
+use Rattle.cli_output.specs.Each.{fetch_each}
 use Rattle.cli_output.specs.Fetching.{Fetching, OrRefusal, ◌>>=◌, about, file, given}
 use Rattle.cli_output.specs.RuleFiles.{fetch_rules, fetch_schema, spelled}
 use Rattle.cli_output.specs.TableFiles.{fetch_table}
@@ -70,8 +71,7 @@ bench_of rules limits (Err table) = Err (record { what = file_of rules.schema ta
 
 -- the rows of each table, one table after the other
 abbrev pub fetch_tables : Limits → List Table → Fetching (List Tuples)
-fetch_tables limits [] = given (Ok [])
-fetch_tables limits (table ∷ tables) = fetch_table limits table >>= λ rows. fetch_tables limits tables >>= λ others. given (Ok (rows ∷ others))
+fetch_tables limits = fetch_each (fetch_table limits)
 
 -- all tables, with their rules
 unfoldable pub fetch_bench : Limits → Book → Fetching Tables

@@ -14,3 +14,4 @@ pub use generate_form::generate_project;
 pub use project::{Project, after_script, fetch_project};
 pub use report_form::report_project;
 pub use run_form::run_project;
+pub use tables::fetch_tables;

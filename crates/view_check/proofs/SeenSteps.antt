@@ -1,21 +1,23 @@
 -- A project that was read, or was refused and looked at once more.
-use Rattle.std.proofs.Common.{◌≡◌, ℕ, ◌+◌, ◌≤◌, Bool, true, false, List, Option, Some, None, Result, Ok, Err, IfSome, refl, ap, sym, subst, ◌∙◌, arith}
+use Rattle.std.proofs.Common.{◌≡◌, ◌≢◌, ℕ, ◌+◌, ◌≤◌, Bool, true, false, if◌then◌else◌, List, Option, Some, None, Result, Ok, Err, IfOk, refl, ap, sym, subst, ◌∙◌, arith}
+use Rattle.std.specs.Option.{option_map}
 use Rattle.text_lists.specs.declared.limits.Limits.{Limits}
+use Rattle.line_grammar.specs.Faults.{GivesUnlessMemory}
 use Rattle.shelf_io.specs.Files.{Files}
 use Rattle.shelf_io.specs.Shelf.{ShelfTold}
-use Rattle.bench_core.specs.Loading.{Tuples}
 use Rattle.cli_output.specs.declared.fetching.Stop.{Stop}
 use Rattle.cli_output.specs.declared.fetching.Stop.TheVariants.{Refused, ReadFault, Memory}
+use Rattle.cli_output.specs.declared.refusal.Cause.{Cause}
+use Rattle.cli_output.specs.declared.refusal.Cause.TheVariants.{Absent}
 use Rattle.cli_output.specs.declared.refusal.Refusal.{Refusal}
-use Rattle.cli_output.specs.Fetching.{Fetches, Fetching, OrRefusal, Outcome, refusal_in}
+use Rattle.cli_output.specs.Fetching.{Fetches, Fetching, IsReadFault, NoneIsAbsent, OrRefusal, Outcome, refusal_in}
 use Rattle.cli_output.proofs.Faults.{Rose-from, same_fault}
-use Rattle.schema_core.specs.declared.schema.Schema.{Schema}
+use Rattle.cli_output.proofs.FetchingSteps.{none_absent}
 use Rattle.project_forms.specs.Project.{ProjectRead, fetch_project, read_of}
 use Rattle.project_forms.specs.declared.project.Project.{Project}
-use Rattle.view_check.specs.Seen.{Finds, SeenRead, again, all_if, anew, fetch_seen, held, seen_after, seen_of}
-use Rattle.view_check.specs.declared.fetching.Anew.{Anew}
+use Rattle.view_check.specs.Seen.{again, fetch_seen, is_absent, off_unless, passed_over, passing_over, seen_after, seen_of}
 use Rattle.view_check.specs.declared.fetching.Seen.{Seen}
-use Rattle.view_check.specs.declared.fetching.Seen.TheVariants.{Off, Whole}
+use Rattle.view_check.specs.declared.fetching.Seen.TheVariants.{Whole}
 
 pub seen-whole : (limits : Limits) (name : List ℕ) (project : Project) (before after : ShelfTold) (left still : ℕ) → Fetches (fetch_project limits name) read_of 67 (Ok project) before after left still
     → Fetches (fetch_seen limits name) seen_of 134 (Ok (Whole project)) before after left still
@@ -24,6 +26,7 @@ seen-whole limits name project before after left still step = record {
   gives = λ files told. ap (λ f. (seen_after limits name files (fetch_project limits name files left) f).found) (step.gives files told);
   told_left = λ files told. ap (λ f. (seen_after limits name files (fetch_project limits name files left) f).left) (step.gives files told) ∙ step.told_left files told;
   told_fetches = λ files told. omega (arith, step.told_fetches files told, ap (λ f. (seen_after limits name files (fetch_project limits name files left) f).fetches) (step.gives files told));
+  absences = λ files told none. none_absent (fetch_project limits name) read_of 67 project before after left still step files told;
   fetches = omega (arith, step.fetches);
   read_fault = λ fault. absurd fault;
   calls = step.calls;
@@ -31,27 +34,33 @@ seen-whole limits name project before after left still step = record {
   holding = step.holding;
 }
 
-same_found : {X : Type 0} (one other : X) → ◌≡◌ {A = OrRefusal X} (Ok one) (Ok other) → one ≡ other
-same_found one other same = cc same
+-- where no file is refused as absent in the end, the project isn't
+none_off : (limits : Limits) (name what : List ℕ) (cause : Cause) (files : Files) → NoneIsAbsent (off_unless (is_absent cause) limits name (record { what = what; cause = cause }) files 0).found → cause ≢ Absent
+none_off limits name what cause files none = λ is. (subst (λ c. NoneIsAbsent (off_unless (is_absent c) limits name (record { what = what; cause = c }) files 0).found) is none) refl
 
-off_found : Refusal → Anew → OrRefusal SeenRead
-off_found refusal found = Ok (Err (record { refusal = refusal; anew = found }))
+none_seen : (limits : Limits) (name : List ℕ) (files : Files) (outcome : Outcome ProjectRead) (found : OrRefusal ProjectRead) → NoneIsAbsent (seen_after limits name files outcome found).found → NoneIsAbsent found
+none_seen limits name files outcome (Ok project) none = tt
+none_seen limits name files outcome (Err refusal) none = none_off limits name refusal.what refusal.cause files none
 
-pub seen-off : (limits : Limits) (name : List ℕ) (refusal : Refusal) (found : Anew) (before between after : ShelfTold) (left still : ℕ) → Fetches (fetch_project limits name) read_of 67 (Err (Refused refusal)) before between left still
-    → Finds (anew limits name refusal) 67 (Ok found) between after → Fetches (fetch_seen limits name) seen_of 134 (Ok (Off (record { refusal = refusal; anew = found }))) before after left 0
-unfolding fetch_seen off_found
-seen-off limits name refusal found before between after left still step more = record {
-  gives = λ files told.
-      ap (λ f. (seen_after limits name files (fetch_project limits name files left) f).found) (step.gives files told)
-      ∙ ap (λ (a : Anew). off_found refusal a) (same_found (anew limits name refusal files) found (more.gives files (step.holding ∙ told)));
-  told_left = λ files told. ap (λ f. (seen_after limits name files (fetch_project limits name files left) f).left) (step.gives files told);
-  told_fetches = λ files told. omega (arith, step.told_fetches files told, more.fetches, ap (λ f. (seen_after limits name files (fetch_project limits name files left) f).fetches) (step.gives files told));
+pub seen-refused : (limits : Limits) (name : List ℕ) (refusal : Refusal) (result : Result Seen Stop) (before between after : ShelfTold) (left still : ℕ) → Fetches (fetch_project limits name) read_of 67 (Err (Refused refusal)) before between left still
+    → Fetches (off_unless (is_absent refusal.cause) limits name refusal) seen_of 67 result between after 0 0 → Fetches (fetch_seen limits name) seen_of 134 result before after left 0
+unfolding fetch_seen
+seen-refused limits name refusal result before between after left still step more = record {
+  gives = λ files told. subst (λ o. GivesUnlessMemory refusal_in o.found seen_of result) (sym (joined files told)) (more.gives files (step.holding ∙ told));
+  told_left = λ files told. subst (λ o. IfOk result (λ x. o.left ≡ 0)) (sym (joined files told)) (more.told_left files (step.holding ∙ told));
+  told_fetches = λ files told. omega (arith, step.told_fetches files told, more.told_fetches files (step.holding ∙ told), ap (λ o. o.fetches) (joined files told));
+  absences = λ files told none.
+      more.absences files (step.holding ∙ told) (subst (λ o. NoneIsAbsent o.found) (joined files told) none)
+      ∙ step.absences files told (none_seen limits name files (fetch_project limits name files left) (fetch_project limits name files left).found none);
   fetches = omega (arith, step.fetches, more.fetches);
-  read_fault = λ fault. absurd fault;
+  read_fault = λ fault. Rose-from _ _ _ (more.read_fault fault) step.faults;
   calls = omega (arith, step.calls, more.calls);
   faults = omega (arith, step.faults, more.faults);
   holding = more.holding ∙ step.holding;
 }
+  where
+    joined : (files : Files) → before.holding ≡ Some files → fetch_seen limits name files left ≡ seen_after limits name files (fetch_project limits name files left) (Err refusal)
+    joined files told = ap (λ f. seen_after limits name files (fetch_project limits name files left) f) (step.gives files told)
 
 some_fetches : (limits : Limits) (name : List ℕ) (files : Files) (outcome : Outcome ProjectRead) (found : OrRefusal ProjectRead) → outcome.fetches ≤ (seen_after limits name files outcome found).fetches
 some_fetches limits name files outcome (Ok project) = omega arith
@@ -65,6 +74,7 @@ seen-stopped limits name stop before after left still none step = record {
   gives = λ files told. rw none tt;
   told_left = λ files told. tt;
   told_fetches = λ files told. omega (arith, step.told_fetches files told, some_fetches limits name files (fetch_project limits name files left) (fetch_project limits name files left).found);
+  absences = λ files told present. step.absences files told (none_seen limits name files (fetch_project limits name files left) (fetch_project limits name files left).found present);
   fetches = omega (arith, step.fetches);
   read_fault = λ fault. step.read_fault (same_fault Seen Project stop fault);
   calls = step.calls;
@@ -72,109 +82,75 @@ seen-stopped limits name stop before after left still none step = record {
   holding = step.holding;
 }
 
--- a stop that tells no refusal of one thing tells none of another
-no_refusal : {X Y : Type 0} (stop : Stop) (one : X) (other : OrRefusal Y) → IfSome (refusal_in stop) (λ refusal. Ok one ≡ Err refusal) → IfSome (refusal_in stop) (λ refusal. other ≡ Err refusal)
-no_refusal (Refused refusal) one other is = cc is
-no_refusal ReadFault one other is = tt
-no_refusal Memory one other is = tt
-
-pub anew-stopped : (limits : Limits) (name : List ℕ) (refusal : Refusal) (stop : Stop) (result : Result Seen Stop) (before between after : ShelfTold) (left still : ℕ) → result ≡ Err stop → Fetches (fetch_project limits name) read_of 67 (Err (Refused refusal)) before between left still
-    → Finds (anew limits name refusal) 67 (Err stop) between after → Fetches (fetch_seen limits name) seen_of 134 result before after left 0
-unfolding fetch_seen
-anew-stopped limits name refusal stop result before between after left still is step more = rw is (record {
-  gives = λ files told. no_refusal stop (anew limits name refusal files) (fetch_seen limits name files left).found (more.gives files (step.holding ∙ told));
-  told_left = λ files told. tt;
-  told_fetches = λ files told. omega (arith, step.told_fetches files told, more.fetches, ap (λ f. (seen_after limits name files (fetch_project limits name files left) f).fetches) (step.gives files told));
-  fetches = omega (arith, step.fetches, more.fetches);
-  read_fault = λ fault. Rose-from _ _ _ (more.read_fault (same_fault Seen Anew stop fault)) step.faults;
-  calls = omega (arith, step.calls, more.calls);
-  faults = omega (arith, step.faults, more.faults);
-  holding = more.holding ∙ step.holding;
-})
-
 -- ---- something once more
 
-module _ {X V : Type 0} (limits : Limits) (most : ℕ) (fetching : Fetching X) (view : V → X) where
-  pub again-read : (found : V) (before after : ShelfTold) (still : ℕ) → Fetches fetching view most (Ok found) before after limits.all_bytes still → Finds (again limits fetching) most (Ok (Some (view found))) before after
-  again-read found before after still step = record {
-    gives = λ files told. ap (λ f. Ok (held f)) (step.gives files told);
-    fetches = step.fetches;
-    read_fault = λ fault. absurd fault;
-    calls = step.calls;
-    faults = step.faults;
-    holding = step.holding;
-  }
+none_again : {X : Type 0} (what : List ℕ) (cause : Cause) → NoneIsAbsent {X = Option X} (if is_absent cause then Err (record { what = what; cause = cause }) else Ok None) → cause ≢ Absent
+none_again {X} what cause none = λ is. (subst (λ c. NoneIsAbsent {X = Option X} (if is_absent c then Err (record { what = what; cause = c }) else Ok None)) is none) refl
 
-  pub again-refused : (refusal : Refusal) (before after : ShelfTold) (still : ℕ) → Fetches fetching view most (Err (Refused refusal)) before after limits.all_bytes still → Finds (again limits fetching) most (Ok None) before after
-  again-refused refusal before after still step = record {
-    gives = λ files told. ap (λ f. Ok (held f)) (step.gives files told);
-    fetches = step.fetches;
-    read_fault = λ fault. absurd fault;
-    calls = step.calls;
-    faults = step.faults;
-    holding = step.holding;
-  }
+none_passed : {X : Type 0} (found : OrRefusal X) → NoneIsAbsent (passed_over found) → NoneIsAbsent found
+none_passed (Ok x) none = tt
+none_passed {X} (Err refusal) none = none_again {X = X} refusal.what refusal.cause none
 
-  pub again-failed : (stop : Stop) (before after : ShelfTold) (still : ℕ) → refusal_in stop ≡ None → Fetches fetching view most (Err stop) before after limits.all_bytes still → Finds (again limits fetching) most (Err stop) before after
-  again-failed stop before after still none step = record {
-    gives = λ files told. rw none tt;
-    fetches = step.fetches;
-    read_fault = λ fault. step.read_fault (same_fault (Option X) V stop fault);
-    calls = step.calls;
-    faults = step.faults;
-    holding = step.holding;
-  }
+gives_again : {X : Type 0} (found : OrRefusal X) (result : Result X Stop) → GivesUnlessMemory refusal_in found (λ x. x) result → GivesUnlessMemory refusal_in (passed_over found) (λ x. x) (passing_over result)
+gives_again found (Ok x) is = ap passed_over is
+gives_again {X} found (Err (Refused refusal)) is = by (is_absent refusal.cause) (ap passed_over is)
+  where
+    by : (absent : Bool) → passed_over found ≡ (if absent then Err refusal else Ok None) → GivesUnlessMemory {X = Option X} {Y = Option X} refusal_in (passed_over found) (λ x. x) (if absent then Err (Refused refusal) else Ok None)
+    by true same = same
+    by false same = same
+gives_again found (Err ReadFault) is = tt
+gives_again found (Err Memory) is = tt
 
--- ---- one after the other
+fault_again : {X : Type 0} (result : Result X Stop) → IsReadFault (passing_over result) → IsReadFault result
+fault_again (Ok x) fault = fault
+fault_again {X} (Err (Refused refusal)) fault = by (is_absent refusal.cause) fault
+  where
+    by : (absent : Bool) → IsReadFault {X = Option X} (if absent then Err (Refused refusal) else Ok None) → ⊥
+    by true none = none
+    by false none = none
+fault_again (Err ReadFault) fault = fault
+fault_again (Err Memory) fault = fault
 
--- nothing is fetched for nothing
-pub finds-none : {X : Type 0} (most : ℕ) (shelf : ShelfTold) → Finds {X = Option X} (λ files. None) most (Ok None) shelf shelf
-finds-none most shelf = record {
-  gives = λ files told. refl;
-  fetches = omega arith;
+stays : {X : Type 0} (result : Result X Stop) (left : ℕ) → IfOk result (λ x. left ≡ left)
+stays (Ok x) left = refl
+stays (Err stop) left = tt
+
+pub again-fetches : {X : Type 0} (limits : Limits) (most : ℕ) (fetching : Fetching X) (result : Result X Stop) (before after : ShelfTold) (still left : ℕ) → Fetches fetching (λ x. x) most result before after limits.all_bytes still
+    → Fetches (again limits fetching) (λ x. x) most (passing_over result) before after left left
+again-fetches limits most fetching result before after still left step = record {
+  gives = λ files told. gives_again (fetching files limits.all_bytes).found result (step.gives files told);
+  told_left = λ files told. stays (passing_over result) left;
+  told_fetches = step.told_fetches;
+  absences = λ files told none. step.absences files told (none_passed (fetching files limits.all_bytes).found none);
+  fetches = step.fetches;
+  read_fault = λ fault. step.read_fault (fault_again result fault);
+  calls = step.calls;
+  faults = step.faults;
+  holding = step.holding;
+}
+
+-- a value in other words
+pub fetches-viewed : {X Y : Type 0} (fetching : Fetching Y) (view : X → Y) (most : ℕ) (x : X) (y : Y) (before after : ShelfTold) (left still : ℕ) → y ≡ view x → Fetches fetching view most (Ok x) before after left still → Fetches fetching (λ z. z) most (Ok y) before after left still
+fetches-viewed {X} {Y} fetching view most x y before after left still is step = record {
+  gives = λ files told. step.gives files told ∙ ap Ok (sym is);
+  told_left = step.told_left;
+  told_fetches = step.told_fetches;
+  absences = step.absences;
+  fetches = step.fetches;
   read_fault = λ fault. absurd fault;
-  calls = omega arith;
-  faults = omega arith;
-  holding = refl;
+  calls = step.calls;
+  faults = step.faults;
+  holding = step.holding;
 }
-
-abbrev all_three : (Files → Option (List ℕ)) → (Files → Option Schema) → (Files → Option (List Tuples)) → Files → Anew
-all_three first second third files = record { bytes = first files; schema = second files; tables = third files }
-
-module _ (first : Files → Option (List ℕ)) (second : Files → Option Schema) (third : Files → Option (List Tuples)) where
-  pub finds-all : (bytes : Option (List ℕ)) (schema : Option Schema) (tables : Option (List Tuples)) (s0 s1 s2 s3 : ShelfTold) → Finds first 1 (Ok bytes) s0 s1 → Finds second 1 (Ok schema) s1 s2 → Finds third 65 (Ok tables) s2 s3
-      → Finds (all_three first second third) 67 (Ok (record { bytes = bytes; schema = schema; tables = tables })) s0 s3
-  finds-all bytes schema tables s0 s1 s2 s3 one two three = record {
-    gives = λ files told.
-        ap (λ (b : Option (List ℕ)). Ok (record { bytes = b; schema = second files; tables = third files })) (same_found (first files) bytes (one.gives files told))
-        ∙ ap (λ (s : Option Schema). Ok (record { bytes = bytes; schema = s; tables = third files })) (same_found (second files) schema (two.gives files (one.holding ∙ told)))
-        ∙ ap (λ (t : Option (List Tuples)). Ok (record { bytes = bytes; schema = schema; tables = t })) (same_found (third files) tables (three.gives files (two.holding ∙ one.holding ∙ told)));
-    fetches = omega (arith, one.fetches, two.fetches, three.fetches);
-    read_fault = λ fault. absurd fault;
-    calls = omega (arith, one.calls, two.calls, three.calls);
-    faults = omega (arith, one.faults, two.faults, three.faults);
-    holding = three.holding ∙ two.holding ∙ one.holding;
-  }
-
--- what is found behind something that was found
-pub finds-behind : {X Y : Type 0} (first : Files → X) (second : Files → Y) (some more : ℕ) (x : X) (stop : Stop) (before between after : ShelfTold) → Finds first some (Ok x) before between → Finds second more (Err stop) between after
-    → Finds second (some + more) (Err stop) before after
-finds-behind {X} {Y} first second some more x stop before between after one two = record {
-  gives = λ files told. two.gives files (one.holding ∙ told);
-  fetches = omega (arith, one.fetches, two.fetches);
-  read_fault = λ fault. Rose-from _ _ _ (two.read_fault fault) one.faults;
-  calls = omega (arith, one.calls, two.calls);
-  faults = omega (arith, one.faults, two.faults);
-  holding = two.holding ∙ one.holding;
+pub fetches-failed : {X Y Z : Type 0} (fetching : Fetching Z) (one : X → Z) (other : Y → Z) (most : ℕ) (stop : Stop) (before after : ShelfTold) (left still : ℕ) → Fetches fetching one most (Err stop) before after left still → Fetches fetching other most (Err stop) before after left still
+fetches-failed {X} {Y} fetching one other most stop before after left still step = record {
+  gives = step.gives;
+  told_left = λ files told. tt;
+  told_fetches = step.told_fetches;
+  absences = step.absences;
+  fetches = step.fetches;
+  read_fault = λ fault. step.read_fault (same_fault Y X stop fault);
+  calls = step.calls;
+  faults = step.faults;
+  holding = step.holding;
 }
-
--- a stop of a part is one of the whole
-pub finds-stopped : {X Y : Type 0} (part : Files → X) (whole : Files → Y) (some more : ℕ) (stop : Stop) (result : Result Y Stop) (before after : ShelfTold) → some ≤ more → result ≡ Err stop → Finds part some (Err stop) before after → Finds whole more result before after
-finds-stopped {X} {Y} part whole some more stop result before after fits is one = rw is (record {
-  gives = λ files told. no_refusal stop (part files) (Ok (whole files)) (one.gives files told);
-  fetches = omega (arith, one.fetches, fits);
-  read_fault = λ fault. one.read_fault (same_fault Y X stop fault);
-  calls = one.calls;
-  faults = one.faults;
-  holding = one.holding;
-})

@@ -1,19 +1,18 @@
-//! The files of a project as `cfdbench run` reads them; and once more the one that is refused, the schema, and tables that
+//! The files of a project as `cfdbench run` reads them; and once more one that is refused, the schema, and tables that
 //! together are too many.
-ghost use Rattle.std.specs.Prelude.{◌≡◌, length};
+ghost use Rattle.std.specs.Prelude.{◌≡◌};
 ghost use Rattle.text_lists.specs.Limits.{AreLimits};
 ghost use Rattle.cli_output.specs.Fetching.{Fetches, file};
 ghost use Rattle.cli_output.specs.RuleFiles.{fetch_schema};
-ghost use Rattle.cli_output.specs.TableFiles.{fetch_table};
 ghost use Rattle.schema_core.specs.Schemas.{IsValidSchema};
-ghost use Rattle.view_schema.specs.Each.{fetch_each};
-ghost use Rattle.view_check.specs.Seen.{Finds, again, all_if, anew, fetch_all, fetch_seen, is_full, seen_of};
+ghost use Rattle.project_forms.specs.Project.{fetch_tables};
+ghost use Rattle.view_check.specs.Seen.{again, all_if, anew, fetch_all, fetch_seen, is_absent, is_full, off_unless, passing_over, seen_of};
 
-use cli_output::{Cause, Refusal, Stop, fetch_file, fetch_schema, fetch_table};
+use cli_output::{Cause, Refusal, Stop, fetch_file, fetch_schema};
 use hash_keys::HashKeys;
 use probe_steps::Steps;
-use project_forms::{Project, fetch_project};
-use schema_core::{Limits, List, Schema, Table, Text, Texts};
+use project_forms::{Project, fetch_project, fetch_tables};
+use schema_core::{Limits, List, Schema, Text, Texts};
 use shelf_io::Shelf;
 use std::alloc::Global;
 use std::sync::ledger::Ledger;
@@ -41,7 +40,7 @@ pub enum Seen {
     Off(Off),
 }
 
-/// The project of the named schema file, or the refusal with what it refuses.
+/// The project of the named schema file, or a refusal with what it refuses. That a file isn't there is a refusal of the call.
 pub fn fetch_seen<S: Shelf, L: Ledger>(
     alloc: Global,
     keys: HashKeys,
@@ -58,14 +57,50 @@ pub fn fetch_seen<S: Shelf, L: Ledger>(
         Ok(project) => Ok(Seen::Whole(project)),
         Err(Stop::Refused(refusal)) => {
             *left = 0;
-            let anew = fetch_anew(alloc, shelf, name, &refusal, limits)?;
-            Ok(Seen::Off(Off { refusal, anew }))
+            fetch_off_unless(
+                alloc,
+                shelf,
+                is_absent(&refusal.cause),
+                name,
+                refusal,
+                limits,
+            )
         }
         Err(Stop::ReadFault) => Err(Stop::ReadFault),
         Err(Stop::Memory) => Err(Stop::Memory),
     }
 }
 
+fn is_absent(cause: &Cause) -> bool
+    ensures { result ≡ is_absent cause.now }
+{
+    match cause {
+        Cause::Absent => true,
+        _ => false,
+    }
+}
+
+/// The refusal with what it refuses, unless the file isn't there.
+fn fetch_off_unless<S: Shelf>(
+    alloc: Global,
+    shelf: &mut S,
+    absent: bool,
+    project: &Text,
+    refusal: Refusal,
+    limits: &Limits,
+) -> Result<Seen, Stop>
+    requires { AreLimits limits.now }
+    ensures { Fetches (off_unless absent limits.now project.now refusal) seen_of 67 result (S.told shelf.old) (S.told shelf.new) 0 0 }
+{
+    if absent {
+        Err(Stop::Refused(refusal))
+    } else {
+        let anew = fetch_anew(alloc, shelf, project, &refusal, limits)?;
+        Ok(Seen::Off(Off { refusal, anew }))
+    }
+}
+
+#[tactic(auto, unfolding(crate::specs::Seen::anew))]
 fn fetch_anew<S: Shelf>(
     alloc: Global,
     shelf: &mut S,
@@ -74,7 +109,7 @@ fn fetch_anew<S: Shelf>(
     limits: &Limits,
 ) -> Result<Anew, Stop>
     requires { AreLimits limits.now }
-    ensures { Finds (anew limits.now project.now refusal.now) 67 result (S.told shelf.old) (S.told shelf.new) }
+    ensures { Fetches (anew limits.now project.now refusal.now) (λ found. found) 67 result (S.told shelf.old) (S.told shelf.new) 0 0 }
 {
     let bytes = fetch_again(shelf, &refusal.what, limits)?;
     let schema = fetch_schema_again(alloc, shelf, project, limits)?;
@@ -95,21 +130,49 @@ fn is_full(cause: &Cause) -> bool
     }
 }
 
-/// The bytes of a file that was refused, where it is there and fits.
+/// What was read, or nothing where it was refused; but that a file isn't there stays a refusal.
+fn passing_over<T: Drop>(found: Result<T, Stop>) -> Result<Option<T>, Stop>
+    ensures { result ≡ passing_over found }
+{
+    match found {
+        Ok(found) => Ok(Some(found)),
+        Err(Stop::Refused(refusal)) => {
+            if is_absent(&refusal.cause) {
+                Err(Stop::Refused(refusal))
+            } else {
+                Ok(None)
+            }
+        }
+        Err(Stop::ReadFault) => Err(Stop::ReadFault),
+        Err(Stop::Memory) => Err(Stop::Memory),
+    }
+}
+
+/// The bytes of a file that was refused, where it fits.
 fn fetch_again<S: Shelf>(
     shelf: &mut S,
     name: &Text,
     limits: &Limits,
 ) -> Result<Option<List<u8>>, Stop>
     requires { AreLimits limits.now }
-    ensures { Finds (again limits.now (file limits.now name.now)) 1 result (S.told shelf.old) (S.told shelf.new) }
+    ensures { Fetches (again limits.now (file limits.now name.now)) (λ found. found) 1 result (S.told shelf.old) (S.told shelf.new) 0 0 }
 {
     let mut room = limits.all_bytes;
-    match fetch_file(shelf, name, limits, &mut room) {
-        Ok(bytes) => Ok(Some(List::from(bytes))),
-        Err(Stop::Refused(_)) => Ok(None),
-        Err(Stop::ReadFault) => Err(Stop::ReadFault),
-        Err(Stop::Memory) => Err(Stop::Memory),
+    passing_over(fetch_bytes(shelf, name, limits, &mut room))
+}
+
+fn fetch_bytes<S: Shelf>(
+    shelf: &mut S,
+    name: &Text,
+    limits: &Limits,
+    left: &mut u64,
+) -> Result<List<u8>, Stop>
+    requires { AreLimits limits.now }
+    ensures { Fetches (file limits.now name.now) (λ bytes. bytes) 1 result (S.told shelf.old) (S.told shelf.new) left.old left.new }
+{
+    match fetch_file(shelf, name, limits, left) {
+        Ok(bytes) => Ok(List::from(bytes)),
+        Err(stop) => Err(stop),
     }
 }
 
@@ -121,15 +184,10 @@ fn fetch_schema_again<S: Shelf>(
     limits: &Limits,
 ) -> Result<Option<Schema>, Stop>
     requires { AreLimits limits.now }
-    ensures { Finds (again limits.now (fetch_schema limits.now name.now)) 1 result (S.told shelf.old) (S.told shelf.new) }
+    ensures { Fetches (again limits.now (fetch_schema limits.now name.now)) (λ found. found) 1 result (S.told shelf.old) (S.told shelf.new) 0 0 }
 {
     let mut room = limits.all_bytes;
-    match fetch_schema(alloc, shelf, name, limits, &mut room) {
-        Ok(schema) => Ok(Some(schema)),
-        Err(Stop::Refused(_)) => Ok(None),
-        Err(Stop::ReadFault) => Err(Stop::ReadFault),
-        Err(Stop::Memory) => Err(Stop::Memory),
-    }
+    passing_over(fetch_schema(alloc, shelf, name, limits, &mut room))
 }
 
 /// The rows of all tables, where they are too many.
@@ -141,30 +199,13 @@ fn fetch_all_if<S: Shelf>(
     limits: &Limits,
 ) -> Result<Option<List<List<Texts>>>, Stop>
     requires { AreLimits limits.now }
-    ensures { Finds (all_if full limits.now name.now) 65 result (S.told shelf.old) (S.told shelf.new) }
+    ensures { Fetches (all_if full limits.now name.now) (λ found. found) 65 result (S.told shelf.old) (S.told shelf.new) 0 0 }
 {
     if full {
-        fetch_all_again(alloc, shelf, name, limits)
+        let mut room = limits.all_bytes;
+        passing_over(fetch_all(alloc, shelf, name, limits, &mut room))
     } else {
         Ok(None)
-    }
-}
-
-fn fetch_all_again<S: Shelf>(
-    alloc: Global,
-    shelf: &mut S,
-    name: &Text,
-    limits: &Limits,
-) -> Result<Option<List<List<Texts>>>, Stop>
-    requires { AreLimits limits.now }
-    ensures { Finds (again limits.now (fetch_all limits.now name.now)) 65 result (S.told shelf.old) (S.told shelf.new) }
-{
-    let mut room = limits.all_bytes;
-    match fetch_all(alloc, shelf, name, limits, &mut room) {
-        Ok(all) => Ok(Some(all)),
-        Err(Stop::Refused(_)) => Ok(None),
-        Err(Stop::ReadFault) => Err(Stop::ReadFault),
-        Err(Stop::Memory) => Err(Stop::Memory),
     }
 }
 
@@ -194,26 +235,7 @@ fn fetch_few<S: Shelf>(
 ) -> Result<List<List<Texts>>, Stop>
     requires limits { AreLimits limits.now }
     requires valid { IsValidSchema schema.now }
-    ensures { Fetches (fetch_each (fetch_table limits.now) schema.now.tables) (λ all. all) 64 result (S.told shelf.old) (S.told shelf.new) left.old left.new }
+    ensures { Fetches (fetch_tables limits.now schema.now.tables) (λ all. all) 64 result (S.told shelf.old) (S.told shelf.new) left.old left.new }
 {
     fetch_tables(alloc, shelf, schema.tables.as_slice(), limits, left)
-}
-
-/// The rows of each table.
-fn fetch_tables<S: Shelf>(
-    alloc: Global,
-    shelf: &mut S,
-    tables: &[Table],
-    limits: &Limits,
-    left: &mut u64,
-) -> Result<List<List<Texts>>, Stop>
-    requires { AreLimits limits.now }
-    ensures { Fetches (fetch_each (fetch_table limits.now) tables.now) (λ all. all) (length tables.now) result (S.told shelf.old) (S.told shelf.new) left.old left.new }
-{
-    let mut all = List::new(alloc);
-    for table in tables {
-        let rows = fetch_table(alloc, shelf, table, limits, left)?;
-        all.push(rows)?;
-    }
-    Ok(all)
 }

@@ -10,7 +10,7 @@ use Rattle.cli_output.specs.declared.refusal.Cause.{Cause}
 use Rattle.cli_output.specs.declared.refusal.Cause.TheVariants as cause
 use Rattle.cli_output.specs.declared.status.Status.TheVariants.{Clean}
 use Rattle.cli_output.specs.Fetching.{Fetching, ◌>>=◌, about, file, given}
-use Rattle.view_schema.specs.Each.{fetch_each}
+use Rattle.cli_output.specs.Each.{fetch_each}
 use Rattle.cli_output.specs.Output.{Only, Outputs, Task}
 
 -- ---- what is fetched

@@ -1,5 +1,5 @@
 use Rattle.view_schema.specs.SchemaForm.{fetch_sheet}
-use Rattle.view_schema.proofs.EachLoop.{IsUnderWay}
+use Rattle.cli_output.proofs.EachLoop.{IsUnderWay}
 use Rattle.view_schema.proofs.fetch_sheets.Given as goal
 
 abbrev pub invariant-loop-table : goal.invariant-loop-table

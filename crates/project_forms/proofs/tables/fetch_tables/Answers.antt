@@ -1,90 +1,43 @@
-use Rattle.std.proofs.Common.{◌≡◌, ◌+◌, List, [], length, take, Err, refl, sym, ◌∙◌, subst, arith}
+use Rattle.std.proofs.Common.{◌≡◌, ◌+◌, [], take, Err, refl, sym, subst}
 use Rattle.std.specs.List.{AllZip}
 use Rattle.std.proofs.lemmas.List.{take_all}
 use Rattle.std.proofs.lemmas.Result.{err_from_is_err_and}
-use Rattle.cli_output.specs.Fetching.{Fetches}
-use Rattle.bench_core.specs.Loading.{Tuples}
 use Rattle.cli_output.specs.TableFiles.{fetch_table}
-use Rattle.project_forms.specs.Project.{fetch_tables}
-use Rattle.cli_output.proofs.Faults.{Rose-from, same_fault}
-use Rattle.project_forms.proofs.TableLoop.{AreRowsOf, GoesOn, goes_on-none, goes_on-more, goes_on-fetches, goes_on-refused, all_found, all_left, all_fetches, AllZip-take_more}
+use Rattle.cli_output.proofs.EachLoop.{under_way-all, under_way-next, under_way-none, under_way-stopped}
+use Rattle.project_forms.proofs.TableLoop.{AreRowsOf, IsUnderWay, AllZip-take_more}
 use Rattle.project_forms.proofs.tables.fetch_tables.Goals as goal
 
 pub loop-table-init : goal.loop-table-init
-loop-table-init g c = record {
-  told = λ files is. (0, subst (λ all. GoesOn c.args.limits.now files c.args.tables.now c.args.left.now 0 all 0 c.args.left.now) (sym c.new-all.ensures) (goes_on-none c.args.limits.now files c.args.tables.now c.args.left.now), omega arith);
-  valid = subst (AllZip (AreRowsOf c.args.limits.now) []) (sym c.new-all.ensures) tt;
-  fetches = omega arith;
-  calls = omega arith;
-  faults = omega arith;
-  holding = cc;
-}
+loop-table-init g c =
+    let shelf = g.S.Shelf.told c.args.shelf.now in
+    subst (λ all. IsUnderWay c.args.limits.now c.args.tables.now 0 all shelf shelf c.args.left.now c.args.left.now) (sym c.new-all.ensures)
+    (record { fetched = under_way-none (fetch_table c.args.limits.now) c.args.tables.now shelf c.args.left.now; valid = tt })
 
 pub loop-table-preserved : goal.loop-table-preserved
 loop-table-preserved g c =
-    let one = c.in_ok-rows.ensures.table in
+    let limits = c.args.limits.now in
+    let tables = c.args.tables.now in
+    let place = c.loop-table.table-index in
+    let table = c.table-item.result in
+    let rows = c.in_ok-rows.rows in
+    let before = g.S.Shelf.told c.args.shelf.now in
+    let after = g.S.Shelf.told c.fetch_table.new.shelf in
     let so_far = c.loop-table.invariant in
-    record {
-      told = λ files is.
-          let told = so_far.holding ∙ is in
-          let before = so_far.told files is in (
-            before.0 + (fetch_table c.args.limits.now c.table-item.result files c.loop-table.left).fetches,
-            subst (λ all. GoesOn c.args.limits.now files c.args.tables.now c.args.left.now (c.loop-table.table-index + 1) all (before.0 + (fetch_table c.args.limits.now c.table-item.result files c.loop-table.left).fetches) c.fetch_table.new.left) (sym c.in_ok-push.ensures.ok)
-                (goes_on-more c.args.limits.now files c.args.tables.now c.args.left.now c.loop-table.table-index c.loop-table.all before.0 c.loop-table.left c.table-item.result c.in_ok-rows.rows c.fetch_table.new.left
-                c.loop-table-test.true c.table-item.is before.1 (one.gives files told) (one.told_left files told)),
-            omega (arith, before.2, one.told_fetches files told),
-          );
-      valid = subst (λ all. AllZip (AreRowsOf c.args.limits.now) (take (c.loop-table.table-index + 1) c.args.tables.now) all) (sym c.in_ok-push.ensures.ok)
-          (AllZip-take_more (AreRowsOf c.args.limits.now) c.args.tables.now _ c.loop-table.table-index c.table-item.result c.in_ok-rows.rows
-          c.loop-table-test.true c.table-item.is so_far.valid c.in_ok-rows.ensures.valid);
-      fetches = omega (arith, so_far.fetches, one.fetches);
-      calls = omega (arith, so_far.calls, one.calls);
-      faults = omega (arith, so_far.faults, one.faults);
-      holding = one.holding ∙ so_far.holding;
-    }
+    subst (λ all. IsUnderWay limits tables (place + 1) all before after c.args.left.now c.fetch_table.new.left) (sym c.in_ok-push.ensures.ok)
+    (record {
+      fetched = under_way-next (fetch_table limits) tables place c.loop-table.all before _ after c.args.left.now _ _ table rows c.loop-table-test.true c.table-item.is so_far.fetched c.in_ok-rows.ensures.table;
+      valid = AllZip-take_more (AreRowsOf limits) tables _ place table rows c.loop-table-test.true c.table-item.is so_far.valid c.in_ok-rows.ensures.valid;
+    })
 
 pub returns-in_err-rows-clause-tables : goal.returns-in_err-rows-clause-tables
 returns-in_err-rows-clause-tables g c =
-    let one = c.in_err-rows.ensures.table in
-    let so_far = c.loop-table.invariant in
     let p = err_from_is_err_and c.from_residual.result c.from_residual.ensures.1 in
     let same : c.from_residual.result ≡ Err c.in_err-rows.field-0.0 = rw (p.1, p.2) refl in
-    subst (λ r. Fetches (fetch_tables c.args.limits.now c.args.tables.now) (λ all. all) (length c.args.tables.now) r (g.S.Shelf.told c.args.shelf.now) (g.S.Shelf.told c.fetch_table.new.shelf) c.args.left.now c.fetch_table.new.left) (sym same) (record {
-      gives = λ files is.
-          let before = so_far.told files is in
-          goes_on-refused c.args.limits.now files c.args.tables.now c.args.left.now c.loop-table.table-index c.loop-table.all before.0 c.loop-table.left c.table-item.result c.in_err-rows.field-0.0
-          c.loop-table-test.true c.table-item.is before.1 (one.gives files (so_far.holding ∙ is));
-      told_left = λ files is. tt;
-      told_fetches = λ files is.
-          let before = so_far.told files is in
-          omega (
-            arith,
-            before.2,
-            one.told_fetches files (so_far.holding ∙ is),
-            goes_on-fetches c.args.limits.now files c.args.tables.now c.args.left.now c.loop-table.table-index c.loop-table.all before.0 c.loop-table.left c.table-item.result c.loop-table-test.true c.table-item.is before.1,
-          );
-      fetches = omega (arith, so_far.fetches, one.fetches, c.loop-table-test.true);
-      read_fault = λ fault. Rose-from _ _ _ (one.read_fault (same_fault (List Tuples) Tuples c.in_err-rows.field-0.0 fault)) so_far.faults;
-      calls = omega (arith, so_far.calls, one.calls);
-      faults = omega (arith, so_far.faults, one.faults);
-      holding = one.holding ∙ so_far.holding;
-    })
+    under_way-stopped (fetch_table c.args.limits.now) c.args.tables.now c.loop-table.table-index c.loop-table.all _ _ _ _ _ _ c.table-item.result c.in_err-rows.field-0.0 c.from_residual.result c.loop-table-test.true c.table-item.is same c.loop-table.invariant.fetched
+    c.in_err-rows.ensures.table
 
 pub returns-clause-tables : goal.returns-clause-tables
-returns-clause-tables g c =
-    let so_far = c.loop-table.invariant in
-    record {
-      gives = λ files is. let before = so_far.told files is in all_found c.args.limits.now files c.args.tables.now c.args.left.now c.loop-table.table-index c.loop-table.all before.0 c.loop-table.left c.loop-table-test.false before.1;
-      told_left = λ files is. let before = so_far.told files is in all_left c.args.limits.now files c.args.tables.now c.args.left.now c.loop-table.table-index c.loop-table.all before.0 c.loop-table.left c.loop-table-test.false before.1;
-      told_fetches = λ files is.
-          let before = so_far.told files is in
-          omega (arith, before.2, all_fetches c.args.limits.now files c.args.tables.now c.args.left.now c.loop-table.table-index c.loop-table.all before.0 c.loop-table.left c.loop-table-test.false before.1);
-      fetches = omega (arith, so_far.fetches, c.loop-table.auto.table-index-end);
-      read_fault = λ fault. absurd fault;
-      calls = so_far.calls;
-      faults = so_far.faults;
-      holding = so_far.holding;
-    }
+returns-clause-tables g c = under_way-all (fetch_table c.args.limits.now) c.args.tables.now c.loop-table.table-index c.loop-table.all _ _ _ _ c.loop-table-test.false c.loop-table.auto.table-index-end c.loop-table.invariant.fetched
 
 pub returns-clause-valid : goal.returns-clause-valid
 returns-clause-valid g c =

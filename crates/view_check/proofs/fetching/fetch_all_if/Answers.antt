@@ -1,12 +1,14 @@
-use Rattle.std.proofs.Common.{Bool, Ok, None, subst, sym}
-use Rattle.view_check.specs.Seen.{Finds, all_if}
-use Rattle.view_check.proofs.SeenSteps.{finds-none}
+use Rattle.std.proofs.Common.{Ok, None, refl, sym, subst}
+use Rattle.std.specs.Prelude.{Bool}
+use Rattle.cli_output.specs.Fetching.{Fetches}
+use Rattle.view_check.specs.Seen.{all_if, fetch_all}
+use Rattle.view_check.proofs.SeenSteps.{again-fetches}
 use Rattle.view_check.proofs.fetching.fetch_all_if.Goals as goal
 
 pub returns-then-full : goal.returns-then-full
 returns-then-full g c =
-    subst (λ (full : Bool). Finds (all_if full c.args.limits.now c.args.name.now) 65 c.fetch_all_again.result (g.S.Shelf.told c.args.shelf.now) (g.S.Shelf.told c.fetch_all_again.new.shelf)) (sym c.if-full.true) c.fetch_all_again.ensures
-
-pub returns-else-full : goal.returns-else-full
-returns-else-full g c =
-    subst (λ (full : Bool). Finds (all_if full c.args.limits.now c.args.name.now) 65 (Ok None) (g.S.Shelf.told c.args.shelf.now) (g.S.Shelf.told c.args.shelf.now)) (sym c.if-full.false) (finds-none 65 (g.S.Shelf.told c.args.shelf.now))
+    let limits = c.args.limits.now in
+    let name = c.args.name.now in
+    subst (λ (full : Bool). Fetches (all_if full limits name) (λ x. x) 65 c.passing_over.result (g.S.Shelf.told c.args.shelf.now) (g.S.Shelf.told c.fetch_all.new.shelf) 0 0) (sym c.if-full.true)
+    (subst (λ r. Fetches (all_if Bool.true limits name) (λ x. x) 65 r (g.S.Shelf.told c.args.shelf.now) (g.S.Shelf.told c.fetch_all.new.shelf) 0 0) (sym c.passing_over.ensures)
+    (again-fetches limits 65 (fetch_all limits name) c.fetch_all.result _ _ _ 0 c.fetch_all.ensures))

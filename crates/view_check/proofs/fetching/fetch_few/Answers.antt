@@ -3,8 +3,7 @@ use Rattle.shelf_io.specs.Shelf.{ShelfTold}
 use Rattle.schema_core.specs.declared.schema.Table.{Table}
 use Rattle.cli_output.specs.declared.fetching.Stop.{Stop}
 use Rattle.cli_output.specs.Fetching.{Fetches, Fetching}
-use Rattle.cli_output.specs.TableFiles.{fetch_table}
-use Rattle.view_schema.specs.Each.{fetch_each}
+use Rattle.project_forms.specs.Project.{fetch_tables}
 use Rattle.view_check.proofs.fetching.fetch_few.Goals as goal
 
 -- at most so many fetches, or more
@@ -13,6 +12,7 @@ fetches-at_most fetching view some more result before after left still fits step
   gives = step.gives;
   told_left = step.told_left;
   told_fetches = step.told_fetches;
+  absences = step.absences;
   fetches = omega (arith, step.fetches, fits);
   read_fault = step.read_fault;
   calls = step.calls;
@@ -24,5 +24,5 @@ pub returns : goal.returns
 returns g c =
     let limits = c.args.limits.now in
     let tables = c.args.schema.now.tables in
-    fetches-at_most (fetch_each (fetch_table limits) tables) (λ x. x) (length tables) 64 _ _ _ _ _ c.requires.valid.few_tables
-    (subst (λ (ts : List Table). Fetches (fetch_each (fetch_table limits) ts) (λ x. x) (length ts) c.fetch_tables.result (g.S.Shelf.told c.args.shelf.now) (g.S.Shelf.told c.fetch_tables.new.shelf) c.args.left.now c.fetch_tables.new.left) c.as_slice.ensures c.fetch_tables.ensures)
+    fetches-at_most (fetch_tables limits tables) (λ x. x) (length tables) 64 _ _ _ _ _ c.requires.valid.few_tables
+    (subst (λ (ts : List Table). Fetches (fetch_tables limits ts) (λ x. x) (length ts) c.fetch_tables.result (g.S.Shelf.told c.args.shelf.now) (g.S.Shelf.told c.fetch_tables.new.shelf) c.args.left.now c.fetch_tables.new.left) c.as_slice.ensures c.fetch_tables.ensures.tables)
