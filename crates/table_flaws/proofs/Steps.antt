@@ -4,7 +4,8 @@ use Rattle.std.specs.Prelude.{map, not}
 use Rattle.std.specs.Str.{bytes_eq}
 use Rattle.std.proofs.lemmas.Bool.{cond-true, cond-false}
 use Rattle.text_lists.specs.Repeats.{is_among}
-use Rattle.table_flaws.specs.Flaws.{column_of, columns_flaws, is_spaced, long_rows, passing, spaced_rows, trimmed}
+use Rattle.schema_draft.specs.Columns.{column_of}
+use Rattle.table_flaws.specs.Flaws.{columns_flaws, is_spaced, long_rows, passing, spaced_rows, trimmed}
 use Rattle.table_flaws.specs.declared.flaws.Flaw.{Flaw}
 use Rattle.table_flaws.specs.declared.flaws.Flaw.TheVariants.{Long, Spaced}
 

@@ -1,18 +1,15 @@
 -- What is odd in the rows of a table, whatever its rules say. Rows are told by their numbers, which begin with 1: these
 -- are their ids, and the numbers of their records.
-use Rattle.std.specs.Prelude.{ℕ, zero, suc, ◌+◌, ◌-◌, Bool, ◌&&◌, not, List, [], ◌∷◌, ◌++◌, length, take, drop, map, slice_index_or, nat_le, count_by, if◌then◌else◌, ◌==◌}
+use Rattle.std.specs.Prelude.{ℕ, zero, suc, ◌+◌, ◌-◌, Bool, ◌&&◌, not, List, [], ◌∷◌, ◌++◌, length, take, drop, map, nat_le, count_by, if◌then◌else◌, ◌==◌}
 use Rattle.std.specs.Char.{is_ascii_whitespace}
 use Rattle.std.specs.Cmp.Lexicographic.{pointwise}
 use Rattle.std.specs.List.{prefix_len, suffix_len}
 use Rattle.std.specs.Str.{bytes_eq}
+use Rattle.schema_draft.specs.Columns.{column_of}
 use Rattle.text_lists.specs.Repeats.{is_among}
 use Rattle.table_flaws.specs.declared.columns.TheConstants.{MOST_LINES}
 use Rattle.table_flaws.specs.declared.flaws.Flaw.{Flaw}
 use Rattle.table_flaws.specs.declared.flaws.Flaw.TheVariants.{Long, Repeated, Spaced}
-
--- the values of the column at a place
-abbrev pub column_of : List (List (List ℕ)) → ℕ → List (List ℕ)
-column_of rows place = map (λ row. slice_index_or row place []) rows
 
 -- the numbers of those that pass a test, the first being counted as that number
 abbrev pub passing : {X : Type 0} → (X → Bool) → ℕ → List X → List ℕ

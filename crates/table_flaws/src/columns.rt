@@ -1,38 +1,18 @@
 //! Odd values of one column.
 
-ghost use Rattle.std.specs.Prelude.{◌≡◌, ◌==◌, ◌&&◌, ℕ, List, [], IfOk, length, count_by, not, slice_index_or};
+ghost use Rattle.std.specs.Prelude.{◌≡◌, ◌==◌, ◌&&◌, ℕ, List, IfOk, count_by, not};
 ghost use Rattle.std.specs.HashSet.{contains_by};
 ghost use Rattle.std.specs.Str.{bytes_eq};
 ghost use Rattle.text_lists.specs.Repeats.{is_among};
-ghost use Rattle.table_flaws.specs.Flaws.{column_of, is_long, long_rows, spaced_rows, trimmed};
+ghost use Rattle.table_flaws.specs.Flaws.{is_long, long_rows, spaced_rows, trimmed};
 
 use hash_keys::HashKeys;
-use schema_core::{List, Text, Texts};
+use schema_core::{List, Text};
 use std::alloc::{AllocError, Global};
 use std::collections::HashSet;
 
 /// How many lines a cell may have, and not be told.
 pub const MOST_LINES: usize = 10;
-
-/// The values of the column at a place, with an empty one where a row is shorter.
-pub fn column_of(alloc: Global, rows: &[Texts], place: usize) -> Result<Texts, AllocError>
-    ensures { IfOk result (λ values. values ≡ column_of rows.now place) }
-{
-    let mut values = List::new(alloc);
-    for row in rows {
-        values.push(text_at(alloc, row, place)?)?;
-    }
-    Ok(values)
-}
-
-fn text_at(alloc: Global, row: &Texts, place: usize) -> Result<Text, AllocError>
-    ensures { IfOk result (λ text. text ≡ slice_index_or row.now place []) }
-{
-    match row.as_slice().get(place) {
-        Some(text) => text.clone(),
-        None => Text::new(alloc, ""),
-    }
-}
 
 /// The rows, numbered from 1, whose value runs over more than ten lines.
 pub fn long_rows(alloc: Global, values: &[Text]) -> Result<List<usize>, AllocError>

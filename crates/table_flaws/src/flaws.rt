@@ -4,10 +4,11 @@ ghost use Rattle.std.specs.Prelude.{◌≡◌, ◌++◌, IfOk, OnOk, map};
 ghost use Rattle.table_flaws.specs.Flaws.{flaws_of, long_rows, repeated_rows, spaced_rows};
 ghost use Rattle.table_flaws.specs.declared.flaws.Flaw.TheVariants.{Long, Repeated, Spaced};
 
-use crate::columns::{column_of, long_rows, spaced_rows};
+use crate::columns::{long_rows, spaced_rows};
 use crate::rows::repeated_rows;
 use hash_keys::HashKeys;
 use schema_core::{List, Text, Texts};
+use schema_draft::column_of;
 use std::alloc::{AllocError, Global};
 
 /// What is odd, and where. Rows are numbered from 1, and attributes, as everywhere, from 0.

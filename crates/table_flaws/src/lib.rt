@@ -6,6 +6,6 @@ mod columns;
 mod flaws;
 mod rows;
 
-pub use columns::{MOST_LINES, column_of, long_rows, spaced_rows};
+pub use columns::{MOST_LINES, long_rows, spaced_rows};
 pub use flaws::{Flaw, flaws_of};
 pub use rows::repeated_rows;
