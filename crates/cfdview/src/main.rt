@@ -2,6 +2,9 @@
 //! status's number.
 #![tactic(auto)]
 
+mod told_shelf;
+
+use crate::told_shelf::ToldShelf;
 use cfd_view::{Status, fault_text, run_with_keys};
 use hash_keys::HashKeys;
 use shelf_io::{FolderShelf, StdSink};
@@ -53,12 +56,12 @@ fn main(rt: HostRuntime) -> ExitCode {
     let alloc = rt.alloc();
     let status = match words_of(&rt) {
         Ok(words) => {
-            let mut shelf = FolderShelf::new(alloc, rt);
+            let mut shelf = ToldShelf::new(FolderShelf::new(alloc, rt), rt);
             let mut out = StdSink::new(rt);
             let keys = HashKeys::drawn(&rt);
             let limits = Limits::standard();
             let status = run_with_keys(alloc, keys, &words, &mut shelf, &mut out, limits);
-            tell(rt, &words, status, &shelf);
+            tell(rt, &words, status, shelf.within());
             status
         }
         Err(AllocError) => Status::Memory,

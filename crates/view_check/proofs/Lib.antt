@@ -5,3 +5,4 @@ mod Parts
 mod Ends
 mod Barred
 mod BenchRows
+mod BehindFirst

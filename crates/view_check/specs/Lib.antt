@@ -3,6 +3,7 @@ pub mod Hints
 pub mod Misfits
 pub mod RowCounts
 pub mod Full
+pub mod Counted
 pub mod Rows
 pub mod Shown
 pub mod Cited

@@ -22,6 +22,7 @@ use Rattle.cli_output.specs.declared.refusal.LineFlaw.{LineFlaw}
 use Rattle.cli_output.specs.declared.refusal.LineFlaw.TheVariants as flaw
 use Rattle.cli_output.specs.declared.refusal.Refusal.{Refusal}
 use Rattle.cli_output.specs.Refusals.{limit_text, refusal_line}
+use Rattle.view_check.specs.Counted.{count_shown}
 use Rattle.view_check.specs.Full.{full_text}
 use Rattle.view_check.specs.Hints.{hint_text, room_text}
 use Rattle.view_check.specs.Misfits.{misfit_in, misfit_text}
@@ -109,15 +110,19 @@ limit_value limits limit.Edits = limits.edits
 limit_value limits limit.TableauRows = limits.tableau_rows
 limit_value limits limit.Commands = limits.commands
 
-abbrev pub bound_shown : Limits → Option Limit → List ℕ
-bound_shown limits None = []
-bound_shown limits (Some most) = codes "at most " ++ decimal (limit_value limits most) ++ codes " " ++ limit_text most ++ codes "\n"
+abbrev pub most_line : Limits → Limit → List ℕ
+most_line limits most = codes "at most " ++ decimal (limit_value limits most) ++ codes " " ++ limit_text most ++ codes "\n"
+
+-- and how much of it there is, where the line of that number is refused
+abbrev pub bound_shown : Limits → Option Limit → Option ℕ → Option (List ℕ) → List ℕ
+bound_shown limits None line bytes = []
+bound_shown limits (Some most) line bytes = most_line limits most ++ count_shown most line bytes
 
 -- ---- all of it
 
 -- the line that tells a refusal, as everywhere; what stands where it points, and what may stand there
 abbrev pub off_text : Limits → Refusal → Anew → List ℕ
 off_text limits refusal anew =
-    refusal_line refusal.what refusal.cause ++ line_at (line_in refusal.cause) anew.bytes ++ record_at (record_in refusal.cause) anew.bytes ++ bound_shown limits (limit_in refusal.cause)
+    refusal_line refusal.what refusal.cause ++ line_at (line_in refusal.cause) anew.bytes ++ record_at (record_in refusal.cause) anew.bytes ++ bound_shown limits (limit_in refusal.cause) (line_in refusal.cause) anew.bytes
     ++ room_text limits refusal.cause anew.bytes ++ full_text limits refusal.cause anew ++ misfit_text (misfit_in refusal.cause) anew.bytes
     ++ hint_text refusal.what refusal.cause anew.bytes anew.schema

@@ -2,8 +2,9 @@
 ghost use Rattle.std.specs.Prelude.{◌≡◌, ◌++◌, OnOk, Some};
 ghost use Rattle.cli_output.specs.Refusals.{limit_text};
 ghost use Rattle.view_check.specs.Hints.{bytes_line, file_rows, room_text, rows_line, rows_told, size_line, table_room};
-ghost use Rattle.view_check.specs.Shown.{bound_shown, limit_in, limit_in_line, limit_in_rule, limit_in_rules, limit_in_schema, limit_value};
+ghost use Rattle.view_check.specs.Shown.{bound_shown, limit_in, limit_in_line, limit_in_rule, limit_in_rules, limit_in_schema, limit_value, most_line};
 
+use crate::counted::push_counted;
 use cli_output::{Cause, LineFlaw};
 use csv_tables::TableFault;
 use rule_model::RuleFault;
@@ -12,13 +13,27 @@ use schema_core::{Limit, Limits, List, SchemaCause, push_number};
 use schema_draft::record_count;
 use std::alloc::{AllocError, Global};
 
-/// Tells how many there may be, where there are too many.
-pub fn push_bound(out: &mut Vec<u8>, limits: &Limits, cause: &Cause) -> Result<(), AllocError>
-    ensures { OnOk result (out.new.items ≡ out.old.items ++ bound_shown limits.now (limit_in cause.now)) }
+/// Tells how many there may be, and how many there are, where there are too many.
+pub fn push_bound(
+    alloc: Global,
+    out: &mut Vec<u8>,
+    limits: &Limits,
+    cause: &Cause,
+    line: Option<usize>,
+    bytes: &Option<List<u8>>,
+) -> Result<(), AllocError>
+    ensures { OnOk result (out.new.items ≡ out.old.items ++ bound_shown limits.now (limit_in cause.now) line bytes.now) }
 {
     let Some(limit) = limit_in(cause) else {
         return Ok(());
     };
+    push_most(out, limits, limit)?;
+    push_counted(alloc, out, limit, line, bytes)
+}
+
+fn push_most(out: &mut Vec<u8>, limits: &Limits, limit: Limit) -> Result<(), AllocError>
+    ensures { OnOk result (out.new.items ≡ out.old.items ++ most_line limits.now limit) }
+{
     out.extend_from_slice(b"at most ")?;
     push_number(out, limit_value(limits, limit))?;
     out.push(b' ')?;
@@ -183,7 +198,8 @@ fn limit_value(limits: &Limits, limit: Limit) -> u64
     }
 }
 
-fn limit_word(limit: Limit) -> &'static str
+/// What there may be only so much of, in one word.
+pub fn limit_word(limit: Limit) -> &'static str
     ensures { result.now ≡ limit_text limit }
 {
     match limit {

@@ -5,6 +5,7 @@
 mod answer;
 mod bounds;
 mod cited;
+mod counted;
 mod edits;
 mod fetching;
 mod full;

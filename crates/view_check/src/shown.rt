@@ -30,9 +30,10 @@ pub fn off_text(
     ensures { IfOk result (λ text. text.items ≡ off_text limits.now refusal.now anew.now) }
 {
     let mut out = refusal_line(alloc, refusal)?;
-    push_line_at(&mut out, line_in(&refusal.cause), &anew.bytes)?;
+    let line = line_in(&refusal.cause);
+    push_line_at(&mut out, line, &anew.bytes)?;
     push_record_at(alloc, &mut out, record_in(&refusal.cause), &anew.bytes)?;
-    push_bound(&mut out, limits, &refusal.cause)?;
+    push_bound(alloc, &mut out, limits, &refusal.cause, line, &anew.bytes)?;
     push_room(alloc, &mut out, limits, &refusal.cause, &anew.bytes)?;
     push_full(&mut out, limits, &refusal.cause, anew)?;
     push_misfit(alloc, &mut out, &refusal.cause, &anew.bytes)?;
