@@ -142,6 +142,7 @@ fetches-viewed {X} {Y} fetching view most x y before after left still is step = 
   faults = step.faults;
   holding = step.holding;
 }
+
 pub fetches-failed : {X Y Z : Type 0} (fetching : Fetching Z) (one : X → Z) (other : Y → Z) (most : ℕ) (stop : Stop) (before after : ShelfTold) (left still : ℕ) → Fetches fetching one most (Err stop) before after left still → Fetches fetching other most (Err stop) before after left still
 fetches-failed {X} {Y} fetching one other most stop before after left still step = record {
   gives = step.gives;
