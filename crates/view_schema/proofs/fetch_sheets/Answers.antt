@@ -1,4 +1,4 @@
-use Rattle.std.proofs.Common.{◌≡◌, Err, refl, sym, subst}
+use Rattle.std.proofs.Common.{◌≡◌, ◌+◌, Err, refl, sym, subst}
 use Rattle.std.proofs.lemmas.Result.{err_from_is_err_and}
 use Rattle.view_schema.specs.SchemaForm.{fetch_sheet}
 use Rattle.cli_output.proofs.EachLoop.{IsUnderWay, under_way-all, under_way-next, under_way-none, under_way-stopped}
