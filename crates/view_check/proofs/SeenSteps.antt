@@ -1,6 +1,5 @@
 -- A project that was read, or was refused and looked at once more.
-use Rattle.std.proofs.Common.{◌≡◌, ◌≢◌, ℕ, ◌+◌, ◌≤◌, Bool, true, false, if◌then◌else◌, List, Option, Some, None, Result, Ok, Err, IfOk, refl, ap, sym, subst, ◌∙◌, arith}
-use Rattle.std.specs.Option.{option_map}
+use Rattle.std.proofs.Common.{◌≡◌, ◌≢◌, ℕ, ◌≤◌, Bool, true, false, if◌then◌else◌, List, Option, Some, None, Result, Ok, Err, IfOk, refl, ap, sym, subst, ◌∙◌, arith}
 use Rattle.text_lists.specs.declared.limits.Limits.{Limits}
 use Rattle.line_grammar.specs.Faults.{GivesUnlessMemory}
 use Rattle.shelf_io.specs.Files.{Files}
@@ -129,6 +128,22 @@ again-fetches limits most fetching result before after still left step = record 
   holding = step.holding;
 }
 
+-- ---- the same in other words
+
+-- at most so many fetches, or more
+pub fetches-at_most : {X Y : Type 0} (fetching : Fetching Y) (view : X → Y) (some more : ℕ) (result : Result X Stop) (before after : ShelfTold) (left still : ℕ) → some ≤ more → Fetches fetching view some result before after left still → Fetches fetching view more result before after left still
+fetches-at_most fetching view some more result before after left still fits step = record {
+  gives = step.gives;
+  told_left = step.told_left;
+  told_fetches = step.told_fetches;
+  absences = step.absences;
+  fetches = omega (arith, step.fetches, fits);
+  read_fault = step.read_fault;
+  calls = step.calls;
+  faults = step.faults;
+  holding = step.holding;
+}
+
 -- a value in other words
 pub fetches-viewed : {X Y : Type 0} (fetching : Fetching Y) (view : X → Y) (most : ℕ) (x : X) (y : Y) (before after : ShelfTold) (left still : ℕ) → y ≡ view x → Fetches fetching view most (Ok x) before after left still → Fetches fetching (λ z. z) most (Ok y) before after left still
 fetches-viewed {X} {Y} fetching view most x y before after left still is step = record {
@@ -142,6 +157,7 @@ fetches-viewed {X} {Y} fetching view most x y before after left still is step = 
   faults = step.faults;
   holding = step.holding;
 }
+
 pub fetches-failed : {X Y Z : Type 0} (fetching : Fetching Z) (one : X → Z) (other : Y → Z) (most : ℕ) (stop : Stop) (before after : ShelfTold) (left still : ℕ) → Fetches fetching one most (Err stop) before after left still → Fetches fetching other most (Err stop) before after left still
 fetches-failed {X} {Y} fetching one other most stop before after left still step = record {
   gives = step.gives;
