@@ -1,6 +1,5 @@
 -- A project that was read, or was refused and looked at once more.
-use Rattle.std.proofs.Common.{◌≡◌, ◌≢◌, ℕ, ◌+◌, ◌≤◌, Bool, true, false, if◌then◌else◌, List, Option, Some, None, Result, Ok, Err, IfOk, refl, ap, sym, subst, ◌∙◌, arith}
-use Rattle.std.specs.Option.{option_map}
+use Rattle.std.proofs.Common.{◌≡◌, ◌≢◌, ℕ, ◌≤◌, Bool, true, false, if◌then◌else◌, List, Option, Some, None, Result, Ok, Err, IfOk, refl, ap, sym, subst, ◌∙◌, arith}
 use Rattle.text_lists.specs.declared.limits.Limits.{Limits}
 use Rattle.line_grammar.specs.Faults.{GivesUnlessMemory}
 use Rattle.shelf_io.specs.Files.{Files}
@@ -124,6 +123,22 @@ again-fetches limits most fetching result before after still left step = record 
   absences = λ files told none. step.absences files told (none_passed (fetching files limits.all_bytes).found none);
   fetches = step.fetches;
   read_fault = λ fault. step.read_fault (fault_again result fault);
+  calls = step.calls;
+  faults = step.faults;
+  holding = step.holding;
+}
+
+-- ---- the same in other words
+
+-- at most so many fetches, or more
+pub fetches-at_most : {X Y : Type 0} (fetching : Fetching Y) (view : X → Y) (some more : ℕ) (result : Result X Stop) (before after : ShelfTold) (left still : ℕ) → some ≤ more → Fetches fetching view some result before after left still → Fetches fetching view more result before after left still
+fetches-at_most fetching view some more result before after left still fits step = record {
+  gives = step.gives;
+  told_left = step.told_left;
+  told_fetches = step.told_fetches;
+  absences = step.absences;
+  fetches = omega (arith, step.fetches, fits);
+  read_fault = step.read_fault;
   calls = step.calls;
   faults = step.faults;
   holding = step.holding;

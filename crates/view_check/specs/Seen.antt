@@ -75,10 +75,14 @@ anew limits project refusal =
 
 -- ---- all of it
 
--- a refusal with what is found anew, unless the file isn't there
+-- a refusal with what is found anew
+unfoldable pub off : Limits → List ℕ → Refusal → Fetching SeenRead
+off limits name refusal = anew limits name refusal >>= λ found. given (Ok (Err (record { refusal = refusal; anew = found })))
+
+-- that, unless the file isn't there
 abbrev pub off_unless : Bool → Limits → List ℕ → Refusal → Fetching SeenRead
 off_unless true limits name refusal = given (Err refusal)
-off_unless false limits name refusal = anew limits name refusal >>= λ found. given (Ok (Err (record { refusal = refusal; anew = found })))
+off_unless false limits name refusal = off limits name refusal
 
 -- a project that was read, or a refusal
 abbrev pub seen_after : Limits → List ℕ → Files → Outcome ProjectRead → OrRefusal ProjectRead → Outcome SeenRead

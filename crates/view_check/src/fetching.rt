@@ -6,7 +6,7 @@ ghost use Rattle.cli_output.specs.Fetching.{Fetches, file};
 ghost use Rattle.cli_output.specs.RuleFiles.{fetch_schema};
 ghost use Rattle.schema_core.specs.Schemas.{IsValidSchema};
 ghost use Rattle.project_forms.specs.Project.{fetch_tables};
-ghost use Rattle.view_check.specs.Seen.{again, all_if, anew, fetch_all, fetch_seen, is_absent, is_full, off_unless, passing_over, seen_of};
+ghost use Rattle.view_check.specs.Seen.{again, all_if, anew, fetch_all, fetch_seen, is_absent, is_full, off, off_unless, passing_over, seen_of};
 
 use cli_output::{Cause, Refusal, Stop, fetch_file, fetch_schema};
 use hash_keys::HashKeys;
@@ -95,9 +95,23 @@ fn fetch_off_unless<S: Shelf>(
     if absent {
         Err(Stop::Refused(refusal))
     } else {
-        let anew = fetch_anew(alloc, shelf, project, &refusal, limits)?;
-        Ok(Seen::Off(Off { refusal, anew }))
+        fetch_off(alloc, shelf, project, refusal, limits)
     }
+}
+
+#[tactic(auto, unfolding(crate::specs::Seen::off))]
+fn fetch_off<S: Shelf>(
+    alloc: Global,
+    shelf: &mut S,
+    project: &Text,
+    refusal: Refusal,
+    limits: &Limits,
+) -> Result<Seen, Stop>
+    requires { AreLimits limits.now }
+    ensures { Fetches (off limits.now project.now refusal) seen_of 67 result (S.told shelf.old) (S.told shelf.new) 0 0 }
+{
+    let anew = fetch_anew(alloc, shelf, project, &refusal, limits)?;
+    Ok(Seen::Off(Off { refusal, anew }))
 }
 
 #[tactic(auto, unfolding(crate::specs::Seen::anew))]

@@ -1,4 +1,3 @@
-use Rattle.std.proofs.Common.{ℕ, Vec}
 use Rattle.cli_output.specs.Fetching.{file}
 use Rattle.view_check.proofs.SeenSteps.{fetches-failed, fetches-viewed}
 use Rattle.view_check.proofs.fetching.fetch_bytes.Goals as goal

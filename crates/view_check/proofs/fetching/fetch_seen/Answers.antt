@@ -1,8 +1,5 @@
-use Rattle.std.proofs.Common.{refl, subst}
-use Rattle.std.specs.Prelude.{Bool}
+use Rattle.std.proofs.Common.{refl}
 use Rattle.cli_output.specs.declared.fetching.Stop.TheVariants.{ReadFault, Memory}
-use Rattle.cli_output.specs.Fetching.{Fetches}
-use Rattle.view_check.specs.Seen.{off_unless, seen_of}
 use Rattle.view_check.proofs.SeenSteps.{seen-refused, seen-stopped, seen-whole}
 use Rattle.view_check.proofs.fetching.fetch_seen.Goals as goal
 
