@@ -83,12 +83,12 @@ seen-stopped limits name stop before after left still none step = record {
 
 -- ---- something once more
 
-none_again : {X : Type 0} (what : List ℕ) (cause : Cause) → NoneIsAbsent {X = Option X} (if is_absent cause then Err (record { what = what; cause = cause }) else Ok None) → cause ≢ Absent
-none_again {X} what cause none = λ is. (subst (λ c. NoneIsAbsent {X = Option X} (if is_absent c then Err (record { what = what; cause = c }) else Ok None)) is none) refl
+none_again : (X : Type 0) (what : List ℕ) (cause : Cause) → NoneIsAbsent {X = Option X} (if is_absent cause then Err (record { what = what; cause = cause }) else Ok None) → cause ≢ Absent
+none_again X what cause none = λ is. (subst (λ c. NoneIsAbsent {X = Option X} (if is_absent c then Err (record { what = what; cause = c }) else Ok None)) is none) refl
 
 none_passed : {X : Type 0} (found : OrRefusal X) → NoneIsAbsent (passed_over found) → NoneIsAbsent found
 none_passed (Ok x) none = tt
-none_passed {X} (Err refusal) none = none_again {X = X} refusal.what refusal.cause none
+none_passed {X} (Err refusal) none = none_again X refusal.what refusal.cause none
 
 gives_again : {X : Type 0} (found : OrRefusal X) (result : Result X Stop) → GivesUnlessMemory refusal_in found (λ x. x) result → GivesUnlessMemory refusal_in (passed_over found) (λ x. x) (passing_over result)
 gives_again found (Ok x) is = ap passed_over is
