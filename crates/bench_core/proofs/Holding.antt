@@ -13,11 +13,6 @@ use Rattle.edit_log.specs.declared.change.Change.{Change}
 use Rattle.edit_log.specs.Journal.{Journal, last_change, first_change}
 use Rattle.edit_log.specs.Log.{MovesBack, MovesForward}
 use Rattle.value_pool.specs.Pool.{KeepsIds}
-use Rattle.std.specs.Result.{IsErrAnd}
-use Rattle.bench_core.specs.declared.edit.UndoFault.{UndoFault}
-use Rattle.bench_core.specs.declared.edit.RedoFault.{RedoFault}
-use Rattle.bench_core.specs.declared.edit.UndoFault.TheVariants as undo_fault
-use Rattle.bench_core.specs.declared.edit.RedoFault.TheVariants as redo_fault
 use Rattle.bench_core.specs.State.{State, IsTableState}
 use Rattle.edit_log.specs.declared.edit.Edit.{Edit}
 use Rattle.bench_core.specs.Edited.{edited}
@@ -72,14 +67,6 @@ pub some-first : (undone : List Change) (change : Change) → first_change undon
 some-first undone change is none = none-some change (sym (ap first_change none) ∙ is)
 
 -- ---- results and tuples
-
-pub not-nothing-to-undo : (result : Result (Unit {0}) UndoFault) → IsErrAnd result (λ e. e ≡ undo_fault.Memory) → result ≡ Err undo_fault.NothingToUndo → ⊥
-not-nothing-to-undo (Ok done) memory is = memory
-not-nothing-to-undo (Err e) memory is = absurd (cc)
-
-pub not-nothing-to-redo : (result : Result (Unit {0}) RedoFault) → IsErrAnd result (λ e. e ≡ redo_fault.Memory) → result ≡ Err redo_fault.NothingToRedo → ⊥
-not-nothing-to-redo (Ok done) memory is = memory
-not-nothing-to-redo (Err e) memory is = absurd (cc)
 
 pub ok-weaker : {X E : Type 0} (P Q : X → Type 0) (result : Result X E) → ((x : X) → P x → Q x) → IfOk result P → IfOk result Q
 ok-weaker P Q (Ok x) weaker holds = weaker x holds
@@ -275,18 +262,17 @@ same-stored one other rows next = λ i. record { rows = rows i; next = next i }
 pub all-there : (P : Stored → Type 0) (tables : List Stored) (n : ℕ) (table : Stored) → All P tables → slice_get tables n ≡ Some table → P table
 all-there P tables n table all is = subst P (get_or_from_slice_get tables n table table is) (all n table (slice_get_within tables n table is))
 
-row-small : (old : Option Tuple) (row next : ℕ) → CanGive old row next → row ≤ next
+pub row-small : (old : Option Tuple) (row next : ℕ) → CanGive old row next → row ≤ next
 row-small None row next is = omega arith
 row-small (Some tuple) row next is = omega arith
 
 -- the id of a row is far from the last number
-pub id-left : (rules : Book) (limits : Limits) (texts : List (List ℕ)) (tables : List Stored) (n : ℕ) (table : Stored) (change : Change) → IsBench rules limits (state_of texts tables) → slice_get tables n ≡ Some table → CanMake change table → change.row + 1 < 2 ^ 64
-id-left rules limits texts tables n table change bench at can =
+pub id-left : (rules : Book) (limits : Limits) (texts : List (List ℕ)) (tables : List Stored) (n : ℕ) (table : Stored) (row : ℕ) → IsBench rules limits (state_of texts tables) → slice_get tables n ≡ Some table → row ≤ table.next → row + 1 < 2 ^ 64
+id-left rules limits texts tables n table row bench at small =
     let there = state-there texts n tables table at in
     let inside = slice_get_within (state_of texts tables) n (table_state texts table) there in
     let (declared, found, holds) = side_by_side (IsTableState limits.cell_bytes limits.last_id) rules.schema.tables (state_of texts tables) n (table_state texts table) bench.tables inside in
     let state = subst (IsTableState limits.cell_bytes limits.last_id declared) (get_or_from_slice_get (state_of texts tables) n (table_state texts table) (table_state texts table) there) holds in
-    let small = row-small change.old change.row table.next can.next in
     let most = bench.allowed.last_id in
     let next = state.next.1 in
     omega arith

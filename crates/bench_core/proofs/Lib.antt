@@ -29,3 +29,4 @@ pub mod DirtyByIds
 pub mod DirtyRenamed
 pub mod Walked
 pub mod ProbesOfLoad
+pub mod Turning

@@ -16,6 +16,7 @@ ghost use Rattle.bench_core.specs.Indexed.{AreOfTheChange, edit_probes, load_pro
 ghost use Rattle.bench_core.specs.declared.edit.RedoFault.TheVariants as redo_fault;
 ghost use Rattle.bench_core.specs.declared.edit.UndoFault.TheVariants as undo_fault;
 
+use crate::changes::Direction;
 use crate::edit::{Applied, EditFault, LoadFault, RedoFault, UndoFault};
 use crate::project::Project;
 use bench_index::AllIndexes;
@@ -101,7 +102,10 @@ impl Bench {
         ensures valid { IsHistory self.new.rules self.new.limits self.new.history }
         ensures probes { AreOfTheChange self.old.rules self.old.history.present (last_past self.old.history) steps.old steps.new }
     {
-        self.project.undo(&mut self.index, steps)
+        match self.project.step(&mut self.index, Direction::Back, steps)? {
+            true => Ok(()),
+            false => Err(UndoFault::NothingToUndo),
+        }
     }
 
     /// Makes the edit again that was undone last, with as few probes.
@@ -113,7 +117,13 @@ impl Bench {
         ensures valid { IsHistory self.new.rules self.new.limits self.new.history }
         ensures probes { AreOfTheChange self.old.rules self.old.history.present (first_undone self.old.history) steps.old steps.new }
     {
-        self.project.redo(&mut self.index, steps)
+        match self
+            .project
+            .step(&mut self.index, Direction::Forward, steps)?
+        {
+            true => Ok(()),
+            false => Err(RedoFault::NothingToRedo),
+        }
     }
 
     pub fn rules(&self) -> &RuleBook
@@ -121,6 +131,13 @@ impl Bench {
         ensures valid { IsHistory self.now.rules self.now.limits self.now.history }
     {
         &self.project.rules
+    }
+
+    /// How many tables there are.
+    pub fn table_count(&self) -> usize
+        ensures { result ≡ length self.now.history.present }
+    {
+        self.project.stores.len()
     }
 
     /// The texts that the value ids of all stored tuples name.

@@ -1,26 +1,23 @@
 //! What a bench holds: rules, limits, stored tables, and the log of their changes.
 
-ghost use Rattle.std.specs.Prelude.{◌≡◌, ◌↔◌, ◌+◌, ◌<◌, ◌≤◌, Err, Some, length, map, slice_get, IsSomeAnd, IfOk, OnErr, OnOk};
+ghost use Rattle.std.specs.Prelude.{◌≡◌, ◌+◌, ◌<◌, ◌≤◌, Ok, Some, false, length, map, slice_get, IsSomeAnd, IfOk, OnErr, OnOk};
 ghost use Rattle.schema_core.specs.Schemas.{table_place};
 ghost use Rattle.line_grammar.specs.Faults.{GivesUnlessMemory};
 ghost use Rattle.row_store.specs.Tuple.{ids_if};
 ghost use Rattle.row_store.specs.Watches.{with_row};
-ghost use Rattle.edit_log.specs.Journal.{first_change, last_change};
-ghost use Rattle.edit_log.specs.Log.{MovesBack, MovesForward};
 ghost use Rattle.bench_core.specs.State.{rows_at};
 ghost use Rattle.bench_core.specs.Edited.{edited, name_of_table, refusal_of};
-ghost use Rattle.bench_core.specs.History.{HasNoPast, HasNothingUndone, IsRedone, IsUndone, accepted, first_undone, history_edited, last_past};
-ghost use Rattle.bench_core.specs.Stored.{state_of};
+ghost use Rattle.bench_core.specs.History.{accepted, history_edited};
+ghost use Rattle.bench_core.specs.Stored.{state_of, stored};
 ghost use Rattle.bench_core.specs.Changes.{CanMake, IsChange, made_again, told_of};
 ghost use Rattle.bench_index.specs.declared.all_indexes.AllIndexes.{AllIndexes as Indexes};
 ghost use Rattle.bench_index.specs.AllIndexes.{most_probes};
 ghost use Rattle.bench_core.specs.Bench.{AtTable, IsBench, IsHeld, history, present_of, tables_of};
+ghost use Rattle.bench_core.specs.Turns.{AreCountedThen, CanBeTurned, HasNoNext, HasStepped, next_state, tuple_after, turned_all};
 ghost use Rattle.bench_core.specs.Indexed.{AreOfTheChange, IsInStepWith, IsIndexed, edit_probes, tuples_of};
-ghost use Rattle.bench_core.specs.declared.edit.RedoFault.TheVariants as redo_fault;
-ghost use Rattle.bench_core.specs.declared.edit.UndoFault.TheVariants as undo_fault;
 
-use crate::changes::{follow_back, follow_change, make, take_back};
-use crate::edit::{Applied, EditFault, RedoFault, UndoFault};
+use crate::changes::{Direction, follow_change, move_log, next_change, tuple_after, turn};
+use crate::edit::{Applied, EditFault};
 use crate::sizes::Counts;
 use crate::target::Target;
 use crate::tuples::{shared, texts_of};
@@ -66,18 +63,34 @@ fn told_of(change: &Change) -> Applied
     }
 }
 
-/// Moves the last past change to the undone ones.
-fn step_back(log: &mut Log)
-    ensures { MovesBack (last_change log.old.past) log.old log.new }
+/// Makes room for one more row of the table.
+fn make_room(stores: &mut Vec<RowStore>, table: usize) -> Result<(), AllocError>
+    requires { table < length stores.old.items }
+    ensures room { OnOk result (IsSomeAnd (slice_get stores.new.items table) (λ store. 0 < store.spare)) }
+    ensures same { map stored stores.new.items ≡ map stored stores.old.items }
 {
-    log.back();
+    stores[table].ready_insert()
 }
 
-/// Moves the next undone change to the past ones.
-fn step_forward(log: &mut Log)
-    ensures { MovesForward (first_change log.old.undone) log.old log.new }
+/// Turns the table of a change into what it is then, and the numbers with it. `tuple` is what the row then has.
+fn turn_counted(
+    stores: &mut Vec<RowStore>,
+    counts: &mut Counts,
+    change: &Change,
+    direction: Direction,
+    tuple: Option<Tuple>,
+)
+    requires turn { CanBeTurned direction change.now (map stored stores.old.items) counts.old }
+    requires room { IsSomeAnd (slice_get stores.old.items change.now.table) (λ store. 0 < store.spare) }
+    requires same { ids_if tuple ≡ ids_if (tuple_after direction change.now) }
+    ensures tables { map stored stores.new.items ≡ turned_all direction change.now (map stored stores.old.items) }
+    ensures counts { AreCountedThen direction change.now (map stored stores.old.items) counts.old counts.new }
 {
-    log.forward();
+    let store = &mut stores[change.table];
+    let before = store.len() as u64;
+    turn(store, change, direction, tuple);
+    let after = store.len() as u64;
+    counts.recount(change.table, before, after);
 }
 
 impl Project {
@@ -127,9 +140,9 @@ impl Project {
     {
         let change = self.planned(number, edit)?;
         let new = shared(&change.new)?;
-        self.stores[number].ready_insert()?;
+        make_room(&mut self.stores, number)?;
         self.log.ready()?;
-        follow_change(index, &self.rules, &change, steps)?;
+        follow_change(index, &self.rules, &change, Direction::Forward, steps)?;
         Ok(self.done(change, new))
     }
 
@@ -174,75 +187,39 @@ impl Project {
         ensures indexed { (index : Indexes) → IsIndexed self.old.rules self.old.pool (with_row (tuples_of (tables_of self.old)) change.table change.row (ids_if change.new)) index → IsInStepWith self.new index }
     {
         let told = told_of(&change);
-        let store = &mut self.stores[change.table];
-        let before = store.len() as u64;
-        make(store, &change, new);
-        let after = store.len() as u64;
-        self.counts.recount(change.table, before, after);
+        let (stores, counts) = (&mut self.stores, &mut self.counts);
+        turn_counted(stores, counts, &change, Direction::Forward, new);
         self.log.push_ready(change);
         told
     }
 
-    /// Takes the last past change back. The indexes follow its row.
-    pub(crate) fn undo<L: Ledger>(
+    /// Takes the last past change back, or makes the next undone one again, if there is one. The indexes follow its row.
+    pub(crate) fn step<L: Ledger>(
         &mut self,
         index: &mut AllIndexes,
+        direction: Direction,
         steps: &mut Steps<L>,
-    ) -> Result<(), UndoFault>
+    ) -> Result<bool, AllocError>
         requires held { IsHeld self.old }
         requires indexed { IsInStepWith self.old index.old }
         ensures held { IsHeld self.new }
         ensures indexed { IsInStepWith self.new index.new }
-        ensures undone { OnOk result (IsUndone (history self.old) (history self.new)) }
-        ensures nothing { result ≡ Err undo_fault.NothingToUndo ↔ HasNoPast (history self.old) }
+        ensures stepped { IfOk result (λ found. HasStepped found direction (history self.old) (history self.new)) }
+        ensures nothing { HasNoNext direction (history self.old) → result ≡ Ok false }
         ensures made_with { (self.new.rules ≡ self.old.rules) × (self.new.limits ≡ self.old.limits) }
         ensures unchanged { OnErr result (history self.new ≡ history self.old) }
-        ensures probes { AreOfTheChange self.old.rules (present_of self.old) (last_past (history self.old)) steps.old steps.new }
+        ensures probes { AreOfTheChange self.old.rules (present_of self.old) (next_state direction (history self.old)) steps.old steps.new }
     {
-        let Some(change) = self.log.last() else {
-            return Err(UndoFault::NothingToUndo);
+        let Some(change) = next_change(&self.log, direction) else {
+            return Ok(false);
         };
-        let old = shared(&change.old)?;
-        let store = &mut self.stores[change.table];
-        store.ready_insert()?;
-        follow_back(index, &self.rules, change, steps)?;
-        let before = store.len() as u64;
-        take_back(store, change, old);
-        let after = store.len() as u64;
-        self.counts.recount(change.table, before, after);
-        step_back(&mut self.log);
-        Ok(())
-    }
-
-    /// Makes the next undone change again. The indexes follow its row.
-    pub(crate) fn redo<L: Ledger>(
-        &mut self,
-        index: &mut AllIndexes,
-        steps: &mut Steps<L>,
-    ) -> Result<(), RedoFault>
-        requires held { IsHeld self.old }
-        requires indexed { IsInStepWith self.old index.old }
-        ensures held { IsHeld self.new }
-        ensures indexed { IsInStepWith self.new index.new }
-        ensures redone { OnOk result (IsRedone (history self.old) (history self.new)) }
-        ensures nothing { result ≡ Err redo_fault.NothingToRedo ↔ HasNothingUndone (history self.old) }
-        ensures made_with { (self.new.rules ≡ self.old.rules) × (self.new.limits ≡ self.old.limits) }
-        ensures unchanged { OnErr result (history self.new ≡ history self.old) }
-        ensures probes { AreOfTheChange self.old.rules (present_of self.old) (first_undone (history self.old)) steps.old steps.new }
-    {
-        let Some(change) = self.log.next() else {
-            return Err(RedoFault::NothingToRedo);
-        };
-        let new = shared(&change.new)?;
-        let store = &mut self.stores[change.table];
-        store.ready_insert()?;
-        follow_change(index, &self.rules, change, steps)?;
-        let before = store.len() as u64;
-        make(store, change, new);
-        let after = store.len() as u64;
-        self.counts.recount(change.table, before, after);
-        step_forward(&mut self.log);
-        Ok(())
+        let tuple = shared(tuple_after(change, direction))?;
+        make_room(&mut self.stores, change.table)?;
+        follow_change(index, &self.rules, change, direction, steps)?;
+        let (stores, counts) = (&mut self.stores, &mut self.counts);
+        turn_counted(stores, counts, change, direction, tuple);
+        move_log(&mut self.log, direction);
+        Ok(true)
     }
 
     /// The rows of a table with their texts, by rising ids.

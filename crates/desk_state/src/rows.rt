@@ -51,7 +51,7 @@ pub(crate) fn row_texts(
 ) -> Result<Option<Texts>, AllocError>
     ensures { IfOk result (λ texts. texts ≡ row_texts bench.now.history.present table row) }
 {
-    if table >= bench.rules().schema().tables.as_slice().len() {
+    if table >= bench.table_count() {
         return Ok(None);
     }
     match bench.store(table).get(row) {

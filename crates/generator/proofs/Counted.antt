@@ -4,11 +4,7 @@ use Rattle.std.specs.FinMap as finmap
 use Rattle.std.specs.List.{slice_get}
 use Rattle.std.specs.Option.{option_map_or}
 use Rattle.std.proofs.lemmas.List.{length-map}
-use Rattle.std.proofs.lemmas.Slice.Zip.{AllZip-long}
-use Rattle.text_lists.specs.declared.limits.Limits.{Limits}
-use Rattle.rule_model.specs.Books.{Book}
-use Rattle.bench_core.specs.Bench.{IsBench}
-use Rattle.bench_core.specs.State.{IsTableState, State, TableState, rows_at}
+use Rattle.bench_core.specs.State.{State, TableState, rows_at}
 use Rattle.bench_core.specs.Stored.{Stored, row_of, table_state}
 
 -- as many as are stored
@@ -18,7 +14,6 @@ rows_counted state texts table count there is =
     ∙ ap (λ (o : Option TableState). length (option_map_or (λ (t : TableState). t.rows) o [])) (sym there)
 
 -- none, where there is no table
-pub none_counted : (book : Book) (limits : Limits) (state : State) → IsBench book limits state → length book.schema.tables ≤ 0 → 0 ≡ length (rows_at state 0)
-none_counted book limits [] bench none = refl
-none_counted book limits (table ∷ tables) bench none =
-    absurd (omega (arith, AllZip-long (IsTableState limits.cell_bytes limits.last_id) book.schema.tables (table ∷ tables) bench.tables))
+pub none_counted : (state : State) → length state ≤ 0 → 0 ≡ length (rows_at state 0)
+none_counted [] none = refl
+none_counted (table ∷ tables) none = absurd (omega arith)

@@ -111,8 +111,11 @@ fn make<L: Ledger>(
 fn row_count(bench: &Bench) -> usize
     ensures { result ≡ length (rows_at bench.now.history.present 0) }
 {
-    let tables = bench.rules().schema().tables.as_slice().len();
-    if 0 < tables { bench.store(0).len() } else { 0 }
+    if 0 < bench.table_count() {
+        bench.store(0).len()
+    } else {
+        0
+    }
 }
 
 fn push_at(out: &mut Vec<u8>, made: u64, rows: usize, lines: usize) -> Result<(), AllocError>

@@ -12,17 +12,11 @@ pub fn all_rows(alloc: Global, bench: &Bench) -> Result<List<List<Texts>>, Alloc
     ensures { IfOk result (λ all. all ≡ all_rows bench.now.history.present) }
 {
     let mut all = List::new(alloc);
-    for table in 0..table_count(bench) {
+    for table in 0..bench.table_count() {
         let rows = rows_of(alloc, bench, table)?;
         all.push(rows)?;
     }
     Ok(all)
-}
-
-fn table_count(bench: &Bench) -> usize
-    ensures { result ≡ length bench.now.history.present }
-{
-    bench.rules().schema().tables.as_slice().len()
 }
 
 fn rows_of(alloc: Global, bench: &Bench, table: usize) -> Result<List<Texts>, AllocError>

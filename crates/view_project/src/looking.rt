@@ -54,19 +54,12 @@ fn bench_of<L: Ledger>(
 pub fn counts_of(alloc: Global, bench: &Bench) -> Result<List<u64>, AllocError>
     ensures { IfOk result (λ counts. counts ≡ counts_of bench.now.history.present) }
 {
-    let tables = table_count(bench);
+    let tables = bench.table_count();
     let mut counts = List::new(alloc);
     for table in 0..tables {
         counts.push(count_of(bench, table))?;
     }
     Ok(counts)
-}
-
-/// How many tables there are.
-fn table_count(bench: &Bench) -> usize
-    ensures { result ≡ length bench.now.history.present }
-{
-    bench.rules().schema().tables.as_slice().len()
 }
 
 fn count_of(bench: &Bench, table: usize) -> u64

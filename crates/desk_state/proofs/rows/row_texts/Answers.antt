@@ -1,21 +1,12 @@
-use Rattle.std.proofs.Common.{◌<◌, length, map, Some, ap, arith, subst, sym, ◌∙◌}
-use Rattle.std.proofs.lemmas.Slice.Zip.{AllZip-long}
+use Rattle.std.proofs.Common.{◌≤◌, map, Some, ap, subst, sym, ◌∙◌}
 use Rattle.row_store.specs.Tuple.{ids_of}
 use Rattle.bench_core.specs.Stored.{HaveTexts, stored, table_state, text_of}
 use Rattle.bench_core.proofs.Planned.{have-texts, texts-absent, texts-there}
 use Rattle.desk_state.proofs.RowFound.{none-beyond, texts-at}
 use Rattle.desk_state.proofs.rows.row_texts.Goals as goal
 
-pub returns-then-table-as_slice : goal.returns-then-table-as_slice
-returns-then-table-as_slice c =
-    let beyond = rw (c.as_slice.ensures, c.schema.ensures.schema, c.rules.ensures.value) at c.if-table-as_slice.true in
-    none-beyond c.args.bench.now.history.present c.args.table c.args.row (rw (AllZip-long _ _ _ c.rules.ensures.valid.present.tables) beyond)
-
-pub store-requires : goal.store-requires
-store-requires c =
-    let short : c.args.table < length c.as_slice.result.now = omega (arith, c.if-table-as_slice.false) in
-    let within = rw (c.as_slice.ensures, c.schema.ensures.schema, c.rules.ensures.value) at short in
-    rw (AllZip-long _ _ _ c.rules.ensures.valid.present.tables) within
+pub returns-then-table-table_count : goal.returns-then-table-table_count
+returns-then-table-table_count c = none-beyond c.args.bench.now.history.present c.args.table c.args.row (subst (λ n. n ≤ c.args.table) c.table_count.ensures c.if-table-table_count.true)
 
 pub texts_of-requires : goal.texts_of-requires
 texts_of-requires c =

@@ -5,7 +5,7 @@ use Rattle.bench_core.specs.History.{accepted}
 use Rattle.bench_core.specs.Stored.{state_of}
 use Rattle.bench_core.specs.Changes.{CanMake, history_of, made_again, told_of}
 use Rattle.bench_core.specs.Bench.{Holds, IsBench, tables_of, history}
-use Rattle.bench_core.proofs.Holding.{on-err, same-stored, stored-same, held-log, set-there, there-within, history-edited-is}
+use Rattle.bench_core.proofs.Holding.{on-err, held-log, history-edited-is}
 use Rattle.bench_core.specs.Indexed.{IsIndexed, tuples_of}
 use Rattle.bench_index.specs.AllIndexes.{most_probes}
 use Rattle.bench_core.proofs.InStepWith.{indexed-refused}
@@ -14,54 +14,42 @@ use Rattle.row_store.specs.Watches.{with_row}
 use Rattle.row_store.specs.Tuple.{ids_if}
 use Rattle.bench_core.proofs.project.Project.edit_table.Goals as goal
 
-pub returns-in_err-ready_insert-clause-held : goal.returns-in_err-ready_insert-clause-held
-returns-in_err-ready_insert-clause-held g c =
-    let same = stored-same c.planned.new.self.stores.items c.args.number c.index_mut.result.now c.ready_insert.new.self c.index_mut.ensures.value (same-stored c.ready_insert.new.self c.index_mut.result.now c.ready_insert.ensures.rows c.ready_insert.ensures.next) in
-    subst (λ tables. Holds c.planned.new.self.rules c.planned.new.self.limits c.planned.new.self.pool c.planned.new.self.log tables c.planned.new.self.counts.weights.items c.planned.new.self.counts.rows c.planned.new.self.counts.cells) (sym same) c.in_ok-change.ensures.held
+pub returns-in_err-make_room-clause-held : goal.returns-in_err-make_room-clause-held
+returns-in_err-make_room-clause-held g c =
+    subst (λ tables. Holds c.planned.new.self.rules c.planned.new.self.limits c.planned.new.self.pool c.planned.new.self.log tables c.planned.new.self.counts.weights.items c.planned.new.self.counts.rows c.planned.new.self.counts.cells) (sym c.make_room.ensures.same) c.in_ok-change.ensures.held
 
-pub returns-in_err-ready_insert-clause-unchanged : goal.returns-in_err-ready_insert-clause-unchanged
-returns-in_err-ready_insert-clause-unchanged g c =
-    let same = stored-same c.planned.new.self.stores.items c.args.number c.index_mut.result.now c.ready_insert.new.self c.index_mut.ensures.value (same-stored c.ready_insert.new.self c.index_mut.result.now c.ready_insert.ensures.rows c.ready_insert.ensures.next) in
-    on-err c.from_residual-in_err-ready_insert.result _ (ap (history_of c.planned.new.self.pool c.planned.new.self.log.past c.planned.new.self.log.undone) same ∙ c.in_ok-change.ensures.history)
+pub returns-in_err-make_room-clause-unchanged : goal.returns-in_err-make_room-clause-unchanged
+returns-in_err-make_room-clause-unchanged g c =
+    on-err c.from_residual-in_err-make_room.result _ (ap (history_of c.planned.new.self.pool c.planned.new.self.log.past c.planned.new.self.log.undone) c.make_room.ensures.same ∙ c.in_ok-change.ensures.history)
 
 pub returns-in_err-ready-clause-held : goal.returns-in_err-ready-clause-held
 returns-in_err-ready-clause-held g c =
-    let same = stored-same c.planned.new.self.stores.items c.args.number c.index_mut.result.now c.ready_insert.new.self c.index_mut.ensures.value (same-stored c.ready_insert.new.self c.index_mut.result.now c.ready_insert.ensures.rows c.ready_insert.ensures.next) in
-    subst (λ tables. Holds c.planned.new.self.rules c.planned.new.self.limits c.planned.new.self.pool c.ready.new.self tables c.planned.new.self.counts.weights.items c.planned.new.self.counts.rows c.planned.new.self.counts.cells) (sym same) (held-log c.ready.new.self c.ready.ensures.past c.ready.ensures.undone c.in_ok-change.ensures.held)
+    subst (λ tables. Holds c.planned.new.self.rules c.planned.new.self.limits c.planned.new.self.pool c.ready.new.self tables c.planned.new.self.counts.weights.items c.planned.new.self.counts.rows c.planned.new.self.counts.cells) (sym c.make_room.ensures.same) (held-log c.ready.new.self c.ready.ensures.past c.ready.ensures.undone c.in_ok-change.ensures.held)
 
 pub returns-in_err-ready-clause-unchanged : goal.returns-in_err-ready-clause-unchanged
 returns-in_err-ready-clause-unchanged g c =
-    let same = stored-same c.planned.new.self.stores.items c.args.number c.index_mut.result.now c.ready_insert.new.self c.index_mut.ensures.value (same-stored c.ready_insert.new.self c.index_mut.result.now c.ready_insert.ensures.rows c.ready_insert.ensures.next) in
-    on-err c.from_residual-in_err-ready.result _ ((λ i. history_of c.planned.new.self.pool (c.ready.ensures.past i) (c.ready.ensures.undone i) (same i)) ∙ c.in_ok-change.ensures.history)
+    on-err c.from_residual-in_err-ready.result _ ((λ i. history_of c.planned.new.self.pool (c.ready.ensures.past i) (c.ready.ensures.undone i) (c.make_room.ensures.same i)) ∙ c.in_ok-change.ensures.history)
 
 pub done-requires-clause-held : goal.done-requires-clause-held
 done-requires-clause-held g c =
-    let same = stored-same c.planned.new.self.stores.items c.args.number c.index_mut.result.now c.ready_insert.new.self c.index_mut.ensures.value (same-stored c.ready_insert.new.self c.index_mut.result.now c.ready_insert.ensures.rows c.ready_insert.ensures.next) in
-    subst (λ tables. Holds c.planned.new.self.rules c.planned.new.self.limits c.planned.new.self.pool c.ready.new.self tables c.planned.new.self.counts.weights.items c.planned.new.self.counts.rows c.planned.new.self.counts.cells) (sym same) (held-log c.ready.new.self c.ready.ensures.past c.ready.ensures.undone c.in_ok-change.ensures.held)
+    subst (λ tables. Holds c.planned.new.self.rules c.planned.new.self.limits c.planned.new.self.pool c.ready.new.self tables c.planned.new.self.counts.weights.items c.planned.new.self.counts.rows c.planned.new.self.counts.cells) (sym c.make_room.ensures.same) (held-log c.ready.new.self c.ready.ensures.past c.ready.ensures.undone c.in_ok-change.ensures.held)
 
 pub done-requires-clause-can : goal.done-requires-clause-can
 done-requires-clause-can g c =
-    let same = stored-same c.planned.new.self.stores.items c.args.number c.index_mut.result.now c.ready_insert.new.self c.index_mut.ensures.value (same-stored c.ready_insert.new.self c.index_mut.result.now c.ready_insert.ensures.rows c.ready_insert.ensures.next) in
-    subst (λ tables. IsSomeAnd (slice_get tables c.in_ok-change.change.table) (CanMake c.in_ok-change.change)) (sym same) c.in_ok-change.ensures.can
+    subst (λ tables. IsSomeAnd (slice_get tables c.in_ok-change.change.table) (CanMake c.in_ok-change.change)) (sym c.make_room.ensures.same) c.in_ok-change.ensures.can
 
 pub done-requires-clause-within : goal.done-requires-clause-within
 done-requires-clause-within g c =
-    let same = stored-same c.planned.new.self.stores.items c.args.number c.index_mut.result.now c.ready_insert.new.self c.index_mut.ensures.value (same-stored c.ready_insert.new.self c.index_mut.result.now c.ready_insert.ensures.rows c.ready_insert.ensures.next) in
-    subst (λ tables. IsBench c.planned.new.self.rules c.planned.new.self.limits (state_of c.planned.new.self.pool (made_again c.in_ok-change.change tables))) (sym same) c.in_ok-change.ensures.within
+    subst (λ tables. IsBench c.planned.new.self.rules c.planned.new.self.limits (state_of c.planned.new.self.pool (made_again c.in_ok-change.change tables))) (sym c.make_room.ensures.same) c.in_ok-change.ensures.within
 
 pub done-requires-clause-room : goal.done-requires-clause-room
 done-requires-clause-room g c =
-    let number = c.in_ok-change.ensures.number in
-    let place : c.in_ok-change.change.table < length c.planned.new.self.stores.items = rw length-map at (there-within (CanMake c.in_ok-change.change) (tables_of c.planned.new.self) c.in_ok-change.change.table c.in_ok-change.ensures.can) in
-    let inside : c.args.number < length c.planned.new.self.stores.items = rw number at place in
-    subst (λ n. IsSomeAnd (slice_get (slice_set c.planned.new.self.stores.items c.args.number c.ready_insert.new.self) n) (λ store. 0 < store.spare)) (sym number)
-    (set-there (λ store. 0 < store.spare) c.planned.new.self.stores.items c.args.number c.ready_insert.new.self inside c.in_ok-ready_insert.ensures.ready)
+    subst (λ n. IsSomeAnd (slice_get c.make_room.new.stores.items n) (λ store. 0 < store.spare)) (sym c.in_ok-change.ensures.number) c.in_ok-make_room.ensures.room
 
 pub returns-clause-edited : goal.returns-clause-edited
 returns-clause-edited g c =
-    let same = stored-same c.planned.new.self.stores.items c.args.number c.index_mut.result.now c.ready_insert.new.self c.index_mut.ensures.value (same-stored c.ready_insert.new.self c.index_mut.result.now c.ready_insert.ensures.rows c.ready_insert.ensures.next) in
-    let before = (λ i. history_of c.planned.new.self.pool (c.ready.ensures.past i) (c.ready.ensures.undone i) (same i)) ∙ c.in_ok-change.ensures.history in
-    let after = c.done.ensures.history ∙ (λ i. accepted (before i) (state_of c.planned.new.self.pool (made_again c.in_ok-change.change (same i)))) in
+    let before = (λ i. history_of c.planned.new.self.pool (c.ready.ensures.past i) (c.ready.ensures.undone i) (c.make_room.ensures.same i)) ∙ c.in_ok-change.ensures.history in
+    let after = c.done.ensures.history ∙ (λ i. accepted (before i) (state_of c.planned.new.self.pool (made_again c.in_ok-change.change (c.make_room.ensures.same i)))) in
     let told = c.done.ensures.told in
     history-edited-is c.args.self.now.rules c.args.self.now.limits (history c.args.self.now) c.args.edit.now (state_of c.planned.new.self.pool (made_again c.in_ok-change.change (tables_of c.planned.new.self))) (told_of c.in_ok-change.change) c.in_ok-change.ensures.edited
     ∙ (λ i. Ok (sym after i, sym told i))
@@ -72,33 +60,28 @@ returns-in_err-change-clause-indexed g c = c.in_err-change.ensures.indexed c.arg
 pub returns-in_err-new-clause-indexed : goal.returns-in_err-new-clause-indexed
 returns-in_err-new-clause-indexed g c = c.in_ok-change.ensures.indexed c.args.index.now c.requires.indexed
 
-pub returns-in_err-ready_insert-clause-indexed : goal.returns-in_err-ready_insert-clause-indexed
-returns-in_err-ready_insert-clause-indexed g c =
-    let same = stored-same c.planned.new.self.stores.items c.args.number c.index_mut.result.now c.ready_insert.new.self c.index_mut.ensures.value (same-stored c.ready_insert.new.self c.index_mut.result.now c.ready_insert.ensures.rows c.ready_insert.ensures.next) in
-    subst (λ tables. IsIndexed c.planned.new.self.rules c.planned.new.self.pool (tuples_of tables) c.args.index.now) (sym same) (c.in_ok-change.ensures.indexed c.args.index.now c.requires.indexed)
+pub returns-in_err-make_room-clause-indexed : goal.returns-in_err-make_room-clause-indexed
+returns-in_err-make_room-clause-indexed g c =
+    subst (λ tables. IsIndexed c.planned.new.self.rules c.planned.new.self.pool (tuples_of tables) c.args.index.now) (sym c.make_room.ensures.same) (c.in_ok-change.ensures.indexed c.args.index.now c.requires.indexed)
 
 pub returns-in_err-ready-clause-indexed : goal.returns-in_err-ready-clause-indexed
 returns-in_err-ready-clause-indexed g c =
-    let same = stored-same c.planned.new.self.stores.items c.args.number c.index_mut.result.now c.ready_insert.new.self c.index_mut.ensures.value (same-stored c.ready_insert.new.self c.index_mut.result.now c.ready_insert.ensures.rows c.ready_insert.ensures.next) in
-    subst (λ tables. IsIndexed c.planned.new.self.rules c.planned.new.self.pool (tuples_of tables) c.args.index.now) (sym same) (c.in_ok-change.ensures.indexed c.args.index.now c.requires.indexed)
+    subst (λ tables. IsIndexed c.planned.new.self.rules c.planned.new.self.pool (tuples_of tables) c.args.index.now) (sym c.make_room.ensures.same) (c.in_ok-change.ensures.indexed c.args.index.now c.requires.indexed)
 
 pub follow_change-requires : goal.follow_change-requires
 follow_change-requires g c = forward-can (tables_of c.planned.new.self) c.in_ok-change.ensures.held.history.present (c.in_ok-change.ensures.indexed c.args.index.now c.requires.indexed) c.in_ok-change.change c.in_ok-change.ensures.can c.in_ok-change.ensures.within
 
 pub returns-in_err-follow_change-clause-held : goal.returns-in_err-follow_change-clause-held
 returns-in_err-follow_change-clause-held g c =
-    let same = stored-same c.planned.new.self.stores.items c.args.number c.index_mut.result.now c.ready_insert.new.self c.index_mut.ensures.value (same-stored c.ready_insert.new.self c.index_mut.result.now c.ready_insert.ensures.rows c.ready_insert.ensures.next) in
-    subst (λ tables. Holds c.planned.new.self.rules c.planned.new.self.limits c.planned.new.self.pool c.ready.new.self tables c.planned.new.self.counts.weights.items c.planned.new.self.counts.rows c.planned.new.self.counts.cells) (sym same) (held-log c.ready.new.self c.ready.ensures.past c.ready.ensures.undone c.in_ok-change.ensures.held)
+    subst (λ tables. Holds c.planned.new.self.rules c.planned.new.self.limits c.planned.new.self.pool c.ready.new.self tables c.planned.new.self.counts.weights.items c.planned.new.self.counts.rows c.planned.new.self.counts.cells) (sym c.make_room.ensures.same) (held-log c.ready.new.self c.ready.ensures.past c.ready.ensures.undone c.in_ok-change.ensures.held)
 
 pub returns-in_err-follow_change-clause-indexed : goal.returns-in_err-follow_change-clause-indexed
 returns-in_err-follow_change-clause-indexed g c =
-    let same = stored-same c.planned.new.self.stores.items c.args.number c.index_mut.result.now c.ready_insert.new.self c.index_mut.ensures.value (same-stored c.ready_insert.new.self c.index_mut.result.now c.ready_insert.ensures.rows c.ready_insert.ensures.next) in
-    subst (λ tables. IsIndexed c.planned.new.self.rules c.planned.new.self.pool (tuples_of tables) c.follow_change.new.index) (sym same) (indexed-refused (c.in_ok-change.ensures.indexed c.args.index.now c.requires.indexed) c.follow_change.new.index c.in_err-follow_change.ensures.refused)
+    subst (λ tables. IsIndexed c.planned.new.self.rules c.planned.new.self.pool (tuples_of tables) c.follow_change.new.index) (sym c.make_room.ensures.same) (indexed-refused (c.in_ok-change.ensures.indexed c.args.index.now c.requires.indexed) c.follow_change.new.index c.in_err-follow_change.ensures.refused)
 
 pub returns-in_err-follow_change-clause-unchanged : goal.returns-in_err-follow_change-clause-unchanged
 returns-in_err-follow_change-clause-unchanged g c =
-    let same = stored-same c.planned.new.self.stores.items c.args.number c.index_mut.result.now c.ready_insert.new.self c.index_mut.ensures.value (same-stored c.ready_insert.new.self c.index_mut.result.now c.ready_insert.ensures.rows c.ready_insert.ensures.next) in
-    on-err c.from_residual-in_err-follow_change.result _ ((λ i. history_of c.planned.new.self.pool (c.ready.ensures.past i) (c.ready.ensures.undone i) (same i)) ∙ c.in_ok-change.ensures.history)
+    on-err c.from_residual-in_err-follow_change.result _ ((λ i. history_of c.planned.new.self.pool (c.ready.ensures.past i) (c.ready.ensures.undone i) (c.make_room.ensures.same i)) ∙ c.in_ok-change.ensures.history)
 
 pub returns-in_err-follow_change-clause-probes : goal.returns-in_err-follow_change-clause-probes
 returns-in_err-follow_change-clause-probes g c =
@@ -106,10 +89,9 @@ returns-in_err-follow_change-clause-probes g c =
 
 pub returns-clause-indexed : goal.returns-clause-indexed
 returns-clause-indexed g c =
-    let same = stored-same c.planned.new.self.stores.items c.args.number c.index_mut.result.now c.ready_insert.new.self c.index_mut.ensures.value (same-stored c.ready_insert.new.self c.index_mut.result.now c.ready_insert.ensures.rows c.ready_insert.ensures.next) in
     let followed = forward-followed (tables_of c.planned.new.self) c.in_ok-change.ensures.held.history.present (c.in_ok-change.ensures.indexed c.args.index.now c.requires.indexed) c.in_ok-change.change c.in_ok-change.ensures.can c.in_ok-change.ensures.within c.follow_change.new.index c.in_ok-follow_change.ensures.followed in
     c.done.ensures.indexed c.follow_change.new.index
-    (subst (λ tables. IsIndexed c.planned.new.self.rules c.planned.new.self.pool (with_row (tuples_of tables) c.in_ok-change.change.table c.in_ok-change.change.row (ids_if c.in_ok-change.change.new)) c.follow_change.new.index) (sym same) followed)
+    (subst (λ tables. IsIndexed c.planned.new.self.rules c.planned.new.self.pool (with_row (tuples_of tables) c.in_ok-change.change.table c.in_ok-change.change.row (ids_if c.in_ok-change.change.new)) c.follow_change.new.index) (sym c.make_room.ensures.same) followed)
 
 pub returns-clause-probes : goal.returns-clause-probes
 returns-clause-probes g c =
