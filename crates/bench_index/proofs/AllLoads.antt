@@ -1,5 +1,5 @@
 -- All indexes take the rows of a table.
-use Rattle.std.proofs.Common.{◌≡◌, ℕ, Bool, true, false, cond, List, Option, None, refl, sym, ap, ◌∙◌, subst, arith}
+use Rattle.std.proofs.Common.{◌≡◌, ℕ, Bool, true, false, cond, List, Option, None, refl, sym, ◌∙◌, subst, arith}
 use Rattle.std.specs.Prelude.{◌==◌}
 use Rattle.std.specs.FinMap as finite
 use Rattle.std.specs.List.{AllZip}
@@ -13,6 +13,7 @@ use Rattle.bench_index.specs.AllIndexes.{Tuples, IsAsWide, masters_of}
 use Rattle.bench_index.specs.Loading.{AllLoad, CanLoad, HasLoaded, HaveNoRows, LoadedAsMaster, with_table}
 use Rattle.bench_index.specs.declared.all_indexes.AllIndexes.{AllIndexes}
 use Rattle.bench_index.proofs.AllSteps.{indexes-alike}
+use Rattle.bench_index.proofs.MasterChanges.{row-given}
 use Rattle.bench_index.proofs.Loaded.{made-loaded, in_step-loaded}
 use Rattle.bench_index.proofs.Widths.{wide_for_groups, wide_for_cinds, wide_for_masters}
 
@@ -44,28 +45,7 @@ masters-loaded : (rules : Book) (tuples : Tuples) (table : ℕ) (own : ℕ → O
     → ((t r : ℕ) → finite.get before.rows (t, r) ≡ masters_of rules tuples t r) → LoadedAsMaster (master_at rules.schema table) table own before after
     → (t r : ℕ) → finite.get after.rows (t, r) ≡ masters_of rules (with_table tuples table own) t r
 masters-loaded rules tuples table own before after in_step loaded t r =
-    by (master_at rules.schema table) refl (loaded.rows t r)
-  where
-    held : finite.get before.rows (t, r) ≡ cond (master_at rules.schema t) (tuples t r) None
-    held = in_step t r
-
-    of_master : (b : Bool) → (t == table) ≡ b → master_at rules.schema table ≡ true → cond b (own r) (finite.get before.rows (t, r)) ≡ cond (master_at rules.schema t) (cond b (own r) (tuples t r)) None
-    of_master false _ marked = held
-    of_master true is marked =
-        let same : t ≡ table = grind (arith, nat_tests, is) in
-        sym (ap (λ m. cond m (own r) None) (ap (master_at rules.schema) same ∙ marked))
-
-    of_other : (b : Bool) → (t == table) ≡ b → master_at rules.schema table ≡ false → finite.get before.rows (t, r) ≡ cond (master_at rules.schema t) (cond b (own r) (tuples t r)) None
-    of_other false _ plain = held
-    of_other true is plain =
-        let same : t ≡ table = grind (arith, nat_tests, is) in
-        let unmarked = ap (master_at rules.schema) same ∙ plain in
-        held ∙ ap (λ m. cond m (tuples t r) None) unmarked ∙ sym (ap (λ m. cond m (own r) None) unmarked)
-
-    by : (b : Bool) → master_at rules.schema table ≡ b → finite.get after.rows (t, r) ≡ cond b (cond (t == table) (own r) (finite.get before.rows (t, r))) (finite.get before.rows (t, r))
-        → finite.get after.rows (t, r) ≡ cond (master_at rules.schema t) (cond (t == table) (own r) (tuples t r)) None
-    by true marked is = is ∙ of_master (t == table) refl marked
-    by false plain is = is ∙ of_other (t == table) refl plain
+    row-given rules table t (t == table) (λ is. grind (arith, nat_tests, is)) (own r) (tuples t r) (finite.get before.rows (t, r)) (finite.get after.rows (t, r)) (in_step t r) (loaded.rows t r)
 
 pub all-loaded_in_step : (rules : Book) (table : ℕ) (own : ℕ → Option (List ℕ)) (before after : AllIndexes)
     → AllZip (HasLoaded group_watch table own) before.index.groups.items after.index.groups.items → AllZip (HasLoaded cind_watch table own) before.index.cinds.items after.index.cinds.items

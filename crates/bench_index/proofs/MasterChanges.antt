@@ -31,36 +31,32 @@ module _ (table row : ℕ) where
   pub follow-remove : (before after : Masters) → after.lists ≡ before.lists → after.rows ≡ finite.remove before.rows (table, row) → FollowAsMaster true table row None before after
   follow-remove before after lists rows = record { lists = lists; rows = λ t r. ap (λ m. finite.get m (t, r)) rows ∙ row_after_remove before.rows table row t r }
 
+-- A row of a table t, of which another table may have got one: where `here` says that it is that one, it has the new tuple,
+-- if the other table is one of master data, and then t is that table.
+pub row-given : (rules : Book) (table t : ℕ) (here : Bool) → (here ≡ true → t ≡ table) → (new tuple before after : Option (List ℕ)) → before ≡ cond (master_at rules.schema t) tuple None
+    → after ≡ cond (master_at rules.schema table) (cond here new before) before → after ≡ cond (master_at rules.schema t) (cond here new tuple) None
+row-given rules table t here there new tuple before after held is = by (master_at rules.schema table) refl is
+  where
+    of_master : (b : Bool) → here ≡ b → master_at rules.schema table ≡ true → cond b new before ≡ cond (master_at rules.schema t) (cond b new tuple) None
+    of_master false _ marked = held
+    of_master true is marked = sym (ap (λ m. cond m new None) (ap (master_at rules.schema) (there is) ∙ marked))
+
+    of_other : (b : Bool) → here ≡ b → master_at rules.schema table ≡ false → before ≡ cond (master_at rules.schema t) (cond b new tuple) None
+    of_other false _ plain = held
+    of_other true is plain =
+        let unmarked = ap (master_at rules.schema) (there is) ∙ plain in
+        held ∙ ap (λ m. cond m tuple None) unmarked ∙ sym (ap (λ m. cond m new None) unmarked)
+
+    by : (b : Bool) → master_at rules.schema table ≡ b → after ≡ cond b (cond here new before) before → after ≡ cond (master_at rules.schema t) (cond here new tuple) None
+    by true marked is = is ∙ of_master here refl marked
+    by false plain is = is ∙ of_other here refl plain
+
 -- the rows of all master tables
 pub masters-followed : (rules : Book) (tuples : Tuples) (table row : ℕ) (new : Option (List ℕ)) (before after : Masters)
     → ((t r : ℕ) → finite.get before.rows (t, r) ≡ masters_of rules tuples t r) → FollowAsMaster (master_at rules.schema table) table row new before after
     → (t r : ℕ) → finite.get after.rows (t, r) ≡ masters_of rules (with_row tuples table row new) t r
 masters-followed rules tuples table row new before after in_step followed t r =
-    by (master_at rules.schema table) refl (followed.rows t r)
-  where
-    here : Bool
-    here = (t == table) && (r == row)
-
-    held : finite.get before.rows (t, r) ≡ cond (master_at rules.schema t) (tuples t r) None
-    held = in_step t r
-
-    of_master : (b : Bool) → here ≡ b → master_at rules.schema table ≡ true → cond b new (finite.get before.rows (t, r)) ≡ cond (master_at rules.schema t) (cond b new (tuples t r)) None
-    of_master false _ marked = held
-    of_master true is marked =
-        let same : t ≡ table = grind (arith, nat_tests, is) in
-        sym (ap (λ m. cond m new None) (ap (master_at rules.schema) same ∙ marked))
-
-    of_other : (b : Bool) → here ≡ b → master_at rules.schema table ≡ false → finite.get before.rows (t, r) ≡ cond (master_at rules.schema t) (cond b new (tuples t r)) None
-    of_other false _ plain = held
-    of_other true is plain =
-        let same : t ≡ table = grind (arith, nat_tests, is) in
-        let unmarked = ap (master_at rules.schema) same ∙ plain in
-        held ∙ ap (λ m. cond m (tuples t r) None) unmarked ∙ sym (ap (λ m. cond m new None) unmarked)
-
-    by : (b : Bool) → master_at rules.schema table ≡ b → finite.get after.rows (t, r) ≡ cond b (cond here new (finite.get before.rows (t, r))) (finite.get before.rows (t, r))
-        → finite.get after.rows (t, r) ≡ cond (master_at rules.schema t) (cond here new (tuples t r)) None
-    by true marked is = is ∙ of_master here refl marked
-    by false plain is = is ∙ of_other here refl plain
+    row-given rules table t ((t == table) && (r == row)) (λ is. grind (arith, nat_tests, is)) new (tuples t r) (finite.get before.rows (t, r)) (finite.get after.rows (t, r)) (in_step t r) (followed.rows t r)
 
 -- without rows
 pub masters-empty : (rules : Book) (rows : MasterRows) → rows ≡ finite.empty → (t r : ℕ) → finite.get rows (t, r) ≡ masters_of rules (λ _ _. None) t r
