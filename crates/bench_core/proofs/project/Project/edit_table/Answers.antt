@@ -1,6 +1,5 @@
-use Rattle.std.proofs.Common.{◌+◌, ◌<◌, ◌≤◌, length, Ok, IsSomeAnd, ap, sym, subst, ◌∙◌}
-use Rattle.std.proofs.lemmas.List.{length-map}
-use Rattle.std.specs.List.{slice_get, slice_set}
+use Rattle.std.proofs.Common.{◌+◌, ◌<◌, ◌≤◌, Ok, IsSomeAnd, ap, sym, subst, ◌∙◌}
+use Rattle.std.specs.List.{slice_get}
 use Rattle.bench_core.specs.History.{accepted}
 use Rattle.bench_core.specs.Stored.{state_of}
 use Rattle.bench_core.specs.Changes.{CanMake, history_of, made_again, told_of}
