@@ -21,7 +21,7 @@ pub(crate) fn intern_all(
     ensures named { IfOk result (λ tuple. HaveTexts pool.new (ids_of tuple)) }
     ensures kept { KeepsIds pool.old pool.new }
 {
-    let mut ids: Vec<ValueId> = Vec::new(alloc);
+    let mut ids: Vec<ValueId> = Vec::with_capacity(alloc, texts.len())?;
     for text in texts {
         let id = pool.intern(text.as_str())?;
         ids.push(id)?;

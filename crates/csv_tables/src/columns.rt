@@ -71,11 +71,11 @@ impl<'a> Columns<'a> {
         ensures fault { IsFirstFault (domain_fault self.now.table.now.attrs (fields_of self.now.header) at (fields_of fields.now)) result }
         ensures row { IfOk result (λ row. row ≡ row_of self.now.table.now.attrs (fields_of self.now.header) (fields_of fields.now)) }
     {
-        let mut row = List::new(alloc);
+        let mut row = Vec::with_capacity(alloc, self.places.len())?;
         for (i, attr) in self.table.attrs.as_slice().iter().enumerate() {
             row.push(cell(alloc, attr, at, fields, self.places[i])?)?;
         }
-        Ok(row)
+        Ok(List::from(row))
     }
 }
 

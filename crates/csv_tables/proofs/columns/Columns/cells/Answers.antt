@@ -32,6 +32,6 @@ loop-i-preserved c =
           c.loop-i.invariant.admitted
           ∙ domain_fault-passes attrs header fields c.args.at c.loop-i.i c.attr-item.result inside this (ap (admits c.attr-item.result.domain) field ∙ c.in_ok-cell.ensures.domain);
       so_far =
-          rw (c.in_ok-push.ensures.ok, c.in_ok-cell.ensures.value, ← field)
-          (sym (row_of-more attrs header fields c.args.at c.loop-i.i c.attr-item.result inside this c.loop-i.row) ∙ c.loop-i.invariant.so_far);
+          rw (c.in_ok-push.ensures.items, c.in_ok-cell.ensures.value, ← field)
+          (sym (row_of-more attrs header fields c.args.at c.loop-i.i c.attr-item.result inside this c.loop-i.row.items) ∙ c.loop-i.invariant.so_far);
     }

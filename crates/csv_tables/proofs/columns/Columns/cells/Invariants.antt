@@ -7,6 +7,6 @@ abbrev pub invariant-loop-i : goal.invariant-loop-i
 invariant-loop-i l = record {
   admitted : domain_fault l.self.table.now.attrs (fields_of l.self.header) l.at (fields_of l.fields)
       ≡ domain_fault (drop l.i l.self.table.now.attrs) (fields_of l.self.header) l.at (fields_of l.fields);
-  so_far : l.row ++ row_of (drop l.i l.self.table.now.attrs) (fields_of l.self.header) (fields_of l.fields)
+  so_far : l.row.items ++ row_of (drop l.i l.self.table.now.attrs) (fields_of l.self.header) (fields_of l.fields)
       ≡ row_of l.self.table.now.attrs (fields_of l.self.header) (fields_of l.fields);
 }
