@@ -52,6 +52,10 @@ present_of project = state_of project.pool (tables_of project)
 abbrev pub history : Project → History
 history project = history_of project.pool project.log.past project.log.undone (tables_of project)
 
+-- what clauses see of it
+abbrev pub view_of : Project → BenchModel
+view_of project = record { rules = project.rules; limits = project.limits; texts = project.pool; history = history project }
+
 -- the table that a change is of is as P says
 abbrev pub AtTable : Project → Change → (Stored → Type 0) → Type 0
 AtTable project change P = IsSomeAnd (slice_get (tables_of project) change.table) P

@@ -8,10 +8,8 @@ ghost use Rattle.bench_core.specs.Loading.{AreTables, full_table, loaded};
 ghost use Rattle.bench_core.specs.Edited.{refusal_of};
 ghost use Rattle.bench_core.specs.History.{HasNoPast, HasNothingUndone, IsRedone, IsUndone, first_undone, history_edited, last_past};
 ghost use Rattle.bench_core.specs.Stored.{RowsHaveTexts, stored, table_state};
-ghost use Rattle.rule_model.specs.Books.{book_cinds, book_deps};
-ghost use Rattle.bench_core.specs.Answers.{AreMastersOf, IsRowOfCind, IsRowOfDep, orphans_at, orphans_of_row, violations_at, violations_of_row};
+ghost use Rattle.bench_core.specs.Answers.{AreMastersOf};
 ghost use Rattle.bench_core.specs.Bench.{IsHistory};
-ghost use Rattle.bench_core.specs.DirtyCounts.{cind_rows, cind_walk_at, dep_rows, dep_walk_at, dirty_groups_at, dirty_keys_at};
 ghost use Rattle.bench_core.specs.Indexed.{AreOfTheChange, edit_probes, load_probes};
 ghost use Rattle.bench_core.specs.declared.edit.RedoFault.TheVariants as redo_fault;
 ghost use Rattle.bench_core.specs.declared.edit.UndoFault.TheVariants as undo_fault;
@@ -19,8 +17,8 @@ ghost use Rattle.bench_core.specs.declared.edit.UndoFault.TheVariants as undo_fa
 use crate::changes::Direction;
 use crate::edit::{Applied, EditFault, LoadFault, RedoFault, UndoFault};
 use crate::project::Project;
+use crate::queries::BenchQueries;
 use bench_index::AllIndexes;
-use cfd_semantics::Violation;
 use edit_log::Edit;
 use hash_keys::HashKeys;
 use master_index::MasterIndex;
@@ -43,12 +41,12 @@ pub struct Bench {
 }
 
 impl Model for Bench {
-    ghost use Rattle.bench_core.specs.Bench.{BenchModel, IsHeld, history};
+    ghost use Rattle.bench_core.specs.Bench.{BenchModel, IsHeld, view_of};
     ghost use Rattle.bench_core.specs.Indexed.{IsInStepWith};
 
     ghost Value = { BenchModel };
 
-    ghost view = { λ b. record { rules = b.project.rules; limits = b.project.limits; texts = b.project.pool; history = history b.project } };
+    ghost view = { λ b. view_of b.project };
 
     ghost invariant = { λ b. IsHeld b.project × IsInStepWith b.project b.index };
 }
@@ -165,107 +163,11 @@ impl Bench {
         self.project.rows(table)
     }
 
-    /// How many groups of a numbered dependency are dirty, which is 0 exactly where it has no violation. The index knows it
-    /// without a look at any of them.
-    pub fn dirty_groups(&self, dep: usize) -> usize
-        requires { dep < length (book_deps self.now.rules) }
-        ensures { result ≡ dirty_groups_at self.now.rules self.now.history.present dep }
+    /// What its rules find, for whoever lists and counts it.
+    pub fn queries(&self) -> BenchQueries<'_>
+        ensures { result ≡ self.now }
     {
-        self.project.dirty_groups(&self.index, dep)
-    }
-
-    /// How many keys of a numbered inclusion are dirty, which is 0 exactly where it has no orphan. The index knows it without a
-    /// look at any of them.
-    pub fn dirty_keys(&self, cind: usize) -> usize
-        requires { cind < length (book_cinds self.now.rules) }
-        ensures { result ≡ dirty_keys_at self.now.rules self.now.history.present cind }
-    {
-        self.project.dirty_keys(&self.index, cind)
-    }
-
-    /// The violations of a numbered dependency, each with the number of its tableau row: by tableau row, and for each by
-    /// rising row. For each tableau row the dirty groups are gone over, and no other rows.
-    pub fn violations<L: Ledger>(
-        &self,
-        dep: usize,
-        steps: &mut Steps<L>,
-    ) -> Result<List<(usize, Violation)>, AllocError>
-        requires { dep < length (book_deps self.now.rules) }
-        ensures violations { IfOk result (λ found. found ≡ violations_at self.now.rules self.now.history.present dep) }
-        ensures probes { steps.new ≤ steps.old + dep_walk_at self.now.rules self.now.history.present dep }
-    {
-        self.project.violations(&self.index, dep, steps)
-    }
-
-    /// How many violations a dependency has, without a list of them all.
-    pub fn violation_count<L: Ledger>(
-        &self,
-        dep: usize,
-        steps: &mut Steps<L>,
-    ) -> Result<usize, AllocError>
-        requires { dep < length (book_deps self.now.rules) }
-        ensures count { IfOk result (λ count. count ≡ length (violations_at self.now.rules self.now.history.present dep)) }
-        ensures probes { steps.new ≤ steps.old + dep_walk_at self.now.rules self.now.history.present dep }
-    {
-        self.project.violation_count(&self.index, dep, steps)
-    }
-
-    /// The violations of a dependency that a row of its table has, and not those in which it is only the partner: at most one
-    /// probe for each tableau row.
-    pub fn violations_of_row<L: Ledger>(
-        &self,
-        dep: usize,
-        row: RowId,
-        steps: &mut Steps<L>,
-    ) -> Result<List<(usize, Violation)>, AllocError>
-        requires dep { dep < length (book_deps self.now.rules) }
-        requires there { IsRowOfDep self.now.rules self.now.history.present dep row }
-        ensures violations { IfOk result (λ found. found ≡ violations_of_row self.now.rules self.now.history.present dep row) }
-        ensures probes { steps.new ≤ steps.old + dep_rows self.now.rules dep }
-    {
-        self.project.violations_of_row(&self.index, dep, row, steps)
-    }
-
-    /// The orphans of a numbered inclusion, each with the number of its tableau row: by tableau row, and for each by rising
-    /// row. For each tableau row the dirty keys are gone over, and no other rows.
-    pub fn orphans<L: Ledger>(
-        &self,
-        cind: usize,
-        steps: &mut Steps<L>,
-    ) -> Result<List<(usize, RowId)>, AllocError>
-        requires { cind < length (book_cinds self.now.rules) }
-        ensures orphans { IfOk result (λ found. found ≡ orphans_at self.now.rules self.now.history.present cind) }
-        ensures probes { steps.new ≤ steps.old + cind_walk_at self.now.rules self.now.history.present cind }
-    {
-        self.project.orphans(&self.index, cind, steps)
-    }
-
-    /// How many orphans an inclusion has, without a list of them all.
-    pub fn orphan_count<L: Ledger>(
-        &self,
-        cind: usize,
-        steps: &mut Steps<L>,
-    ) -> Result<usize, AllocError>
-        requires { cind < length (book_cinds self.now.rules) }
-        ensures count { IfOk result (λ count. count ≡ length (orphans_at self.now.rules self.now.history.present cind)) }
-        ensures probes { steps.new ≤ steps.old + cind_walk_at self.now.rules self.now.history.present cind }
-    {
-        self.project.orphan_count(&self.index, cind, steps)
-    }
-
-    /// The orphans of an inclusion that a row of its left table is: at most one probe for each tableau row.
-    pub fn orphans_of_row<L: Ledger>(
-        &self,
-        cind: usize,
-        row: RowId,
-        steps: &mut Steps<L>,
-    ) -> Result<List<(usize, RowId)>, AllocError>
-        requires cind { cind < length (book_cinds self.now.rules) }
-        requires there { IsRowOfCind self.now.rules self.now.history.present cind row }
-        ensures orphans { IfOk result (λ found. found ≡ orphans_of_row self.now.rules self.now.history.present cind row) }
-        ensures probes { steps.new ≤ steps.old + cind_rows self.now.rules cind }
-    {
-        self.project.orphans_of_row(&self.index, cind, row, steps)
+        BenchQueries::new(&self.project, &self.index)
     }
 
     /// The rows of the master tables, by value ids.

@@ -15,9 +15,11 @@ mod checks;
 mod edit;
 mod loading;
 mod project;
+mod queries;
 mod sizes;
 mod target;
 mod tuples;
 
 pub use bench::Bench;
 pub use edit::{Applied, EditFault, LoadFault, RedoFault, UndoFault};
+pub use queries::BenchQueries;

@@ -133,7 +133,7 @@ impl Desk {
             }
             Act::TakeBack => self.take_back(editor, steps),
             Act::Look { table, row } => self.look(table, *row),
-            Act::List => Ok(Reply::Lines(list(self.alloc, &self.bench, steps)?)),
+            Act::List => Ok(Reply::Lines(list(self.alloc, &self.bench.queries(), steps)?)),
         }
     }
 

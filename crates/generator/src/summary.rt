@@ -53,7 +53,7 @@ fn sum_up<L: Ledger>(
     let mut text = Vec::new(alloc);
     make_all(alloc, bench, thousands, &mut text, steps)?;
     text.extend_from_slice(b"done\n")?;
-    let lines = count(bench, steps)?;
+    let lines = count(&bench.queries(), steps)?;
     Ok(Summary { text, lines })
 }
 
@@ -86,7 +86,7 @@ fn make_thousand<L: Ledger>(
     ensures made_with { (bench.new.rules ≡ bench.old.rules) × (bench.new.limits ≡ bench.old.limits) }
 {
     make(alloc, bench, &thousand.commands, steps)?;
-    let lines = count(bench, steps)?;
+    let lines = count(&bench.queries(), steps)?;
     push_at(text, thousand.made, row_count(bench), lines)
 }
 

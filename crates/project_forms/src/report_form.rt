@@ -78,7 +78,7 @@ fn report_of<L: Ledger>(
     ensures text { IfOk result (λ report. report.0.items ≡ report_text bench.now.rules (listing bench.now.rules bench.now.history.present)) }
     ensures status { IfOk result (λ report. report.1 ≡ found_status (listing bench.now.rules bench.now.history.present)) }
 {
-    let lines = list(alloc, bench, steps)?;
+    let lines = list(alloc, &bench.queries(), steps)?;
     let text = json_report(alloc, bench.rules(), &lines)?;
     if lines.as_slice().is_empty() {
         Ok((text, Status::Clean))

@@ -68,7 +68,7 @@ fn answer<O: Sink, L: Ledger>(
 pub fn status_of(bench: &Bench) -> Status
     ensures { HasStatus (listing bench.now.rules bench.now.history.present) result }
 {
-    if is_clean(bench) {
+    if is_clean(&bench.queries()) {
         Status::Clean
     } else {
         Status::Findings

@@ -155,7 +155,7 @@ pub fn push_list<L: Ledger>(
     ensures text { OnOk result (out.new.items ≡ out.old.items ++ list_text bench.now.rules bench.now.history.present) }
     ensures probes { steps.new ≤ steps.old + list_probes bench.now.rules bench.now.history.present }
 {
-    let lines = list(alloc, bench, steps)?;
+    let lines = list(alloc, &bench.queries(), steps)?;
     push_lines(bench.rules(), b"listed", lines.as_slice(), out)
 }
 
@@ -168,7 +168,7 @@ pub fn push_count<L: Ledger>(
     ensures text { OnOk result (out.new.items ≡ out.old.items ++ count_text bench.now.rules bench.now.history.present) }
     ensures probes { steps.new ≤ steps.old + list_probes bench.now.rules bench.now.history.present }
 {
-    push_counted(out, b"count", count(bench, steps)?)
+    push_counted(out, b"count", count(&bench.queries(), steps)?)
 }
 
 /// Tells the lines of a row.

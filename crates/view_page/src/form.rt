@@ -135,7 +135,7 @@ fn status_on(bench: &Bench) -> Status
     ensures law { result ≡ Status.Clean ↔ IsSatisfied bench.now.rules bench.now.history.present }
     ensures whole { IsWhole result }
 {
-    if is_clean(bench) {
+    if is_clean(&bench.queries()) {
         Status::Clean
     } else {
         Status::Findings

@@ -42,7 +42,7 @@ fn all_groups<L: Ledger>(
     ensures { IfOk result (AllZip (λ dep groups. AreGroups (dep_listed bench.now.history.present dep) groups) (book_deps bench.now.rules)) }
 {
     let mut all = List::new(alloc);
-    for number in 0..dep_count(bench) {
+    for number in 0..bench.queries().dep_count() {
         let groups = groups_at(alloc, bench, number, steps)?;
         all.push(groups)?;
     }
@@ -59,7 +59,7 @@ fn groups_at<L: Ledger>(
     requires { number < length (book_deps bench.now.rules) }
     ensures { IfOk result (λ groups. ForSome (slice_get (book_deps bench.now.rules) number) (λ dep. AreGroups (dep_listed bench.now.history.present dep) groups)) }
 {
-    let found = bench.violations(number, steps)?;
+    let found = bench.queries().violations(number, steps)?;
     let dep = &bench.rules().deps().as_slice()[number];
     let rows = listed_rows(alloc, bench, dep, found.as_slice())?;
     groups_of(alloc, bench.pool(), rows)
@@ -73,7 +73,7 @@ fn all_missing<L: Ledger>(
     ensures { IfOk result (AllZip (λ cind missing. AreMissing (cind_listed bench.now.history.present cind) missing) (book_cinds bench.now.rules)) }
 {
     let mut all = List::new(alloc);
-    for number in 0..cind_count(bench) {
+    for number in 0..bench.queries().cind_count() {
         let missing = missing_at(alloc, bench, number, steps)?;
         all.push(missing)?;
     }
@@ -90,20 +90,8 @@ fn missing_at<L: Ledger>(
     requires { number < length (book_cinds bench.now.rules) }
     ensures { IfOk result (λ missing. ForSome (slice_get (book_cinds bench.now.rules) number) (λ cind. AreMissing (cind_listed bench.now.history.present cind) missing)) }
 {
-    let found = bench.orphans(number, steps)?;
+    let found = bench.queries().orphans(number, steps)?;
     let cind = &bench.rules().cinds().as_slice()[number];
     let rows = listed_orphans(alloc, bench, cind, found.as_slice())?;
     missing_of(alloc, bench.pool(), rows)
-}
-
-fn dep_count(bench: &Bench) -> usize
-    ensures { result ≡ length (book_deps bench.now.rules) }
-{
-    bench.rules().deps().as_slice().len()
-}
-
-fn cind_count(bench: &Bench) -> usize
-    ensures { result ≡ length (book_cinds bench.now.rules) }
-{
-    bench.rules().cinds().as_slice().len()
 }

@@ -3,11 +3,10 @@
 ghost use Rattle.std.specs.Prelude.{◌≡◌, ◌↔◌, ◌&&◌, [], IsTrue};
 ghost use Rattle.violation_report.specs.Listing.{IsSatisfied, cind_lines, dep_lines, listing};
 
-use crate::listing::{cind_count, dep_count};
-use bench_core::Bench;
+use bench_core::BenchQueries;
 
 /// Whether no rule is violated. The indexes of the bench know it, and nothing is counted or listed.
-pub fn is_clean(bench: &Bench) -> bool
+pub fn is_clean(bench: &BenchQueries<'_>) -> bool
     ensures empty { IsTrue result ↔ (listing bench.now.rules bench.now.history.present ≡ []) }
     ensures law { IsTrue result ↔ IsSatisfied bench.now.rules bench.now.history.present }
 {
@@ -22,10 +21,10 @@ fn both(one: bool, other: bool) -> bool
     one && other
 }
 
-fn deps_are_clean(bench: &Bench) -> bool
+fn deps_are_clean(bench: &BenchQueries<'_>) -> bool
     ensures { IsTrue result ↔ (dep_lines bench.now.rules bench.now.history.present ≡ []) }
 {
-    for number in 0..dep_count(bench) {
+    for number in 0..bench.dep_count() {
         let dirty = bench.dirty_groups(number);
         if dirty != 0 {
             return false;
@@ -34,10 +33,10 @@ fn deps_are_clean(bench: &Bench) -> bool
     true
 }
 
-fn cinds_are_clean(bench: &Bench) -> bool
+fn cinds_are_clean(bench: &BenchQueries<'_>) -> bool
     ensures { IsTrue result ↔ (cind_lines bench.now.rules bench.now.history.present ≡ []) }
 {
-    for number in 0..cind_count(bench) {
+    for number in 0..bench.cind_count() {
         let dirty = bench.dirty_keys(number);
         if dirty != 0 {
             return false;

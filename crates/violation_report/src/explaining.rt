@@ -12,8 +12,8 @@ ghost use Rattle.violation_report.specs.Text.{IsLineOf};
 ghost use Rattle.violation_report.specs.declared.explaining.ExplainFault.TheVariants as explain_fault;
 
 use crate::line::Line;
-use crate::listing::{cind_count, dep_count, push_orphans, push_violations};
-use bench_core::Bench;
+use crate::listing::{push_orphans, push_violations};
+use bench_core::{Bench, BenchQueries};
 use probe_steps::Steps;
 use row_store::RowId;
 use schema_core::List;
@@ -62,7 +62,7 @@ pub fn explain<L: Ledger>(
     if !has_row(bench, number, row) {
         return Err(ExplainFault::UnknownRow);
     }
-    Ok(lines_of(alloc, bench, number, row, steps)?)
+    Ok(lines_of(alloc, &bench.queries(), number, row, steps)?)
 }
 
 fn has_row(bench: &Bench, table: usize, row: RowId) -> bool
@@ -75,7 +75,7 @@ fn has_row(bench: &Bench, table: usize, row: RowId) -> bool
 /// The lines of a row that is there.
 fn lines_of<L: Ledger>(
     alloc: Global,
-    bench: &Bench,
+    bench: &BenchQueries<'_>,
     table: usize,
     row: RowId,
     steps: &mut Steps<L>,
@@ -92,7 +92,7 @@ fn lines_of<L: Ledger>(
 }
 
 fn explain_deps<L: Ledger>(
-    bench: &Bench,
+    bench: &BenchQueries<'_>,
     table: usize,
     row: RowId,
     lines: &mut List<Line>,
@@ -103,7 +103,7 @@ fn explain_deps<L: Ledger>(
     ensures lines { OnOk result (lines.new ≡ filter (is_about bench.now.rules table row) (dep_lines bench.now.rules bench.now.history.present)) }
     ensures probes { steps.new ≤ steps.old + sum_by (dep_rows_of table) (book_deps bench.now.rules) }
 {
-    for number in 0..dep_count(bench) {
+    for number in 0..bench.dep_count() {
         explain_dep(bench, table, number, row, lines, steps)?;
     }
     Ok(())
@@ -111,7 +111,7 @@ fn explain_deps<L: Ledger>(
 
 /// Appends the lines about the row that a numbered dependency has: none where it is of another table.
 fn explain_dep<L: Ledger>(
-    bench: &Bench,
+    bench: &BenchQueries<'_>,
     table: usize,
     number: usize,
     row: RowId,
@@ -131,7 +131,7 @@ fn explain_dep<L: Ledger>(
 }
 
 fn explain_cinds<L: Ledger>(
-    bench: &Bench,
+    bench: &BenchQueries<'_>,
     table: usize,
     row: RowId,
     lines: &mut List<Line>,
@@ -141,7 +141,7 @@ fn explain_cinds<L: Ledger>(
     ensures lines { OnOk result (lines.new ≡ lines.old ++ filter (is_about bench.now.rules table row) (cind_lines bench.now.rules bench.now.history.present)) }
     ensures probes { steps.new ≤ steps.old + sum_by (cind_rows_of table) (book_cinds bench.now.rules) }
 {
-    for number in 0..cind_count(bench) {
+    for number in 0..bench.cind_count() {
         explain_cind(bench, table, number, row, lines, steps)?;
     }
     Ok(())
@@ -149,7 +149,7 @@ fn explain_cinds<L: Ledger>(
 
 /// The same of a numbered inclusion, which may have another table on its left.
 fn explain_cind<L: Ledger>(
-    bench: &Bench,
+    bench: &BenchQueries<'_>,
     table: usize,
     number: usize,
     row: RowId,
@@ -168,7 +168,7 @@ fn explain_cind<L: Ledger>(
     push_orphans(number, found.as_slice(), lines)
 }
 
-fn dep_is_of(bench: &Bench, table: usize, dep: usize) -> bool
+fn dep_is_of(bench: &BenchQueries<'_>, table: usize, dep: usize) -> bool
     ensures { result ≡ dep_is_of bench.now.rules table dep }
 {
     match bench.rules().deps().as_slice().get(dep) {
@@ -177,7 +177,7 @@ fn dep_is_of(bench: &Bench, table: usize, dep: usize) -> bool
     }
 }
 
-fn cind_is_of(bench: &Bench, table: usize, cind: usize) -> bool
+fn cind_is_of(bench: &BenchQueries<'_>, table: usize, cind: usize) -> bool
     ensures { result ≡ cind_is_of bench.now.rules table cind }
 {
     match bench.rules().cinds().as_slice().get(cind) {

@@ -9,7 +9,7 @@ ghost use Rattle.violation_report.specs.Probes.{list_probes};
 ghost use Rattle.violation_report.specs.Text.{IsLineOf};
 
 use crate::line::Line;
-use bench_core::Bench;
+use bench_core::BenchQueries;
 use cfd_semantics::Violation;
 use probe_steps::Steps;
 use row_store::RowId;
@@ -22,7 +22,7 @@ use std::sync::ledger::Ledger;
 /// for each tableau row of a rule there is a probe for each dirty group or key, and none for rows that violate nothing.
 pub fn list<L: Ledger>(
     alloc: Global,
-    bench: &Bench,
+    bench: &BenchQueries<'_>,
     steps: &mut Steps<L>,
 ) -> Result<List<Line>, AllocError>
     ensures list { IfOk result (λ lines. lines ≡ listing bench.now.rules bench.now.history.present) }
@@ -36,22 +36,8 @@ pub fn list<L: Ledger>(
     Ok(lines)
 }
 
-/// How many dependencies the bench's rules have.
-pub(crate) fn dep_count(bench: &Bench) -> usize
-    ensures { result ≡ length (book_deps bench.now.rules) }
-{
-    bench.rules().deps().as_slice().len()
-}
-
-/// How many inclusion dependencies the bench's rules have.
-pub(crate) fn cind_count(bench: &Bench) -> usize
-    ensures { result ≡ length (book_cinds bench.now.rules) }
-{
-    bench.rules().cinds().as_slice().len()
-}
-
 fn list_deps<L: Ledger>(
-    bench: &Bench,
+    bench: &BenchQueries<'_>,
     lines: &mut List<Line>,
     steps: &mut Steps<L>,
 ) -> Result<(), AllocError>
@@ -59,14 +45,14 @@ fn list_deps<L: Ledger>(
     ensures lines { OnOk result (lines.new ≡ dep_lines bench.now.rules bench.now.history.present) }
     ensures probes { steps.new ≤ steps.old + sum_by (dep_walk bench.now.history.present) (book_deps bench.now.rules) }
 {
-    for number in 0..dep_count(bench) {
+    for number in 0..bench.dep_count() {
         list_dep(bench, number, lines, steps)?;
     }
     Ok(())
 }
 
 fn list_dep<L: Ledger>(
-    bench: &Bench,
+    bench: &BenchQueries<'_>,
     number: usize,
     lines: &mut List<Line>,
     steps: &mut Steps<L>,
@@ -110,21 +96,21 @@ fn dep_line(dep: usize, k: usize, violation: &Violation) -> Line
 }
 
 fn list_cinds<L: Ledger>(
-    bench: &Bench,
+    bench: &BenchQueries<'_>,
     lines: &mut List<Line>,
     steps: &mut Steps<L>,
 ) -> Result<(), AllocError>
     ensures lines { OnOk result (lines.new ≡ lines.old ++ cind_lines bench.now.rules bench.now.history.present) }
     ensures probes { steps.new ≤ steps.old + sum_by (cind_walk bench.now.history.present) (book_cinds bench.now.rules) }
 {
-    for number in 0..cind_count(bench) {
+    for number in 0..bench.cind_count() {
         list_cind(bench, number, lines, steps)?;
     }
     Ok(())
 }
 
 fn list_cind<L: Ledger>(
-    bench: &Bench,
+    bench: &BenchQueries<'_>,
     number: usize,
     lines: &mut List<Line>,
     steps: &mut Steps<L>,
