@@ -174,6 +174,6 @@ impl Bench {
     pub fn masters(&self) -> &MasterIndex
         ensures { AreMastersOf self.now.rules self.now.texts self.now.history.present result.now }
     {
-        self.project.masters(&self.index)
+        &self.index.masters
     }
 }

@@ -8,7 +8,6 @@
 //! probes that `edit_probes` counts, whatever the number of rows.
 #![tactic(auto)]
 
-mod answers;
 mod bench;
 mod changes;
 mod checks;

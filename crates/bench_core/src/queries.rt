@@ -72,7 +72,9 @@ impl<'a> BenchQueries<'a> {
         requires { dep < length (book_deps self.now.rules) }
         ensures { result ≡ dirty_groups_at self.now.rules self.now.history.present dep }
     {
-        self.project.dirty_groups(self.index, dep)
+        // The length is what says that no text has two ids.
+        let _len = self.project.pool.len();
+        self.index.index.groups[dep].dirty()
     }
 
     /// How many keys of a numbered inclusion are dirty, which is 0 exactly where it has no orphan. The index knows it without a
@@ -81,7 +83,9 @@ impl<'a> BenchQueries<'a> {
         requires { cind < length (book_cinds self.now.rules) }
         ensures { result ≡ dirty_keys_at self.now.rules self.now.history.present cind }
     {
-        self.project.dirty_keys(self.index, cind)
+        // The length is what says that no text has two ids.
+        let _len = self.project.pool.len();
+        self.index.index.cinds[cind].dirty()
     }
 
     /// The violations of a numbered dependency, each with the number of its tableau row: by tableau row, and for each by
@@ -95,7 +99,11 @@ impl<'a> BenchQueries<'a> {
         ensures violations { IfOk result (λ found. found ≡ violations_at self.now.rules self.now.history.present dep) }
         ensures probes { steps.new ≤ steps.old + dep_walk_at self.now.rules self.now.history.present dep }
     {
-        self.project.violations(self.index, dep, steps)
+        // The length is what says that no text has two ids.
+        let _len = self.project.pool.len();
+        // The number of dirty groups is what says that they are those of the rows.
+        let _dirty = self.index.index.groups[dep].dirty();
+        self.index.index.violations(dep, steps)
     }
 
     /// How many violations a dependency has, without a list of them all.
@@ -108,7 +116,11 @@ impl<'a> BenchQueries<'a> {
         ensures count { IfOk result (λ count. count ≡ length (violations_at self.now.rules self.now.history.present dep)) }
         ensures probes { steps.new ≤ steps.old + dep_walk_at self.now.rules self.now.history.present dep }
     {
-        self.project.violation_count(self.index, dep, steps)
+        // The length is what says that no text has two ids.
+        let _len = self.project.pool.len();
+        // The number of dirty groups is what says that they are those of the rows.
+        let _dirty = self.index.index.groups[dep].dirty();
+        self.index.index.violation_count(dep, steps)
     }
 
     /// The violations of a dependency that a row of its table has, and not those in which it is only the partner: at most one
@@ -124,7 +136,20 @@ impl<'a> BenchQueries<'a> {
         ensures violations { IfOk result (λ found. found ≡ violations_of_row self.now.rules self.now.history.present dep row) }
         ensures probes { steps.new ≤ steps.old + dep_rows self.now.rules dep }
     {
-        self.project.violations_of_row(self.index, dep, row, steps)
+        // The length is what says that no text has two ids.
+        let _len = self.project.pool.len();
+        let table = self.project.rules.deps().as_slice()[dep].table;
+        match self.project.stores[table].get(row) {
+            Some(tuple) => self.index.index.violations_of_row(
+                &self.project.rules,
+                &self.project.pool,
+                dep,
+                row,
+                tuple,
+                steps,
+            ),
+            None => Ok(List::new(*self.project.stores.allocator())),
+        }
     }
 
     /// The orphans of a numbered inclusion, each with the number of its tableau row: by tableau row, and for each by rising
@@ -138,7 +163,11 @@ impl<'a> BenchQueries<'a> {
         ensures orphans { IfOk result (λ found. found ≡ orphans_at self.now.rules self.now.history.present cind) }
         ensures probes { steps.new ≤ steps.old + cind_walk_at self.now.rules self.now.history.present cind }
     {
-        self.project.orphans(self.index, cind, steps)
+        // The length is what says that no text has two ids.
+        let _len = self.project.pool.len();
+        // The number of dirty keys is what says that they are those of the rows.
+        let _dirty = self.index.index.cinds[cind].dirty();
+        self.index.index.orphans(cind, steps)
     }
 
     /// How many orphans an inclusion has, without a list of them all.
@@ -151,7 +180,11 @@ impl<'a> BenchQueries<'a> {
         ensures count { IfOk result (λ count. count ≡ length (orphans_at self.now.rules self.now.history.present cind)) }
         ensures probes { steps.new ≤ steps.old + cind_walk_at self.now.rules self.now.history.present cind }
     {
-        self.project.orphan_count(self.index, cind, steps)
+        // The length is what says that no text has two ids.
+        let _len = self.project.pool.len();
+        // The number of dirty keys is what says that they are those of the rows.
+        let _dirty = self.index.index.cinds[cind].dirty();
+        self.index.index.orphan_count(cind, steps)
     }
 
     /// The orphans of an inclusion that a row of its left table is: at most one probe for each tableau row.
@@ -166,6 +199,12 @@ impl<'a> BenchQueries<'a> {
         ensures orphans { IfOk result (λ found. found ≡ orphans_of_row self.now.rules self.now.history.present cind row) }
         ensures probes { steps.new ≤ steps.old + cind_rows self.now.rules cind }
     {
-        self.project.orphans_of_row(self.index, cind, row, steps)
+        // The length is what says that no text has two ids.
+        let _len = self.project.pool.len();
+        let left = self.project.rules.cinds().as_slice()[cind].left;
+        match self.project.stores[left].get(row) {
+            Some(tuple) => self.index.index.orphans_of_row(cind, row, tuple, steps),
+            None => Ok(List::new(*self.project.stores.allocator())),
+        }
     }
 }
