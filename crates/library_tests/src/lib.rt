@@ -1,9 +1,11 @@
-//! Tests of calls that no words of the program reach, and of a container at types of its own, each through the
-//! public calls of its crate. They stand together, since a crate that has tests is proved once more for them.
+//! Tests of calls that no words of the program reach, of the real devices, and of a container at types of its own, each
+//! through the public calls of its crate. They stand together, since a crate that has tests is proved once more for them.
 #![tactic(auto)]
 
 #[cfg(test)]
 mod checked_trees;
+#[cfg(test)]
+mod devices;
 #[cfg(test)]
 mod edit_refusals;
 #[cfg(test)]

@@ -29,7 +29,7 @@ pub struct Unread {
 pub struct FolderShelf<R: Files> {
     alloc: Global,
     rt: R,
-    pub(crate) counts: FetchCounts,
+    counts: FetchCounts,
     unread: Option<Unread>,
 }
 

@@ -22,6 +22,3 @@ pub use sink::{PutFailed, Sink, write_out};
 pub use std_sink::StdSink;
 pub use steady_shelf::SteadyShelf;
 pub use steady_sink::SteadySink;
-
-#[cfg(test)]
-mod tests;

@@ -19,7 +19,7 @@ use std::marker::Model;
 pub struct MemoryShelf {
     files: HeldFiles,
     failing: Vec<u64>,
-    pub(crate) counts: FetchCounts,
+    counts: FetchCounts,
 }
 
 impl Model for MemoryShelf {
