@@ -14,7 +14,7 @@ returns-in_err-cell-clause-fault c =
     let this = rw c.as_slice-attr-items.ensures at c.attr-item.is in
     let inside : c.loop-i.i < length attrs = rw (← c.as_slice-attr-items.ensures) c.loop-i-test.true in
     let field = field_of-is attrs header _ c.args.self.now.in_place c.loop-i.i c.attr-item.result c.index.result.now inside this c.index.ensures fields c.requires.width in
-    let p = err_from_is_err_and c.from_residual.result c.from_residual.ensures.1 in
+    let p = err_from_is_err_and c.from_residual-in_err-cell.result c.from_residual-in_err-cell.ensures.1 in
     rw (p.1, p.2)
     (refusal-tells _ _ (fault.NotInDomain c.args.at c.attr-item.result.name) _
     (λ refused. c.loop-i.invariant.admitted ∙ domain_fault-refuses attrs header fields c.args.at c.loop-i.i c.attr-item.result inside this (ap (admits c.attr-item.result.domain) field ∙ refused)) c.in_err-cell.ensures.domain)
