@@ -1,5 +1,6 @@
 -- A change that is gone over in one of two directions: what holds of both.
-use Rattle.std.proofs.Common.{◌≡◌, ℕ, ◌+◌, ◌≤◌, List, Option, Some, None, IsSomeAnd, ap, arith}
+use Rattle.std.proofs.Common.{◌≡◌, ℕ, zero, suc, ◌+◌, ◌<◌, ◌≤◌, List, [], ◌∷◌, length, get_or, Option, Some, None, IsSomeAnd, ap, sym, subst, ◌∙◌, arith}
+use Rattle.std.proofs.lemmas.Option.{slice_get-get_or}
 use Rattle.std.specs.List.{slice_get}
 use Rattle.text_lists.specs.declared.limits.Limits.{Limits}
 use Rattle.rule_model.specs.Books.{Book}
@@ -84,3 +85,15 @@ given-small (Some tuple) row next is = omega arith
 pub turn-row : (direction : Direction) (change : Change) (table : Stored) → CanTurn direction change table → change.row ≤ table.next
 turn-row Back change table made = given-small change.old change.row table.next made.next
 turn-row Forward change table can = row-small change.old change.row table.next can.next
+
+-- ---- one store of several
+
+-- what holds of all holds at a place
+pub some-there : {X : Type 0} (P : X → Type 0) (xs : List X) (n : ℕ) → n < length xs → ((x : X) → P x) → IsSomeAnd (slice_get xs n) P
+some-there P [] n within holds = absurd (omega arith)
+some-there P (x ∷ xs) zero within holds = holds x
+some-there P (x ∷ xs) (suc n) within holds = some-there P xs n (omega arith) holds
+
+-- what holds at a place holds of what is read there
+pub read-there : {X : Type 0} (P : X → Type 0) (xs : List X) (n : ℕ) (x : X) → n < length xs → x ≡ get_or xs n x → IsSomeAnd (slice_get xs n) P → P x
+read-there P xs n x within is holds = subst (λ at. IsSomeAnd at P) (slice_get-get_or xs n x within ∙ ap Some (sym is)) holds

@@ -1,7 +1,8 @@
 -- A change that is gone over in one of two directions: taken back, or made.
-use Rattle.std.specs.Prelude.{◌≡◌, ℕ, List, Option, Bool, true, false, IsSomeAnd, slice_get}
+use Rattle.std.specs.Prelude.{◌≡◌, ℕ, ◌<◌, List, Option, Bool, true, false, is_some, IsSomeAnd, slice_get}
 use Rattle.text_lists.specs.declared.limits.Limits.{Limits}
 use Rattle.rule_model.specs.Books.{Book}
+use Rattle.row_store.specs.Store.{Store}
 use Rattle.row_store.specs.Tuple.{Tuple}
 use Rattle.edit_log.specs.Journal.{Journal, last_change, first_change}
 use Rattle.edit_log.specs.Log.{MovesBack, MovesForward}
@@ -39,6 +40,10 @@ turned Forward = after_change
 -- the tables then
 abbrev pub turned_all : Direction → Change → List Stored → List Stored
 turned_all direction change tables = at_table change.table (turned direction change) tables
+
+-- there is room for its row, if it has none before
+abbrev pub HasRoomFor : Direction → Change → Store → Type 0
+HasRoomFor direction change store = is_some (tuple_before direction change) ≡ false → 0 < store.spare
 
 -- The change can be gone over: tables before and then are a state that the bench may have, and the numbers are those of
 -- the one before.

@@ -1,12 +1,12 @@
 //! A change of one row: made to the store of its table, and taken back. The indexes and the log follow it either way.
 
-ghost use Rattle.std.specs.Prelude.{◌≡◌, ◌+◌, ◌*◌, ◌^◌, ◌<◌, ◌≤◌, ◌||◌, None, Some, IsTrue, OnErr, OnOk, is_some, option_copied, sum_by};
+ghost use Rattle.std.specs.Prelude.{◌≡◌, ◌+◌, ◌^◌, ◌<◌, ◌≤◌, ◌||◌, None, Some, false, IsTrue, OnErr, OnOk, is_some, option_copied};
 ghost use Rattle.row_store.specs.Tuple.{ids_if};
 ghost use Rattle.bench_index.specs.AllIndexes.{AllFollow, AreAsBefore, most_probes};
 ghost use Rattle.bench_core.specs.Indexed.{CanFollow};
 ghost use Rattle.bench_core.specs.Stored.{stored};
 ghost use Rattle.bench_core.specs.Changes.{CanMake, HasMade, after_change, before_change};
-ghost use Rattle.bench_core.specs.Turns.{CanTurn, Moves, next_change, tuple_after, tuple_before, turned};
+ghost use Rattle.bench_core.specs.Turns.{CanTurn, HasRoomFor, Moves, next_change, tuple_after, tuple_before, turned};
 
 use bench_index::AllIndexes;
 use edit_log::{Change, Log};
@@ -50,7 +50,7 @@ pub(crate) fn move_log(log: &mut Log, direction: Direction)
 }
 
 /// The tuple that the row of a change has before it is gone over in that direction.
-fn tuple_before(change: &Change, direction: Direction) -> &Option<Tuple>
+pub(crate) fn tuple_before(change: &Change, direction: Direction) -> &Option<Tuple>
     ensures { result.now ≡ tuple_before direction change.now }
 {
     match direction {
@@ -76,7 +76,7 @@ pub(crate) fn turn(
     direction: Direction,
     tuple: Option<Tuple>,
 )
-    requires room { 0 < store.old.spare }
+    requires room { HasRoomFor direction change.now store.old }
     requires id_left { change.now.row + 1 < 2 ^ 64 }
     requires there { IsTrue (is_some change.now.old || is_some change.now.new) }
     requires can { CanTurn direction change.now (stored store.old) }
@@ -91,7 +91,7 @@ pub(crate) fn turn(
 
 /// Makes the change. `new` is its new tuple.
 fn make(store: &mut RowStore, change: &Change, new: Option<Tuple>)
-    requires room { 0 < store.old.spare }
+    requires room { is_some change.now.old ≡ false → 0 < store.old.spare }
     requires id_left { change.now.row + 1 < 2 ^ 64 }
     requires there { IsTrue (is_some change.now.old || is_some change.now.new) }
     requires can { CanMake change.now (stored store.old) }
@@ -107,7 +107,7 @@ fn make(store: &mut RowStore, change: &Change, new: Option<Tuple>)
 }
 
 fn put_new(store: &mut RowStore, change: &Change, tuple: Tuple)
-    requires room { 0 < store.old.spare }
+    requires room { is_some change.now.old ≡ false → 0 < store.old.spare }
     requires id_left { change.now.row + 1 < 2 ^ 64 }
     requires can { CanMake change.now (stored store.old) }
     requires same { ids_if change.now.new ≡ ids_if (Some tuple) }
@@ -122,7 +122,7 @@ fn put_new(store: &mut RowStore, change: &Change, tuple: Tuple)
 
 /// Takes the change back. `old` is its old tuple.
 fn take_back(store: &mut RowStore, change: &Change, old: Option<Tuple>)
-    requires room { 0 < store.old.spare }
+    requires room { is_some change.now.new ≡ false → 0 < store.old.spare }
     requires there { IsTrue (is_some change.now.old || is_some change.now.new) }
     requires made { HasMade change.now (stored store.old) }
     requires same { ids_if old ≡ ids_if change.now.old }
@@ -147,7 +147,7 @@ fn take_newest(store: &mut RowStore, change: &Change)
 }
 
 fn put_old(store: &mut RowStore, change: &Change, tuple: Tuple)
-    requires room { 0 < store.old.spare }
+    requires room { is_some change.now.new ≡ false → 0 < store.old.spare }
     requires made { HasMade change.now (stored store.old) }
     requires same { ids_if change.now.old ≡ ids_if (Some tuple) }
     ensures { stored store.new ≡ before_change change.now (stored store.old) }

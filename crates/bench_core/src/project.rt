@@ -13,10 +13,12 @@ ghost use Rattle.bench_core.specs.Changes.{CanMake, IsChange, made_again, told_o
 ghost use Rattle.bench_index.specs.declared.all_indexes.AllIndexes.{AllIndexes as Indexes};
 ghost use Rattle.bench_index.specs.AllIndexes.{most_probes};
 ghost use Rattle.bench_core.specs.Bench.{AtTable, IsBench, IsHeld, history, present_of, tables_of};
-ghost use Rattle.bench_core.specs.Turns.{AreCountedThen, CanBeTurned, HasNoNext, HasStepped, next_state, tuple_after, turned_all};
+ghost use Rattle.bench_core.specs.Turns.{AreCountedThen, CanBeTurned, HasNoNext, HasRoomFor, HasStepped, next_state, tuple_after, turned_all};
 ghost use Rattle.bench_core.specs.Indexed.{AreOfTheChange, IsInStepWith, IsIndexed, edit_probes, tuples_of};
 
-use crate::changes::{Direction, follow_change, move_log, next_change, tuple_after, turn};
+use crate::changes::{
+    Direction, follow_change, move_log, next_change, tuple_after, tuple_before, turn,
+};
 use crate::edit::{Applied, EditFault};
 use crate::sizes::Counts;
 use crate::target::Target;
@@ -63,13 +65,20 @@ fn told_of(change: &Change) -> Applied
     }
 }
 
-/// Makes room for one more row of the table.
-fn make_room(stores: &mut Vec<RowStore>, table: usize) -> Result<(), AllocError>
-    requires { table < length stores.old.items }
-    ensures room { OnOk result (IsSomeAnd (slice_get stores.new.items table) (λ store. 0 < store.spare)) }
+/// Makes room for the row of a change, if it has none before.
+fn make_room(
+    stores: &mut Vec<RowStore>,
+    change: &Change,
+    direction: Direction,
+) -> Result<(), AllocError>
+    requires { change.now.table < length stores.old.items }
+    ensures room { OnOk result (IsSomeAnd (slice_get stores.new.items change.now.table) (HasRoomFor direction change.now)) }
     ensures same { map stored stores.new.items ≡ map stored stores.old.items }
 {
-    stores[table].ready_insert()
+    if tuple_before(change, direction).is_none() {
+        stores[change.table].ready_insert()?;
+    }
+    Ok(())
 }
 
 /// Turns the table of a change into what it is then, and the numbers with it. `tuple` is what the row then has.
@@ -81,7 +90,7 @@ fn turn_counted(
     tuple: Option<Tuple>,
 )
     requires turn { CanBeTurned direction change.now (map stored stores.old.items) counts.old }
-    requires room { IsSomeAnd (slice_get stores.old.items change.now.table) (λ store. 0 < store.spare) }
+    requires room { IsSomeAnd (slice_get stores.old.items change.now.table) (HasRoomFor direction change.now) }
     requires same { ids_if tuple ≡ ids_if (tuple_after direction change.now) }
     ensures tables { map stored stores.new.items ≡ turned_all direction change.now (map stored stores.old.items) }
     ensures counts { AreCountedThen direction change.now (map stored stores.old.items) counts.old counts.new }
@@ -140,7 +149,7 @@ impl Project {
     {
         let change = self.planned(number, edit)?;
         let new = shared(&change.new)?;
-        make_room(&mut self.stores, number)?;
+        make_room(&mut self.stores, &change, Direction::Forward)?;
         self.log.ready()?;
         follow_change(index, &self.rules, &change, Direction::Forward, steps)?;
         Ok(self.done(change, new))
@@ -178,7 +187,7 @@ impl Project {
         requires is { IsChange self.old.pool change }
         requires within { IsBench self.old.rules self.old.limits (state_of self.old.pool (made_again change (tables_of self.old))) }
         requires same { ids_if new ≡ ids_if change.new }
-        requires room { IsSomeAnd (slice_get self.old.stores.items change.table) (λ store. 0 < store.spare) }
+        requires room { IsSomeAnd (slice_get self.old.stores.items change.table) (HasRoomFor Direction.Forward change) }
         requires log { 0 < self.old.log.spare }
         ensures held { IsHeld self.new }
         ensures history { history self.new ≡ accepted (history self.old) (state_of self.old.pool (made_again change (tables_of self.old))) }
@@ -214,7 +223,7 @@ impl Project {
             return Ok(false);
         };
         let tuple = shared(tuple_after(change, direction))?;
-        make_room(&mut self.stores, change.table)?;
+        make_room(&mut self.stores, change, direction)?;
         follow_change(index, &self.rules, change, direction, steps)?;
         let (stores, counts) = (&mut self.stores, &mut self.counts);
         turn_counted(stores, counts, change, direction, tuple);

@@ -2,9 +2,9 @@ use Rattle.std.proofs.Common.{◌<◌, length, map, ap, ◌∙◌}
 use Rattle.std.proofs.lemmas.List.{length-map}
 use Rattle.std.specs.FinMap as finmap
 use Rattle.bench_core.specs.Stored.{Stored, stored}
-use Rattle.bench_core.specs.Turns.{CanTurn, turned}
+use Rattle.bench_core.specs.Turns.{CanTurn, HasRoomFor, turned}
 use Rattle.bench_core.proofs.Holding.{id-left, n-cells-fit, n-counted, n-in_weights, n-rows-fit, of-table, stored-at, stored-set, there-within}
-use Rattle.bench_core.proofs.Turning.{turn-row}
+use Rattle.bench_core.proofs.Turning.{read-there, turn-row}
 use Rattle.bench_core.proofs.project.turn_counted.Goals as goal
 
 pub index_mut-store-requires : goal.index_mut-store-requires
@@ -14,7 +14,11 @@ index_mut-store-requires c =
     rw length-map at (there-within (CanTurn c.args.direction change) (map stored c.args.stores.now.items) change.table turn.can)
 
 pub turn-requires-clause-room : goal.turn-requires-clause-room
-turn-requires-clause-room c = ?0
+turn-requires-clause-room c =
+    let (rules, limits, texts, turn) = c.requires.turn in
+    let change = c.args.change.now in
+    let inside : change.table < length c.args.stores.now.items = rw length-map at (there-within (CanTurn c.args.direction change) (map stored c.args.stores.now.items) change.table turn.can) in
+    read-there (HasRoomFor c.args.direction change) c.args.stores.now.items change.table c.index_mut-store.result.now inside c.index_mut-store.ensures.value c.requires.room
 
 pub turn-requires-clause-id_left : goal.turn-requires-clause-id_left
 turn-requires-clause-id_left c =

@@ -3,8 +3,9 @@ use Rattle.std.specs.List.{slice_get}
 use Rattle.bench_core.specs.History.{accepted}
 use Rattle.bench_core.specs.Stored.{state_of}
 use Rattle.bench_core.specs.Changes.{CanMake, history_of, made_again, told_of}
+use Rattle.std.proofs.lemmas.List.{length-map}
 use Rattle.bench_core.specs.Bench.{Holds, IsBench, tables_of, history}
-use Rattle.bench_core.proofs.Holding.{on-err, held-log, history-edited-is}
+use Rattle.bench_core.proofs.Holding.{on-err, held-log, history-edited-is, there-within}
 use Rattle.bench_core.specs.Indexed.{IsIndexed, tuples_of}
 use Rattle.bench_index.specs.AllIndexes.{most_probes}
 use Rattle.bench_core.proofs.InStepWith.{indexed-refused}
@@ -12,6 +13,9 @@ use Rattle.bench_core.proofs.FollowedChange.{forward-can, forward-followed}
 use Rattle.row_store.specs.Watches.{with_row}
 use Rattle.row_store.specs.Tuple.{ids_if}
 use Rattle.bench_core.proofs.project.Project.edit_table.Goals as goal
+
+pub make_room-requires : goal.make_room-requires
+make_room-requires g c = rw length-map at (there-within (CanMake c.in_ok-change.change) (tables_of c.planned.new.self) c.in_ok-change.change.table c.in_ok-change.ensures.can)
 
 pub returns-in_err-make_room-clause-held : goal.returns-in_err-make_room-clause-held
 returns-in_err-make_room-clause-held g c =
@@ -40,10 +44,6 @@ done-requires-clause-can g c =
 pub done-requires-clause-within : goal.done-requires-clause-within
 done-requires-clause-within g c =
     subst (λ tables. IsBench c.planned.new.self.rules c.planned.new.self.limits (state_of c.planned.new.self.pool (made_again c.in_ok-change.change tables))) (sym c.make_room.ensures.same) c.in_ok-change.ensures.within
-
-pub done-requires-clause-room : goal.done-requires-clause-room
-done-requires-clause-room g c =
-    subst (λ n. IsSomeAnd (slice_get c.make_room.new.stores.items n) (λ store. 0 < store.spare)) (sym c.in_ok-change.ensures.number) c.in_ok-make_room.ensures.room
 
 pub returns-clause-edited : goal.returns-clause-edited
 returns-clause-edited g c =
