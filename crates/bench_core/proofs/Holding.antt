@@ -1,5 +1,5 @@
 -- What a bench holds, as a change is taken back, made again, or made for the first time.
-use Rattle.std.proofs.Common.{◌≡◌, ℕ, zero, suc, ◌+◌, ◌-◌, ◌*◌, ◌^◌, ◌<◌, ◌≤◌, List, [], ◌∷◌, ◌++◌, map, set, length, get_or, Option, Some, None, Result, Ok, Err, IfOk, OnErr, All, IsSomeAnd, refl, sym, ap, subst, ◌∙◌, arith, slice_index}
+use Rattle.std.proofs.Common.{◌≡◌, ℕ, zero, suc, ◌+◌, ◌-◌, ◌*◌, ◌^◌, ◌<◌, ◌≤◌, List, [], ◌∷◌, ◌++◌, map, set, length, get_or, Option, Some, None, Result, Ok, Err, IfOk, OnErr, OnOk, All, IsSomeAnd, refl, sym, ap, subst, ◌∙◌, arith, slice_index}
 use Rattle.std.specs.List.{slice_get, slice_set}
 use Rattle.std.proofs.lemmas.List.{length-map}
 use Rattle.std.proofs.lemmas.List.Elements.{All-nil, All-cons, All-head, All-tail, All-pop, All-push, All-same}
@@ -75,6 +75,10 @@ ok-weaker P Q (Err e) weaker holds = holds
 pub on-err : {X E : Type 0} (result : Result X E) (P : Type 0) → P → OnErr result P
 on-err (Ok x) P holds = tt
 on-err (Err e) P holds = holds
+
+pub on-ok : {X E : Type 0} (result : Result X E) (P Q : Type 0) → (P → Q) → OnOk result P → OnOk result Q
+on-ok (Ok x) P Q weaker holds = weaker holds
+on-ok (Err e) P Q weaker holds = holds
 
 pub given-none : (old : Option Tuple) (row next : ℕ) → ids_if old ≡ None → IsGiven old row next → next ≡ row + 1
 given-none None row next none is = is

@@ -1,5 +1,5 @@
 -- A change that is gone over in one of two directions: what holds of both.
-use Rattle.std.proofs.Common.{◌≡◌, ℕ, zero, suc, ◌+◌, ◌<◌, ◌≤◌, List, [], ◌∷◌, length, get_or, Option, Some, None, IsSomeAnd, ap, sym, subst, ◌∙◌, arith}
+use Rattle.std.proofs.Common.{◌≡◌, ℕ, zero, suc, ◌+◌, ◌<◌, ◌≤◌, List, [], ◌∷◌, length, get_or, Option, Some, None, Bool, true, false, IsSomeAnd, ap, sym, subst, ◌∙◌, arith}
 use Rattle.std.proofs.lemmas.Option.{slice_get-get_or}
 use Rattle.std.specs.List.{slice_get}
 use Rattle.text_lists.specs.declared.limits.Limits.{Limits}
@@ -12,7 +12,7 @@ use Rattle.bench_index.specs.declared.all_indexes.AllIndexes.{AllIndexes}
 use Rattle.bench_core.specs.declared.changes.Direction.{Direction}
 use Rattle.bench_core.specs.declared.changes.Direction.TheVariants.{Back, Forward}
 use Rattle.bench_core.specs.Stored.{Stored, state_of}
-use Rattle.bench_core.specs.Changes.{IsGiven, history_of, states_after, states_before}
+use Rattle.bench_core.specs.Changes.{IsChange, IsGiven, history_of, states_after, states_before}
 use Rattle.bench_core.specs.Bench.{AreCounts, Holds, IsBench}
 use Rattle.bench_core.specs.Indexed.{AreOfTheChange, CanFollow, IsIndexed, tuples_of}
 use Rattle.bench_core.specs.Turns.{CanTurn, HasNoNext, IsStep, Moves, next_change, next_state, tuple_after, tuple_before, turned_all}
@@ -93,6 +93,10 @@ pub some-there : {X : Type 0} (P : X → Type 0) (xs : List X) (n : ℕ) → n <
 some-there P [] n within holds = absurd (omega arith)
 some-there P (x ∷ xs) zero within holds = holds x
 some-there P (x ∷ xs) (suc n) within holds = some-there P xs n (omega arith) holds
+
+pub not-both : (b : Bool) → b ≡ true → b ≡ false → ⊥
+not-both true one other = absurd (cc)
+not-both false one other = absurd (cc)
 
 -- what holds at a place holds of what is read there
 pub read-there : {X : Type 0} (P : X → Type 0) (xs : List X) (n : ℕ) (x : X) → n < length xs → x ≡ get_or xs n x → IsSomeAnd (slice_get xs n) P → P x

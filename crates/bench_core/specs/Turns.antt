@@ -47,11 +47,11 @@ HasRoomFor direction change store = is_some (tuple_before direction change) ≡ 
 
 -- The change can be gone over: tables before and then are a state that the bench may have, and the numbers are those of
 -- the one before.
-pub record IsTurn (rules : Book) (limits : Limits) (texts : List (List ℕ)) (direction : Direction) (change : Change) (tables : List Stored) (counts : Counts) : Type 0 where
+pub record IsTurn (rules : Book) (limits : Limits) (texts : List (List ℕ)) (direction : Direction) (change : Change) (tables : List Stored) (numbers : Counts) : Type 0 where
   pub is : IsChange texts change
   pub can : IsSomeAnd (slice_get tables change.table) (CanTurn direction change)
   pub present : IsBench rules limits (state_of texts tables)
-  pub counts : AreCounts rules (state_of texts tables) counts.weights.items counts.rows counts.cells
+  pub counts : AreCounts rules (state_of texts tables) numbers.weights.items numbers.rows numbers.cells
   pub then_present : IsBench rules limits (state_of texts (turned_all direction change tables))
 
 -- it can be gone over, under some rules, limits and texts

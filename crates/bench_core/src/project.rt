@@ -75,10 +75,10 @@ fn make_room(
     ensures room { OnOk result (IsSomeAnd (slice_get stores.new.items change.now.table) (HasRoomFor direction change.now)) }
     ensures same { map stored stores.new.items ≡ map stored stores.old.items }
 {
-    if tuple_before(change, direction).is_none() {
-        stores[change.table].ready_insert()?;
+    if tuple_before(change, direction).is_some() {
+        return Ok(());
     }
-    Ok(())
+    stores[change.table].ready_insert()
 }
 
 /// Turns the table of a change into what it is then, and the numbers with it. `tuple` is what the row then has.

@@ -1,4 +1,4 @@
-use Rattle.std.proofs.Common.{◌<◌, length, map, ap, ◌∙◌}
+use Rattle.std.proofs.Common.{◌<◌, length, map, ap, ◌∙◌, arith}
 use Rattle.std.proofs.lemmas.List.{length-map}
 use Rattle.std.specs.FinMap as finmap
 use Rattle.bench_core.specs.Stored.{Stored, stored}
@@ -11,7 +11,8 @@ pub index_mut-store-requires : goal.index_mut-store-requires
 index_mut-store-requires c =
     let (rules, limits, texts, turn) = c.requires.turn in
     let change = c.args.change.now in
-    rw length-map at (there-within (CanTurn c.args.direction change) (map stored c.args.stores.now.items) change.table turn.can)
+    let inside : change.table < length c.args.stores.now.items = rw length-map at (there-within (CanTurn c.args.direction change) (map stored c.args.stores.now.items) change.table turn.can) in
+    omega (arith, inside, c.args.stores.now.ok.0)
 
 pub turn-requires-clause-room : goal.turn-requires-clause-room
 turn-requires-clause-room c =

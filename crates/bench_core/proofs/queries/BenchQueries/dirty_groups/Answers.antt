@@ -15,4 +15,4 @@ returns c =
     let items = c.self.inside.index.now.index.groups.items in
     let within = dep-indexed project.rules project.pool (tables_of project) c.self.inside.index.now c.self.invariant.0.named c.self.invariant.1 c.args.dep (rw (← c.self.view_is) at c.requires) in
     let here = rule-at items items c.args.dep c.index.result.now refl within c.index.ensures in
-    groups-dirty project.rules project.pool (tables_of project) c.self.inside.index.now c.self.invariant.0.named c.self.invariant.1 c.args.dep c.len-len.ensures.distinct c.index.result.now c.dirty.result (rw (← c.self.view_is) at c.requires) here c.dirty.ensures.groups
+    rw (← c.self.view_is) (groups-dirty project.rules project.pool (tables_of project) c.self.inside.index.now c.self.invariant.0.named c.self.invariant.1 c.args.dep c.len-len.ensures.distinct c.index.result.now c.dirty.result (rw (← c.self.view_is) at c.requires) here c.dirty.ensures.groups)

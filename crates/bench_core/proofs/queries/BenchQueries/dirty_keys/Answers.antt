@@ -15,4 +15,4 @@ returns c =
     let items = c.self.inside.index.now.index.cinds.items in
     let within = cind-indexed project.rules project.pool (tables_of project) c.self.inside.index.now c.self.invariant.0.named c.self.invariant.1 c.args.cind (rw (← c.self.view_is) at c.requires) in
     let here = rule-at items items c.args.cind c.index.result.now refl within c.index.ensures in
-    keys-dirty project.rules project.pool (tables_of project) c.self.inside.index.now c.self.invariant.0.named c.self.invariant.1 c.args.cind c.len-len.ensures.distinct c.index.result.now c.dirty.result (rw (← c.self.view_is) at c.requires) here c.dirty.ensures.dirty
+    rw (← c.self.view_is) (keys-dirty project.rules project.pool (tables_of project) c.self.inside.index.now c.self.invariant.0.named c.self.invariant.1 c.args.cind c.len-len.ensures.distinct c.index.result.now c.dirty.result (rw (← c.self.view_is) at c.requires) here c.dirty.ensures.dirty)

@@ -17,7 +17,7 @@ orphans-requires g c =
 pub returns-clause-orphans : goal.returns-clause-orphans
 returns-clause-orphans g c =
     let project = c.self.inside.project.now in
-    ok_weaker c.orphans.result (λ found. orphans-are project.rules project.pool (tables_of project) c.self.inside.index.now c.self.invariant.0.named c.self.invariant.1 c.len-len.ensures.distinct c.args.cind found (rw (← c.self.view_is) at c.requires)) c.orphans.ensures.orphans
+    rw (← c.self.view_is) (ok_weaker c.orphans.result (λ found. orphans-are project.rules project.pool (tables_of project) c.self.inside.index.now c.self.invariant.0.named c.self.invariant.1 c.len-len.ensures.distinct c.args.cind found (rw (← c.self.view_is) at c.requires)) c.orphans.ensures.orphans)
 
 pub returns-clause-probes : goal.returns-clause-probes
 returns-clause-probes g c =
@@ -25,5 +25,5 @@ returns-clause-probes g c =
     let items = c.self.inside.index.now.index.cinds.items in
     let within = cind-indexed project.rules project.pool (tables_of project) c.self.inside.index.now c.self.invariant.0.named c.self.invariant.1 c.args.cind (rw (← c.self.view_is) at c.requires) in
     let here = rule-at items items c.args.cind c.index.result.now refl within c.index.ensures in
-    keys-walked project.rules project.pool (tables_of project) c.self.inside.index.now c.self.invariant.0.named c.self.invariant.1 c.args.cind c.len-len.ensures.distinct
-    c.index.result.now c.dirty-dirty.result c.args.steps.now c.orphans.new.steps (rw (← c.self.view_is) at c.requires) here c.dirty-dirty.ensures.dirty c.dirty-dirty.ensures.marked c.orphans.ensures.probes
+    rw (← c.self.view_is) (keys-walked project.rules project.pool (tables_of project) c.self.inside.index.now c.self.invariant.0.named c.self.invariant.1 c.args.cind c.len-len.ensures.distinct
+    c.index.result.now c.dirty-dirty.result c.args.steps.now c.orphans.new.steps (rw (← c.self.view_is) at c.requires) here c.dirty-dirty.ensures.dirty c.dirty-dirty.ensures.marked c.orphans.ensures.probes)

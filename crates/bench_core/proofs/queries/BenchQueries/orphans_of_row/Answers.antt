@@ -32,7 +32,7 @@ returns-in-Some-clause-orphans g c =
     let project = c.self.inside.project.now in
     let is = found c.get.result c.in-Some.tuple (finmap.get c.index.result.now.rows c.args.row) c.get.ensures c.in-Some.is in
     let there = row-there project.rules project.limits project.pool (tables_of project) c.self.invariant.0.history.present c.index-as_slice-cind.result.left c.args.row (stored c.index.result.now) (store-read c.self.inside.project.now c.self.invariant.0 c.index-as_slice-cind.result.left (cind-valid c.self.inside.project.now.rules c.cinds.ensures.valid c.args.cind c.index-as_slice-cind.result (rule-at (book_cinds c.self.inside.project.now.rules) c.as_slice.result.now c.args.cind c.index-as_slice-cind.result (c.as_slice.ensures ∙ c.cinds.ensures.cinds) (rw (← c.self.view_is) at c.requires.cind) c.index-as_slice-cind.is)).left c.index.result.now (c.index.ensures ∙ ap (λ (rule : Cind). get_or c.self.inside.project.now.stores.items rule.left c.index.result.now) (sym c.index-as_slice-cind.is))) (ids_of c.in-Some.tuple.now) is in
-    ok_weaker c.orphans_of_row.result (λ lines. row-orphans project.rules project.pool (tables_of project) c.self.inside.index.now c.self.invariant.0.named c.self.invariant.1 c.len-len.ensures.distinct c.args.cind c.args.row (ids_of c.in-Some.tuple.now) lines c.index-as_slice-cind.result (rule-at (book_cinds c.self.inside.project.now.rules) c.as_slice.result.now c.args.cind c.index-as_slice-cind.result (c.as_slice.ensures ∙ c.cinds.ensures.cinds) (rw (← c.self.view_is) at c.requires.cind) c.index-as_slice-cind.is) there) c.orphans_of_row.ensures.orphans
+    rw (← c.self.view_is) (ok_weaker c.orphans_of_row.result (λ lines. row-orphans project.rules project.pool (tables_of project) c.self.inside.index.now c.self.invariant.0.named c.self.invariant.1 c.len-len.ensures.distinct c.args.cind c.args.row (ids_of c.in-Some.tuple.now) lines c.index-as_slice-cind.result (rule-at (book_cinds c.self.inside.project.now.rules) c.as_slice.result.now c.args.cind c.index-as_slice-cind.result (c.as_slice.ensures ∙ c.cinds.ensures.cinds) (rw (← c.self.view_is) at c.requires.cind) c.index-as_slice-cind.is) there) c.orphans_of_row.ensures.orphans)
 
 pub returns-in-None-clause-orphans : goal.returns-in-None-clause-orphans
 returns-in-None-clause-orphans g c =
@@ -49,4 +49,4 @@ pub returns-in-Some-clause-probes : goal.returns-in-Some-clause-probes
 returns-in-Some-clause-probes g c =
     let project = c.self.inside.project.now in
     let within = cind-indexed project.rules project.pool (tables_of project) c.self.inside.index.now c.self.invariant.0.named c.self.invariant.1 c.args.cind (rw (← c.self.view_is) at c.requires.cind) in
-    cind-rows-probed project.rules project.pool (tables_of project) c.self.inside.index.now c.self.invariant.0.named c.self.invariant.1 c.args.cind c.args.steps.now c.orphans_of_row.new.steps (rw (← c.self.view_is) at c.requires.cind) within c.orphans_of_row.ensures.probes
+    rw (← c.self.view_is) (cind-rows-probed project.rules project.pool (tables_of project) c.self.inside.index.now c.self.invariant.0.named c.self.invariant.1 c.args.cind c.args.steps.now c.orphans_of_row.new.steps (rw (← c.self.view_is) at c.requires.cind) within c.orphans_of_row.ensures.probes)

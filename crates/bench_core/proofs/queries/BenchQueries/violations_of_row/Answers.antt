@@ -38,7 +38,7 @@ returns-in-Some-clause-violations g c =
     let project = c.self.inside.project.now in
     let is = found c.get.result c.in-Some.tuple (finmap.get c.index.result.now.rows c.args.row) c.get.ensures c.in-Some.is in
     let there = row-there project.rules project.limits project.pool (tables_of project) c.self.invariant.0.history.present c.index-as_slice-dep.result.table c.args.row (stored c.index.result.now) (store-read c.self.inside.project.now c.self.invariant.0 c.index-as_slice-dep.result.table (dep-valid c.self.inside.project.now.rules c.deps.ensures.valid c.args.dep c.index-as_slice-dep.result (rule-at (book_deps c.self.inside.project.now.rules) c.as_slice.result.now c.args.dep c.index-as_slice-dep.result (c.as_slice.ensures ∙ c.deps.ensures.deps) (rw (← c.self.view_is) at c.requires.dep) c.index-as_slice-dep.is)).table c.index.result.now (c.index.ensures ∙ ap (λ (rule : Dep). get_or c.self.inside.project.now.stores.items rule.table c.index.result.now) (sym c.index-as_slice-dep.is))) (ids_of c.in-Some.tuple.now) is in
-    ok_weaker c.violations_of_row.result (λ lines. row-violations project.rules project.pool (tables_of project) c.self.inside.index.now c.self.invariant.0.named c.self.invariant.1 c.len-len.ensures.distinct c.args.dep c.args.row (ids_of c.in-Some.tuple.now) lines c.index-as_slice-dep.result (rule-at (book_deps c.self.inside.project.now.rules) c.as_slice.result.now c.args.dep c.index-as_slice-dep.result (c.as_slice.ensures ∙ c.deps.ensures.deps) (rw (← c.self.view_is) at c.requires.dep) c.index-as_slice-dep.is) there) c.violations_of_row.ensures.violations
+    rw (← c.self.view_is) (ok_weaker c.violations_of_row.result (λ lines. row-violations project.rules project.pool (tables_of project) c.self.inside.index.now c.self.invariant.0.named c.self.invariant.1 c.len-len.ensures.distinct c.args.dep c.args.row (ids_of c.in-Some.tuple.now) lines c.index-as_slice-dep.result (rule-at (book_deps c.self.inside.project.now.rules) c.as_slice.result.now c.args.dep c.index-as_slice-dep.result (c.as_slice.ensures ∙ c.deps.ensures.deps) (rw (← c.self.view_is) at c.requires.dep) c.index-as_slice-dep.is) there) c.violations_of_row.ensures.violations)
 
 pub returns-in-None-clause-violations : goal.returns-in-None-clause-violations
 returns-in-None-clause-violations g c =
@@ -50,4 +50,4 @@ pub returns-in-Some-clause-probes : goal.returns-in-Some-clause-probes
 returns-in-Some-clause-probes g c =
     let project = c.self.inside.project.now in
     let within = dep-indexed project.rules project.pool (tables_of project) c.self.inside.index.now c.self.invariant.0.named c.self.invariant.1 c.args.dep (rw (← c.self.view_is) at c.requires.dep) in
-    dep-rows-probed project.rules project.pool (tables_of project) c.self.inside.index.now c.self.invariant.0.named c.self.invariant.1 c.args.dep c.args.steps.now c.violations_of_row.new.steps (rw (← c.self.view_is) at c.requires.dep) within c.violations_of_row.ensures.probes
+    rw (← c.self.view_is) (dep-rows-probed project.rules project.pool (tables_of project) c.self.inside.index.now c.self.invariant.0.named c.self.invariant.1 c.args.dep c.args.steps.now c.violations_of_row.new.steps (rw (← c.self.view_is) at c.requires.dep) within c.violations_of_row.ensures.probes)
