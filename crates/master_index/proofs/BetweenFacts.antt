@@ -1,6 +1,6 @@
 -- What a row that comes in under a key, or goes from it, makes of a list's rows beside those of the tables.
-use Rattle.std.proofs.Common.{◌≡◌, ◌≢◌, ℕ, ◌<◌, Bool, true, false, List, [], ◌∷◌, length, Option, Some, None, Result, Ok, Err, OnOk, OnErr, refl, sym, ap, subst, ◌∙◌, true≢false, slice_get, arith}
-use Rattle.std.specs.Prelude.{◌==◌, ◌&&◌, ◌||◌, not, cond, IfSome}
+use Rattle.std.proofs.Common.{◌≡◌, ◌≢◌, ℕ, ◌<◌, Bool, true, false, List, [], ◌∷◌, Option, Some, None, Result, Ok, Err, OnOk, OnErr, refl, sym, ap, subst, ◌∙◌, true≢false, slice_get, arith}
+use Rattle.std.specs.Prelude.{◌==◌, ◌&&◌, ◌||◌, not}
 use Rattle.std.specs.FinMap as finite
 use Rattle.std.specs.Option.{option_map_or}
 use Rattle.std.specs.Str.{bytes_eq}
@@ -192,8 +192,10 @@ module _ (rows : MasterRows) (list : ColumnList) (old new : KeyedRows) where
                 let other = apart ids (ap (λ n. finite.get rows (list.master, n)) (sym is_row) ∙ named_is rows list.master r ids named) in
                 grind (arith, other)
             by_row false e = grind (arith, e)
+
         was : (ids : List ℕ) (r : ℕ) → is_under ids r new ≡ true → is_under ids r old ≡ true
         was ids r under = let now_under = sym (taken ids r) ∙ under in grind (arith, now_under)
+
         by : (ids : List ℕ) (r : ℕ) → is_under ids r new ≡ true → (held : List ℕ) × (with_one (in_rows rows) list.master row tuple list.master r held ≡ true) × (ids_in held list.columns ≡ ids)
             → (held : List ℕ) × (in_rows rows list.master r held ≡ true) × (ids_in held list.columns ≡ ids)
         by ids r under (held, named, key) = of_which (which (in_rows rows) list.master row tuple list.master r held named)

@@ -172,6 +172,7 @@ entered old mid key row place kept index found pushed = by (lookup (same_key key
   where
     alone : RowIds
     alone = One row
+
     by : (o : Option RowIds) → lookup (same_key key) old ≡ o → IsEntered old mid key.items row place
     by None none =
         let last = index ∙ stands_last old key alone none in
@@ -199,6 +200,7 @@ entered old mid key row place kept index found pushed = by (lookup (same_key key
             ap (λ b. cond b false (is_noted ids column old)) e
             ∙ sym (ap (λ xs. is_noted xs column old) (equal_lists ids key.items e) ∙ ap (read_of (λ rows. noted rows column) false) none_there)
         none_noted ids column false e none_there = ap (λ b. cond b false (is_noted ids column old)) e
+
         came_in : (ids : List ℕ) (other : ℕ) (b : Bool) → bytes_eq ids key.items ≡ b
             → rows_under ids (old ++ (key, alone) ∷ []) ≡ cond (bytes_eq ids key.items) (listed alone) (rows_under ids old) → rows_under key.items old ≡ []
             → ((bytes_eq ids key.items && other == row) || is_under ids other (old ++ (key, alone) ∷ [])) ≡ ((bytes_eq ids key.items && other == row) || is_under ids other old)
@@ -416,8 +418,10 @@ module _ {S : Type 0} (m : IndexMap (SmallVec ℕ) RowIds S) (unique : IsUnique 
     where
       entry : (key : SmallVec ℕ) × (slice_get m.entries place ≡ Some (key, lent))
       entry = entry_of m.entries place lent value
+
       key : SmallVec ℕ
       key = entry.0
+
       by : (b : Bool) → bytes_eq ids key.items ≡ b → cond (bytes_eq ids key.items) (noted new column) (is_noted ids column m.entries) ≡ is_noted ids column m.entries
       by true e =
           ap (λ b. cond b (noted new column) (is_noted ids column m.entries)) e ∙ same column

@@ -1,5 +1,5 @@
 -- A master index is kept when one row changes: its indexes of lists of columns, and the widths of its rows.
-use Rattle.std.proofs.Common.{◌≡◌, ℕ, ◌<◌, Bool, true, false, cond, List, [], ◌∷◌, ◌++◌, length, get_or, take, drop, Option, Some, None, refl, sym, ap, subst, ◌∙◌, true≢false, arith}
+use Rattle.std.proofs.Common.{◌≡◌, ℕ, Bool, true, false, cond, List, [], ◌∷◌, ◌++◌, length, get_or, take, drop, Option, Some, None, refl, sym, ap, subst, ◌∙◌, true≢false, arith}
 use Rattle.std.specs.Prelude.{◌==◌, ◌&&◌, ◌||◌, All, IfSome}
 use Rattle.std.specs.FinMap as finite
 use Rattle.std.specs.Option.{ForSome, option_map_or}
@@ -8,7 +8,6 @@ use Rattle.std.proofs.lemmas.Bool.Decides.{nat_tests}
 use Rattle.std.proofs.lemmas.List.{length-map}
 use Rattle.std.proofs.lemmas.Option.{none-some}
 use Rattle.master_index.specs.declared.column_index.ColumnIndex.{ColumnIndex}
-use Rattle.master_index.specs.declared.column_list.ColumnList.{ColumnList}
 use Rattle.master_index.specs.Between.{in_rows, with_one}
 use Rattle.master_index.specs.ColumnRows.{is_under}
 use Rattle.master_index.specs.Masters.{MasterRows, IsWideFor}

@@ -144,21 +144,21 @@ first_among (x ∷ rows) row (suc k, within, at) = absurd (omega arith)
 
 first_of : (rows : List ℕ) (row : ℕ) → Contains rows row → (first : ℕ) × Contains (take 1 rows) first
 first_of [] row has = absurd (omega (arith, has.1))
-first_of (x ∷ rows) row has = (x, 0, omega arith, refl)
+first_of (x ∷ rows) row has = (x, (0, omega arith, refl))
 
 pub told_rise : (held : RowIds) (column : ℕ) (told : List ℕ) → Tells held column told → IsStrictlyIncreasing (listed held) → IsStrictlyIncreasing told
 told_rise held column told (inl all) rising = subst IsStrictlyIncreasing (sym all) rising
-told_rise held column told (inr (first, unnoted)) rising = subst IsStrictlyIncreasing (sym first) (rises_first (listed held))
+told_rise held column told (inr (first, within, isnt)) rising = subst IsStrictlyIncreasing (sym first) (rises_first (listed held))
 
 pub told_among : (held : RowIds) (column : ℕ) (told : List ℕ) → Tells held column told → (row : ℕ) → Contains told row → Contains (listed held) row
 told_among held column told (inl all) row has = subst (λ xs. Contains xs row) all has
-told_among held column told (inr (first, unnoted)) row has = first_among (listed held) row (subst (λ xs. Contains xs row) first has)
+told_among held column told (inr (first, within, isnt)) row has = first_among (listed held) row (subst (λ xs. Contains xs row) first has)
 
 pub told_each : (held : RowIds) (column : ℕ) (told : List ℕ) (id : ℕ → Option ℕ) → Tells held column told
     → ((one other : ℕ) → Contains (listed held) one → Contains (listed held) other → column < 64 → noted held column ≡ false → id one ≡ id other)
     → (row : ℕ) → Contains (listed held) row → (other : ℕ) × Contains told other × (id other ≡ id row)
 told_each held column told id (inl all) same row has = (row, subst (λ xs. Contains xs row) (sym all) has, refl)
-told_each held column told id (inr (first, (within, isnt))) same row has =
+told_each held column told id (inr (first, within, isnt)) same row has =
     let (least, among) = first_of (listed held) row has in
     (least, subst (λ xs. Contains xs least) (sym first) among, same least row (first_among (listed held) least among) has within isnt)
 

@@ -33,12 +33,7 @@ pub(crate) fn rows_with<'a>(map: &'a ColumnRows, ids: &[ValueId]) -> Option<&'a 
 }
 
 // The columns in which the tuple differs from that of the first of the rows.
-fn apart_from_first(
-    tables: &Tables,
-    master: usize,
-    rows: &[RowId],
-    tuple: &Tuple,
-) -> ColumnSet
+fn apart_from_first(tables: &Tables, master: usize, rows: &[RowId], tuple: &Tuple) -> ColumnSet
     ensures { (first : ℕ) (held : List ℕ) → slice_get rows.now 0 ≡ Some first → finite.get (rows_of_tables tables.now.stores.items) (master, first) ≡ Some held →
         (column : ℕ) → column < 64 → has_column result column ≡ false → slice_get held column ≡ slice_get (ids_of tuple.now) column }
 {

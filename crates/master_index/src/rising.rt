@@ -104,12 +104,7 @@ impl RowIds {
     }
 }
 
-fn two(
-    alloc: Global,
-    one: RowId,
-    other: RowId,
-    apart: ColumnSet,
-) -> Result<Box<Group>, AllocError>
+fn two(alloc: Global, one: RowId, other: RowId, apart: ColumnSet) -> Result<Box<Group>, AllocError>
     requires { one ≢ other }
     ensures rising { IfOk result (λ group. IsStrictlyIncreasing group.value.rows.items) }
     ensures both { IfOk result (λ group. (row : ℕ) → is_among row group.value.rows.items ≡ (row == other || row == one)) }

@@ -1,4 +1,4 @@
-use Rattle.std.proofs.Common.{◌≡◌, sym, ap, ◌∙◌, subst, slice_get, arith}
+use Rattle.std.proofs.Common.{ap, ◌∙◌, slice_get, arith}
 use Rattle.row_store.specs.Tuple.{ids_of}
 use Rattle.master_index.specs.ColumnRows.{listed}
 use Rattle.master_index.specs.Tables.{rows_of_tables}

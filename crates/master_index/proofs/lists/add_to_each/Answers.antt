@@ -1,4 +1,4 @@
-use Rattle.std.proofs.Common.{◌≡◌, ◌<◌, refl, sym, ap, subst, ◌∙◌, length, get_or, arith}
+use Rattle.std.proofs.Common.{◌<◌, refl, sym, ap, subst, length, get_or, arith}
 use Rattle.row_store.specs.Tuple.{ids_of}
 use Rattle.master_index.specs.declared.column_index.ColumnIndex.{ColumnIndex}
 use Rattle.master_index.specs.Between.{Reaches, in_tables, with_one}

@@ -1,5 +1,4 @@
-use Rattle.std.proofs.Common.{◌≡◌, ◌<◌, refl, sym, ap, subst, ◌∙◌, length, get_or, arith}
-use Rattle.std.specs.Prelude.{All}
+use Rattle.std.proofs.Common.{◌<◌, refl, sym, ap, subst, length, arith}
 use Rattle.std.specs.FinMap as finite
 use Rattle.row_store.specs.Tuple.{ids_of}
 use Rattle.master_index.specs.declared.column_index.ColumnIndex.{ColumnIndex}

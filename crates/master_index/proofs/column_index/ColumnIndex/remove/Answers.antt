@@ -1,10 +1,10 @@
-use Rattle.std.proofs.Common.{◌≡◌, ℕ, List, Some, None, false, sym, ap, subst, ◌∙◌, arith}
+use Rattle.std.proofs.Common.{◌≡◌, ℕ, List, Some, false, sym, ap, subst, ◌∙◌, arith}
 use Rattle.std.specs.FinMap as finite
 use Rattle.std.specs.Str.{bytes_eq}
 use Rattle.std.proofs.lemmas.Bool.Decides.{nat_tests}
 use Rattle.std.proofs.lemmas.Option.{none-some, same_Some}
 use Rattle.std.proofs.lemmas.Slice.Eq.{bytes_eq-Decides}
-use Rattle.row_store.specs.Tuple.{ids_of, ids_behind}
+use Rattle.row_store.specs.Tuple.{ids_of}
 use Rattle.master_index.specs.ColumnRows.{IsTakenFrom, ids_in}
 use Rattle.master_index.specs.Between.{IsBetween, in_rows, with_one}
 use Rattle.master_index.specs.Tables.{rows_of_tables}

@@ -5,7 +5,7 @@ use Rattle.std.specs.Option.{ForSome}
 use Rattle.row_store.specs.Tuple.{ids_of}
 use Rattle.std.proofs.lemmas.Option.{same_Some}
 use Rattle.master_index.specs.Between.{in_rows, with_one}
-use Rattle.master_index.specs.InStep.{IndexIsBetween, IndexIsOver, IsInStepWith}
+use Rattle.master_index.specs.InStep.{IndexIsBetween, IsInStepWith}
 use Rattle.master_index.specs.Masters.{IsWideFor, MasterRows, lists_of}
 use Rattle.master_index.specs.Tables.{rows_of_tables}
 use Rattle.master_index.proofs.IndexLists.{lists_in}
