@@ -80,7 +80,7 @@ fn ready_rule<'a>(
 
 /// The master rows with which the rule of this number makes a move that applies to the tuple, by rising ids.
 /// It takes no memory.
-pub fn rows_that_apply<'a>(
+pub(crate) fn rows_that_apply<'a>(
     start: &Start<'a>,
     tuple: &[ValueId],
     z: Marks,
