@@ -57,9 +57,9 @@ fn written(start: &Start<'_>, a_move: Move) -> Option<ValueId>
     master.get(rule.source).copied()
 }
 
-/// A rival after the closure and a move with this rule, the master rows taken by rising ids. Moves that write one value
-/// lead to one tuple, so rows that are known to write one value are tried by the first of them, and a row with the value
-/// that agreed last is passed over.
+/// A rival after the closure and a move with this rule, the master rows taken by rising ids. Moves that write
+/// one value lead to one tuple, so of rows that are known to write one value the first alone is tried, and a
+/// row with the value that agreed last is passed over.
 fn rival_by_rule(
     alloc: Global,
     start: &Start<'_>,

@@ -88,7 +88,8 @@ impl ColumnIndex {
         put_row(&mut self.rows, key, tables, master, row, tuple, steps)
     }
 
-    /// Takes the row away from the key of the tuple, if it is of this table, unless its tuple in the tables has that key.
+    /// Takes the row away from the key of the tuple, if it is of this table, unless its tuple in the tables has
+    /// that key.
     pub(crate) fn remove<L: Ledger>(
         &mut self,
         tables: &Tables,

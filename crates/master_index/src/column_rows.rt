@@ -46,8 +46,8 @@ fn apart_from_first(tables: &Tables, master: usize, rows: &[RowId], tuple: &Tupl
     }
 }
 
-/// Puts the row under a key, in one probe, and notes there in which columns it differs from the first row, whose tuple is
-/// that of the tables.
+/// Puts the row under a key, in one probe, and notes there in which columns it differs from the first row,
+/// whose tuple is that of the tables.
 pub(crate) fn put_row<L: Ledger>(
     map: &mut ColumnRows,
     key: Key,

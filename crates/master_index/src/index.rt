@@ -85,8 +85,9 @@ impl MasterIndex {
         }
     }
 
-    /// Of the rows with these ids in these columns, by rising ids, so many that they tell each id that these rows have in a
-    /// further column: the first alone, where no two of them were ever seen to differ there. It takes no memory.
+    /// Of the rows with these ids in these columns, by rising ids, so many that they tell each id that these rows
+    /// have in one more column: the first alone, where no two of them were ever seen to differ there. It takes no
+    /// memory.
     pub fn telling_matches(
         &self,
         master: usize,

@@ -16,7 +16,8 @@ pub(crate) enum RowIds {
     Several(Box<Group>),
 }
 
-/// Rows of which more than one were there at once, and the columns in which two of them were ever seen to differ.
+/// Rows of which more than one were there at once, and the columns in which two of them were ever seen to
+/// differ.
 #[derive(Drop)]
 pub(crate) struct Group {
     rows: Vec<RowId>,
@@ -55,8 +56,8 @@ impl RowIds {
         }
     }
 
-    /// Puts the row in its place, where it isn't there yet, and notes the columns in which it differs from a row that
-    /// is there.
+    /// Puts the row in its place, where it isn't there yet, and notes the columns in which it differs from a row
+    /// that is there.
     pub(crate) fn put(
         &mut self,
         alloc: Global,

@@ -97,9 +97,9 @@ pub(crate) fn rows_that_apply<'a>(
     }
 }
 
-/// So many of the master rows with which the rule of this number makes a move that applies that each value that such a
-/// move writes is written by one of these, by rising ids. Where no two of the rows were ever seen to write different
-/// values, it is the first alone. It takes no memory.
+/// So many of the master rows with which the rule of this number makes a move that applies that each value that
+/// such a move writes is written by one of these, by rising ids: the first alone, where no two of the rows were
+/// ever seen to write different values. It takes no memory.
 pub fn rows_to_try<'a>(start: &Start<'a>, tuple: &[ValueId], z: Marks, number: usize) -> &'a [RowId]
     requires start { IsStart start.now }
     requires tuple { IsTupleOf start.now start.now.table tuple.now }
