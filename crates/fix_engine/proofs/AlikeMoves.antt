@@ -10,12 +10,12 @@ use Rattle.rule_runs.specs.declared.moves.Start.{Start}
 use Rattle.rule_runs.specs.declared.runs.Run.{Run}
 use Rattle.rule_runs.specs.Runs.{IsRun, end_of}
 use Rattle.rule_runs.specs.Marks.{with_attr}
-use Rattle.rule_runs.specs.Moves.{Basis, Stage, Applies, IsRunOf, after, correction, end_after}
+use Rattle.rule_runs.specs.Moves.{Basis, Stage, Applies, IsRunOf, after, correction, end_after, value_written}
 use Rattle.rule_runs.specs.Starts.{IsRunFrom, basis_of, first_stage, stage_at}
 use Rattle.rule_runs.proofs.Moving.{after-is, parts}
 use Rattle.rule_runs.proofs.Running.{end-append, end-push, run-rest, run-push}
 use Rattle.rule_runs.proofs.StartFacts.{move_parts}
-use Rattle.fix_engine.specs.Rivals.{AgreesBy, LeadsTo, value_written}
+use Rattle.fix_engine.specs.Rivals.{AgreesBy, LeadsTo}
 
 module _ {S M : Type 0} (Can : S → M → Type 0) (next : S → M → S) where
   -- a run and a run from its end are one run

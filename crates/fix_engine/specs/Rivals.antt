@@ -1,11 +1,9 @@
 -- The search for a maximal run that ends in another tuple than a first one, over value ids.
-use Rattle.std.specs.Prelude.{◌≡◌, ℕ, false, List, [], ◌∷◌, ◌++◌, Option, Some, None, slice_get}
-use Rattle.std.specs.Option.{option_map_or}
-use Rattle.rule_model.specs.declared.edit_rule.EditRule.{EditRule}
+use Rattle.std.specs.Prelude.{◌≡◌, ℕ, false, List, [], ◌∷◌, ◌++◌, Some}
 use Rattle.rule_runs.specs.declared.moves.Move.{Move}
 use Rattle.rule_runs.specs.declared.moves.Start.{Start}
 use Rattle.rule_runs.specs.declared.runs.Run.{Run}
-use Rattle.rule_runs.specs.Moves.{Applies, Basis, IsClosedBut, IsRunOf, correction, end_after}
+use Rattle.rule_runs.specs.Moves.{Applies, IsClosedBut, IsRunOf, end_after}
 use Rattle.rule_runs.specs.Starts.{IsRunFrom, basis_of, first_stage, stage_at, stage_of}
 use Rattle.fix_engine.specs.declared.rivals.Rival.{Rival}
 use Rattle.fix_engine.specs.declared.verdict.Verdict.{Verdict}
@@ -24,10 +22,6 @@ IsFound question (Unique tuple covered moves) =
     AllEndAt question (stage_of tuple covered) × IsFullRun question moves
 IsFound question (Conflict first second attr) =
     IsFullRunTo question first × IsFullRunTo question second × DifferFirstAt first.tuple second.tuple attr
-
--- the value that the move writes, where its rule and its master row are there
-abbrev pub value_written : Basis ℕ → Move → Option ℕ
-value_written basis move = option_map_or (λ (c : EditRule × List ℕ). slice_get c.1 c.0.source) (correction basis move) None
 
 -- a maximal run whose tuple differs from that of the first one, first at the attribute
 pub record IsRivalOf (start : Start) (first : Run) (rival : Rival) : Type 0 where

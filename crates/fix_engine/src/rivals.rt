@@ -5,12 +5,13 @@
 
 ghost use Rattle.std.specs.Prelude.{◌≡◌, ℕ, false, length, IfOk, IfSome, IfNone};
 ghost use Rattle.rule_runs.specs.Marks.{marked};
+ghost use Rattle.rule_runs.specs.Moves.{value_written};
 ghost use Rattle.rule_runs.specs.Starts.{IsRunFrom, IsStart, basis_of, stage_at};
 ghost use Rattle.fix_engine.specs.Fixes.{AllEndAt, DifferFirstAt};
 ghost use Rattle.fix_engine.specs.Questions.{asked_at};
-ghost use Rattle.fix_engine.specs.Rivals.{AgreesBy, AgreesWithout, IsFullRunTo, IsRivalOf, value_written};
+ghost use Rattle.fix_engine.specs.Rivals.{AgreesBy, AgreesWithout, IsFullRunTo, IsRivalOf};
 
-use rule_runs::{Move, Run, Start, close_without, extend, rows_that_apply};
+use rule_runs::{Move, Run, Start, close_without, extend, rows_to_try};
 use std::alloc::{AllocError, Global};
 use value_pool::ValueId;
 
@@ -56,8 +57,9 @@ fn written(start: &Start<'_>, a_move: Move) -> Option<ValueId>
     master.get(rule.source).copied()
 }
 
-/// A rival after the closure and a move with this rule, the master rows taken by rising ids. Moves that write one value
-/// lead to one tuple, so a row with the value that agreed last is passed over.
+/// A rival after the closure and a move with this rule, the master rows taken by rising ids. Moves that write
+/// one value lead to one tuple, so of rows that are known to write one value the first alone is tried, and a
+/// row with the value that agreed last is passed over.
 fn rival_by_rule(
     alloc: Global,
     start: &Start<'_>,
@@ -72,7 +74,7 @@ fn rival_by_rule(
     ensures none { IfOk result (λ found. IfNone found ((row : ℕ) → AgreesBy start.now closure.now first.now.tuple (record { rule = rule; master = row }))) }
 {
     let mut agreed = None;
-    for row in rows_that_apply(start, closure.tuple.as_slice(), closure.covered, rule) {
+    for row in rows_to_try(start, closure.tuple.as_slice(), closure.covered, rule) {
         let next = Move { rule, master: *row };
         let value = written(start, next);
         if value.is_some() && value == agreed {

@@ -1,8 +1,9 @@
 -- What a change of one key makes of the rows under each key.
-use Rattle.std.proofs.Common.{◌≡◌, ℕ, zero, suc, ◌+◌, ◌-◌, ◌<◌, ◌≤◌, Bool, true, false, cond, List, [], ◌∷◌, ◌++◌, length, get_or, set, Option, Some, None, Result, Ok, Err, refl, sym, ap, subst, ◌∙◌, true≢false, arith, OnOk, OnErr, IfSome, IfNone, slice_get, nat_lt}
+use Rattle.std.proofs.Common.{◌≡◌, ◌≢◌, ℕ, zero, suc, ◌+◌, ◌-◌, ◌<◌, ◌≤◌, Bool, true, false, cond, List, [], ◌∷◌, ◌++◌, length, get_or, set, Option, Some, None, Result, Ok, Err, refl, sym, ap, subst, ◌∙◌, true≢false, arith, OnOk, OnErr, IfSome, IfNone, slice_get, nat_lt}
 use borrow.Author.Tests.{ltb-true}
 use Rattle.std.specs.Prelude.{◌==◌, ◌||◌, ◌&&◌, not, All, IsSome, IsSomeAnd, swap_remove}
 use Rattle.std.specs.Cmp.{IsEquivalence}
+use Rattle.std.specs.FinMap as finite
 use Rattle.std.specs.List.{position_or_len, position, IsDistinct, AllByRecursion}
 use Rattle.std.specs.List.Sorted.{IsStrictlyIncreasing}
 use Rattle.std.specs.Map.{lookup, keys_of, values_of, KeepsOthers}
@@ -17,7 +18,11 @@ use Rattle.indexmap.specs.IndexMap.{IndexMap, set_value_at, IsUnique, Updates}
 use Rattle.indexmap.proofs.CallerLemmas.{updates-with_value_at}
 use Rattle.smallvec.specs.SmallVec.{SmallVec}
 use Rattle.master_index.specs.declared.rising.RowIds.{RowIds}
-use Rattle.master_index.specs.ColumnRows.{KeyedRows, listed, rows_under, is_among, is_under, AreOrderly, IsPutUnder, IsTakenFrom, HoldAlike, HasKeyAt}
+use Rattle.master_index.specs.declared.rising.RowIds.TheVariants.{One}
+use Rattle.master_index.specs.declared.column_set.ColumnSet.{ColumnSet}
+use Rattle.master_index.specs.ColumnSets.{has_column}
+use Rattle.master_index.specs.Masters.{MasterRows}
+use Rattle.master_index.specs.ColumnRows.{KeyedRows, listed, noted, rows_under, is_among, is_noted, is_under, AreOrderly, IsPutUnder, IsTakenFrom, HoldAlike, HasKeyAt, IsComparedIn, NotesAlike, NotesStay}
 
 -- the keys' own `==`
 abbrev pub same_key : SmallVec ℕ → SmallVec ℕ → Bool
@@ -35,17 +40,24 @@ equal_lists xs ys e = (bytes_eq-Decides xs ys).0 e
 same_list : (xs : List ℕ) → bytes_eq xs xs ≡ true
 same_list xs = (bytes_eq-Decides xs xs).1 refl
 
--- the rows under each key, once one key has other rows
-pub rows_updated : (old new : KeyedRows) (key : SmallVec ℕ) (w : Option RowIds) → lookup (same_key key) new ≡ w → KeepsOthers same_key (same_key key) old new
-    → (ids : List ℕ) → rows_under ids new ≡ cond (bytes_eq ids key.items) (rows_of w) (rows_under ids old)
-unfolding KeepsOthers
-rows_updated old new key w at others ids = by (bytes_eq ids key.items) refl
-  where
-    by : (b : Bool) → bytes_eq ids key.items ≡ b → rows_under ids new ≡ cond b (rows_of w) (rows_under ids old)
-    by true e = ap (λ xs. rows_under xs new) (equal_lists ids key.items e) ∙ ap rows_of at
-    by false e = ap rows_of (others (λ other. bytes_eq ids other.items)
-        (λ x y is. ap (λ xs. bytes_eq xs y.items) (equal_lists ids x.items is))
-        (λ other is. ap (bytes_eq ids) (sym (equal_lists key.items other.items is)) ∙ e))
+-- What is read of the rows under each key, once one key has other rows: their ids are read, and their notes.
+module _ {X : Type 0} (read : RowIds → X) (none : X) where
+  abbrev read_of : Option RowIds → X
+  read_of found = option_map_or read found none
+
+  abbrev pub read_under : List ℕ → KeyedRows → X
+  read_under ids entries = read_of (lookup (λ key. bytes_eq ids key.items) entries)
+
+  updated : (old new : KeyedRows) (key : SmallVec ℕ) (w : Option RowIds) → lookup (same_key key) new ≡ w → KeepsOthers same_key (same_key key) old new
+      → (ids : List ℕ) → read_under ids new ≡ cond (bytes_eq ids key.items) (read_of w) (read_under ids old)
+  unfolding KeepsOthers
+  updated old new key w at others ids = by (bytes_eq ids key.items) refl
+    where
+      by : (b : Bool) → bytes_eq ids key.items ≡ b → read_under ids new ≡ cond b (read_of w) (read_under ids old)
+      by true e = ap (λ xs. read_under xs new) (equal_lists ids key.items e) ∙ ap read_of at
+      by false e = ap read_of (others (λ other. bytes_eq ids other.items)
+          (λ x y is. ap (λ xs. bytes_eq xs y.items) (equal_lists ids x.items is))
+          (λ other is. ap (bytes_eq ids) (sym (equal_lists key.items other.items is)) ∙ e))
 
 -- an entry that comes in last
 lookup_passing : (test : SmallVec ℕ → Bool) (es : KeyedRows) (key : SmallVec ℕ) (rows : RowIds) → lookup test es ≡ None → test key ≡ true → lookup test (es ++ (key, rows) ∷ []) ≡ Some rows
@@ -61,12 +73,13 @@ lookup_failing : (test : SmallVec ℕ → Bool) (es : KeyedRows) (key : SmallVec
 lookup_failing test [] key rows isnt = ap (λ b. cond b (Some rows) None) isnt
 lookup_failing test (e ∷ es) key rows isnt = ap (cond (test e.0) (Some e.1)) (lookup_failing test es key rows isnt)
 
-rows_pushed : (es : KeyedRows) (key : SmallVec ℕ) (rows : RowIds) → lookup (same_key key) es ≡ None → (ids : List ℕ) → rows_under ids (es ++ (key, rows) ∷ []) ≡ cond (bytes_eq ids key.items) (listed rows) (rows_under ids es)
-rows_pushed es key rows none ids = by (bytes_eq ids key.items) refl
+pushed_under : {X : Type 0} (read : RowIds → X) (nothing : X) (es : KeyedRows) (key : SmallVec ℕ) (rows : RowIds) → lookup (same_key key) es ≡ None
+    → (ids : List ℕ) → read_under read nothing ids (es ++ (key, rows) ∷ []) ≡ cond (bytes_eq ids key.items) (read rows) (read_under read nothing ids es)
+pushed_under read nothing es key rows none ids = by (bytes_eq ids key.items) refl
   where
-    by : (b : Bool) → bytes_eq ids key.items ≡ b → rows_under ids (es ++ (key, rows) ∷ []) ≡ cond b (listed rows) (rows_under ids es)
-    by true e = ap (λ xs. rows_under xs (es ++ (key, rows) ∷ [])) (equal_lists ids key.items e) ∙ ap rows_of (lookup_passing (same_key key) es key rows none (same_list key.items))
-    by false e = ap rows_of (lookup_failing (λ other. bytes_eq ids other.items) es key rows e)
+    by : (b : Bool) → bytes_eq ids key.items ≡ b → read_under read nothing ids (es ++ (key, rows) ∷ []) ≡ cond b (read rows) (read_under read nothing ids es)
+    by true e = ap (λ xs. read_under read nothing xs (es ++ (key, rows) ∷ [])) (equal_lists ids key.items e) ∙ ap (read_of read nothing) (lookup_passing (same_key key) es key rows none (same_list key.items))
+    by false e = ap (read_of read nothing) (lookup_failing (λ other. bytes_eq ids other.items) es key rows e)
 
 -- ---- where a key stands
 pub record StandsAt (es : KeyedRows) (test : SmallVec ℕ → Bool) (place : ℕ) : Type 0 where
@@ -136,9 +149,12 @@ pub record IsEntered (old mid : KeyedRows) (key : List ℕ) (row place : ℕ) : 
   pub at : slice_get mid place ≡ Some (stored, rows)
   pub within : place < length mid
   pub is_key : stored.items ≡ key
-  pub under : rows_under key mid ≡ (listed rows)
+  pub found : lookup (λ stored. bytes_eq key stored.items) mid ≡ Some rows
   -- the rows under it have the row, or nothing came in
   pub new_or_old : (is_among row (listed rows) ≡ false → mid ≡ old)
+  -- nothing is noted of it, and nothing came in beside rows that the key had
+  pub notes : (ids : List ℕ) (column : ℕ) → is_noted ids column mid ≡ is_noted ids column old
+  pub beside : (other : ℕ) → is_under key other old ≡ true → mid ≡ old
   pub held : (ids : List ℕ) (other : ℕ) → ((bytes_eq ids key && other == row) || is_under ids other mid) ≡ ((bytes_eq ids key && other == row) || is_under ids other old)
   pub kept : AreOrderly mid
 
@@ -148,12 +164,15 @@ rising_one row k within = absurd (omega arith)
 among_one : (row : ℕ) → is_among row (row ∷ []) ≡ true
 among_one row = grind (arith, nat_tests)
 
-pub entered : (old mid : KeyedRows) (key : SmallVec ℕ) (alone : RowIds) (row place : ℕ) → AreOrderly old → (listed alone) ≡ row ∷ []
+pub entered : (old mid : KeyedRows) (key : SmallVec ℕ) (row place : ℕ) → AreOrderly old
     → place ≡ position_or_len (same_key key) (keys_of old)
-    → (IsSome (lookup (same_key key) old) → mid ≡ old) → (lookup (same_key key) old ≡ None → mid ≡ old ++ (key, alone) ∷ [])
+    → (IsSome (lookup (same_key key) old) → mid ≡ old) → (lookup (same_key key) old ≡ None → mid ≡ old ++ (key, One row) ∷ [])
     → IsEntered old mid key.items row place
-entered old mid key alone row place kept one index found pushed = by (lookup (same_key key) old) refl
+entered old mid key row place kept index found pushed = by (lookup (same_key key) old) refl
   where
+    alone : RowIds
+    alone = One row
+
     by : (o : Option RowIds) → lookup (same_key key) old ≡ o → IsEntered old mid key.items row place
     by None none =
         let last = index ∙ stands_last old key alone none in
@@ -165,21 +184,29 @@ entered old mid key alone row place kept one index found pushed = by (lookup (sa
           at = ap (slice_get (old ++ (key, alone) ∷ [])) last ∙ last_entry old (key, alone);
           within = omega (arith, last, one_longer old (key, alone));
           is_key = refl;
-          under = ap rows_of (lookup_passing (same_key key) old key alone none (same_list key.items));
-          new_or_old = λ isnt. absurd (true≢false (sym (among_one row) ∙ ap (is_among row) (sym one) ∙ isnt));
-          held = λ ids other. came_in ids other (bytes_eq ids key.items) refl (rows_pushed old key alone none ids) under;
+          found = lookup_passing (same_key key) old key alone none (same_list key.items);
+          new_or_old = λ isnt. absurd (true≢false (sym (among_one row) ∙ isnt));
+          notes = λ ids column. pushed_under (λ rows. noted rows column) false old key alone none ids ∙ none_noted ids column (bytes_eq ids key.items) refl none;
+          beside = λ other is. absurd (true≢false (sym is ∙ ap (is_among other) under));
+          held = λ ids other. came_in ids other (bytes_eq ids key.items) refl (pushed_under listed [] old key alone none ids) under;
           kept = record {
-            rising = All-push (λ (entry : SmallVec ℕ × RowIds). IsStrictlyIncreasing (listed entry.1)) old (key, alone) kept.rising (rw one (rising_one row));
-            filled = All-push (λ (entry : SmallVec ℕ × RowIds). 0 < length (listed entry.1)) old (key, alone) kept.filled (rw one (omega arith));
+            rising = All-push (λ (entry : SmallVec ℕ × RowIds). IsStrictlyIncreasing (listed entry.1)) old (key, alone) kept.rising (rising_one row);
+            filled = All-push (λ (entry : SmallVec ℕ × RowIds). 0 < length (listed entry.1)) old (key, alone) kept.filled (omega arith);
           };
         })
       where
+        none_noted : (ids : List ℕ) (column : ℕ) (b : Bool) → bytes_eq ids key.items ≡ b → lookup (same_key key) old ≡ None → cond (bytes_eq ids key.items) false (is_noted ids column old) ≡ is_noted ids column old
+        none_noted ids column true e none_there =
+            ap (λ b. cond b false (is_noted ids column old)) e
+            ∙ sym (ap (λ xs. is_noted xs column old) (equal_lists ids key.items e) ∙ ap (read_of (λ rows. noted rows column) false) none_there)
+        none_noted ids column false e none_there = ap (λ b. cond b false (is_noted ids column old)) e
+
         came_in : (ids : List ℕ) (other : ℕ) (b : Bool) → bytes_eq ids key.items ≡ b
             → rows_under ids (old ++ (key, alone) ∷ []) ≡ cond (bytes_eq ids key.items) (listed alone) (rows_under ids old) → rows_under key.items old ≡ []
             → ((bytes_eq ids key.items && other == row) || is_under ids other (old ++ (key, alone) ∷ [])) ≡ ((bytes_eq ids key.items && other == row) || is_under ids other old)
         came_in ids other true e rows_are none_there =
             let ids_are = equal_lists ids key.items e in
-            let now : rows_under ids (old ++ (key, alone) ∷ []) ≡ row ∷ [] = rows_are ∙ ap (λ b. cond b (listed alone) (rows_under ids old)) e ∙ one in
+            let now : rows_under ids (old ++ (key, alone) ∷ []) ≡ row ∷ [] = rows_are ∙ ap (λ b. cond b (listed alone) (rows_under ids old)) e in
             let before : rows_under ids old ≡ [] = ap (λ xs. rows_under xs old) ids_are ∙ none_there in
             let now_among = ap (is_among other) now in
             let before_among = ap (is_among other) before in
@@ -196,8 +223,10 @@ entered old mid key alone row place kept one index found pushed = by (lookup (sa
           at = at.at;
           within = within_some old (same_key key) rows some index;
           is_key = sym (equal_lists key.items at.key.items at.passes);
-          under = ap rows_of at.found;
+          found = at.found;
           new_or_old = λ _. refl;
+          notes = λ ids column. refl;
+          beside = λ other is. refl;
           held = λ ids other. refl;
           kept = kept;
         })
@@ -207,10 +236,17 @@ entered old mid key alone row place kept one index found pushed = by (lookup (sa
 
 -- ---- other rows for the key at a place
 module _ {S : Type 0} (m : IndexMap (SmallVec ℕ) RowIds S) (unique : IsUnique same_key m) (place : ℕ) (key : SmallVec ℕ) (rows new : RowIds) (at : slice_get m.entries place ≡ Some (key, rows)) where
+  module _ {X : Type 0} (read : RowIds → X) (nothing : X) where
+    written_under : (ids : List ℕ) → read_under read nothing ids (set_value_at m.entries place new) ≡ cond (bytes_eq ids key.items) (read new) (read_under read nothing ids m.entries)
+    written_under ids =
+        let updates = updates-with_value_at m place new same_key_laws unique key rows at in
+        updated read nothing m.entries (set_value_at m.entries place new) key (Some new) updates.1 updates.3 ids
+
   rows_written : (ids : List ℕ) → rows_under ids (set_value_at m.entries place new) ≡ cond (bytes_eq ids key.items) (listed new) (rows_under ids m.entries)
-  rows_written ids =
-      let updates = updates-with_value_at m place new same_key_laws unique key rows at in
-      rows_updated m.entries (set_value_at m.entries place new) key (Some new) updates.1 updates.3 ids
+  rows_written = written_under listed []
+
+  notes_written : (ids : List ℕ) (column : ℕ) → is_noted ids column (set_value_at m.entries place new) ≡ cond (bytes_eq ids key.items) (noted new column) (is_noted ids column m.entries)
+  notes_written ids column = written_under (λ held. noted held column) false ids
 
 all_written : (P : RowIds → Type 0) (es : KeyedRows) (place : ℕ) (new : RowIds) → P new → All (λ (entry : SmallVec ℕ × RowIds). P entry.1) es → All (λ (entry : SmallVec ℕ × RowIds). P entry.1) (set_value_at es place new)
 all_written P [] place new here all = all
@@ -254,8 +290,11 @@ lent_has_rows es place lent kept value = (kept_at es place lent kept value).1
 -- ---- a row that comes in
 module _ {S : Type 0} (old : KeyedRows) (m : IndexMap (SmallVec ℕ) RowIds S) (unique : IsUnique same_key m) (key : List ℕ) (row place : ℕ) (lent new : RowIds)
     (it : IsEntered old m.entries key row place) (value : slice_get (values_of m.entries) place ≡ Some lent) where
+  same_rows : lent ≡ it.rows
+  same_rows = value_at_place m.entries place it.stored it.rows lent it.at value
+
   lent_under : (listed lent) ≡ rows_under key m.entries
-  lent_under = ap listed (value_at_place m.entries place it.stored it.rows lent it.at value) ∙ sym it.under
+  lent_under = ap listed same_rows ∙ sym (ap rows_of it.found)
 
   now_under : (ids : List ℕ) → rows_under ids (set_value_at m.entries place new) ≡ cond (bytes_eq ids key) (listed new) (rows_under ids m.entries)
   now_under ids = rows_written m unique place it.stored it.rows new it.at ids ∙ ap (λ xs. cond (bytes_eq ids xs) (listed new) (rows_under ids m.entries)) it.is_key
@@ -289,7 +328,42 @@ module _ {S : Type 0} (old : KeyedRows) (m : IndexMap (SmallVec ℕ) RowIds S) (
   err_answer (Ok _) same isnt = tt
   err_answer (Err _) same isnt = alike_after_err same isnt
 
+  notes_now : (ids : List ℕ) (column : ℕ) → is_noted ids column (set_value_at m.entries place new) ≡ cond (bytes_eq ids key) (noted new column) (is_noted ids column m.entries)
+  notes_now ids column = notes_written m unique place it.stored it.rows new it.at ids column ∙ ap (λ xs. cond (bytes_eq ids xs) (noted new column) (is_noted ids column m.entries)) it.is_key
+
+  pub notes_stay : ((column : ℕ) → noted new column ≡ false → noted lent column ≡ false) → NotesStay old (set_value_at m.entries place new)
+  notes_stay kept ids column isnt = sym (it.notes ids column) ∙ by (bytes_eq ids key) refl
+    where
+      by : (b : Bool) → bytes_eq ids key ≡ b → is_noted ids column m.entries ≡ false
+      by true e =
+          ap (λ xs. is_noted xs column m.entries) (equal_lists ids key e) ∙ ap (read_of (λ rows. noted rows column) false) it.found ∙ ap (λ rows. noted rows column) (sym same_rows)
+          ∙ kept column (sym (ap (λ b. cond b (noted new column) (is_noted ids column m.entries)) e) ∙ sym (notes_now ids column) ∙ isnt)
+      by false e = sym (ap (λ b. cond b (noted new column) (is_noted ids column m.entries)) e) ∙ sym (notes_now ids column) ∙ isnt
+
+  module _ (tables : MasterRows) (master : ℕ) (tuple : List ℕ) (apart : ColumnSet)
+      (differ : (first : ℕ) (held : List ℕ) → slice_get (listed lent) 0 ≡ Some first → finite.get tables (master, first) ≡ Some held → (column : ℕ) → column < 64 → has_column apart column ≡ false → slice_get held column ≡ slice_get tuple column) where
+    compared_with : (listed lent ≢ row ∷ [] → (column : ℕ) → noted new column ≡ false → has_column apart column ≡ false)
+        → IsComparedIn tables master old (set_value_at m.entries place new) key row tuple
+    compared_with set first other held at_first is_under_it beside got column within isnt =
+        let were : rows_under key old ≡ listed lent = ap (rows_under key) (sym (it.beside other is_under_it)) ∙ sym lent_under in
+        let among : is_among other (listed lent) ≡ true = ap (is_among other) (sym were) ∙ is_under_it in
+        differ first held (sym (ap (λ rows. slice_get rows 0) were) ∙ at_first) got column within
+        (set (λ alone. beside (alone_is other (sym (ap (is_among other) alone) ∙ among))) column (sym (notes_now key column ∙ ap (λ b. cond b (noted new column) (is_noted key column m.entries)) (same_list key)) ∙ isnt))
+      where
+        alone_is : (other : ℕ) → is_among other (row ∷ []) ≡ true → other ≡ row
+        alone_is other is = grind (arith, nat_tests, is)
+
+    pub compared_answer : {A E : Type 0} (answer : Result A E) → OnOk answer (listed lent ≢ row ∷ [] → (column : ℕ) → noted new column ≡ false → has_column apart column ≡ false)
+        → OnOk answer (IsComparedIn tables master old (set_value_at m.entries place new) key row tuple)
+    compared_answer (Ok _) set = compared_with set
+    compared_answer (Err _) set = tt
+
 -- ---- a row that goes
+entry_of : (es : KeyedRows) (place : ℕ) (lent : RowIds) → slice_get (values_of es) place ≡ Some lent → (key : SmallVec ℕ) × (slice_get es place ≡ Some (key, lent))
+entry_of [] place lent value = absurd (none-some lent value)
+entry_of (e ∷ es) zero lent value = (e.0, ap (λ (rows : RowIds). Some (e.0, rows)) (same_Some e.1 lent value))
+entry_of (e ∷ es) (suc place) lent value = entry_of es place lent value
+
 reads_key : (P : SmallVec ℕ → Type 0) (es : KeyedRows) (place : ℕ) (key : SmallVec ℕ) (rows : RowIds) → AllByRecursion P (keys_of es) → slice_get es place ≡ Some (key, rows) → P key
 reads_key P [] place key rows all at = absurd (none-some (key, rows) at)
 reads_key P (e ∷ es) zero key rows all at = subst P (ap (λ entry. entry.0) (same_Some e (key, rows) at)) all.0
@@ -339,6 +413,30 @@ module _ {S : Type 0} (m : IndexMap (SmallVec ℕ) RowIds S) (unique : IsUnique 
       taken_at key rows (listed new) (set_value_at m.entries place new) at (rows_written m unique place key rows new at)
       (λ other. fewer other ∙ ap (λ (held : RowIds). not (other == row) && is_among other (listed held)) same))
 
+  pub notes_left : (lent new : RowIds) → slice_get (values_of m.entries) place ≡ Some lent → ((column : ℕ) → noted new column ≡ noted lent column) → NotesAlike m.entries (set_value_at m.entries place new)
+  notes_left lent new value same ids column other held = notes_written m unique place key lent new entry.1 ids column ∙ by (bytes_eq ids key.items) refl
+    where
+      entry : (key : SmallVec ℕ) × (slice_get m.entries place ≡ Some (key, lent))
+      entry = entry_of m.entries place lent value
+
+      key : SmallVec ℕ
+      key = entry.0
+
+      by : (b : Bool) → bytes_eq ids key.items ≡ b → cond (bytes_eq ids key.items) (noted new column) (is_noted ids column m.entries) ≡ is_noted ids column m.entries
+      by true e =
+          ap (λ b. cond b (noted new column) (is_noted ids column m.entries)) e ∙ same column
+          ∙ sym (ap (λ xs. is_noted xs column m.entries) (equal_lists ids key.items e) ∙ ap (read_of (λ rows. noted rows column) false) (own_rows m.entries unique place key lent entry.1))
+      by false e = ap (λ b. cond b (noted new column) (is_noted ids column m.entries)) e
+
+  pub notes_without : (n : IndexMap (SmallVec ℕ) RowIds S) (taken : Option (SmallVec ℕ × RowIds)) → IfSome taken (λ pair. Updates same_key m n pair.0 None) → IfNone taken (n.entries ≡ m.entries)
+      → NotesAlike m.entries n.entries
+  notes_without n None updates same ids column other held = ap (is_noted ids column) same
+  notes_without n (Some pair) updates same ids column other held = updated (λ rows. noted rows column) false m.entries n.entries pair.0 None updates.1 updates.3 ids ∙ by (bytes_eq ids pair.0.items) refl
+    where
+      by : (b : Bool) → bytes_eq ids pair.0.items ≡ b → cond (bytes_eq ids pair.0.items) false (is_noted ids column m.entries) ≡ is_noted ids column m.entries
+      by true e = absurd (true≢false (sym held ∙ ap (is_among other) (updated listed [] m.entries n.entries pair.0 None updates.1 updates.3 ids ∙ ap (λ b. cond b [] (rows_under ids m.entries)) e)))
+      by false e = ap (λ b. cond b false (is_noted ids column m.entries)) e
+
   pub left_removed : (lent : RowIds) (n : IndexMap (SmallVec ℕ) RowIds S) (taken : Option (SmallVec ℕ × RowIds)) → slice_get (values_of m.entries) place ≡ Some lent → (listed lent) ≡ row ∷ []
       → taken ≡ slice_get m.entries place → IfSome taken (λ pair. Updates same_key m n pair.0 None)
       → (key : List ℕ) → HasKeyAt m.entries place key → IsTakenFrom m.entries n.entries key row
@@ -346,7 +444,7 @@ module _ {S : Type 0} (m : IndexMap (SmallVec ℕ) RowIds S) (unique : IsUnique 
       let same : lent ≡ rows = value_at_place m.entries place key rows lent at value in
       let update = subst (λ found. IfSome found (λ pair. Updates same_key m n pair.0 None)) (is ∙ at) updates in
       let rows_are : (listed rows) ≡ row ∷ [] = sym (ap listed same) ∙ one in
-      taken_at key rows [] n.entries at (rows_updated m.entries n.entries key None update.1 update.3)
+      taken_at key rows [] n.entries at (updated listed [] m.entries n.entries key None update.1 update.3)
       (λ other. let among = ap (is_among other) rows_are in grind (arith, nat_tests, among)))
 
 all_removed : (P : SmallVec ℕ × RowIds → Type 0) (es : KeyedRows) (place : ℕ) (d : SmallVec ℕ × RowIds) → place < length es → All P es → All P (swap_remove es place d)

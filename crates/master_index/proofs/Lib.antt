@@ -1,8 +1,10 @@
+pub mod ColumnBits
 pub mod RisingIds
 pub mod KeyedRowFacts
 pub mod KeyFacts
-pub mod EntryFacts
 pub mod MasterRowFacts
 pub mod TableRows
+pub mod BetweenFacts
+pub mod IndexLists
 pub mod MasterSteps
 pub mod MatchFacts

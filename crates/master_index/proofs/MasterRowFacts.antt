@@ -1,5 +1,5 @@
 -- The names of rows, and the rows after a change of one of them.
-use Rattle.std.proofs.Common.{◌≡◌, ℕ, Bool, cond, List, Some, None, ap, ◌∙◌, arith}
+use Rattle.std.proofs.Common.{◌≡◌, ℕ, Bool, true, cond, List, Some, None, ap, ◌∙◌, arith}
 use Rattle.std.specs.Prelude.{◌==◌, ◌&&◌}
 use Rattle.std.specs.Ordering.{nat_cmp, eq_by_cmp}
 use Rattle.std.specs.Cmp.{IsTotalOrder}
@@ -26,6 +26,11 @@ name_tie one other = grind (arith, nat_tests)
 -- the rows after a change, as indexes see them
 pub row_after_insert : (rows : MasterRows) (table row t r : ℕ) (ids : List ℕ) → finite.get (finite.insert rows (table, row) ids) (t, r) ≡ cond ((t == table) && (r == row)) (Some ids) (finite.get rows (t, r))
 row_after_insert rows table row t r ids = finite.get-insert names_total rows (table, row) ids (t, r) ∙ ap (λ b. cond b (Some ids) (finite.get rows (t, r))) (name_tie (t, r) (table, row))
+
+pub row_now : (rows : MasterRows) (table row : ℕ) (ids : List ℕ) → finite.get (finite.insert rows (table, row) ids) (table, row) ≡ Some ids
+row_now rows table row ids =
+    let here : ((table == table) && (row == row)) ≡ true = grind (arith, nat_tests) in
+    row_after_insert rows table row table row ids ∙ ap (λ b. cond b (Some ids) (finite.get rows (table, row))) here
 
 pub row_after_remove : (rows : MasterRows) (table row t r : ℕ) → finite.get (finite.remove rows (table, row)) (t, r) ≡ cond ((t == table) && (r == row)) None (finite.get rows (t, r))
 row_after_remove rows table row t r = finite.get-remove names_total rows (table, row) (t, r) ∙ ap (λ b. cond b None (finite.get rows (t, r))) (name_tie (t, r) (table, row))

@@ -1,6 +1,8 @@
 -- What a look-up by ids says of the rows that it gives.
-use Rattle.std.proofs.Common.{◌≡◌, ◌≢◌, ℕ, zero, suc, ◌<◌, Bool, true, false, cond, List, [], ◌∷◌, length, get_or, slice_get, Option, Some, None, refl, sym, ap, ◌∙◌, true≢false, arith}
-use Rattle.std.specs.Prelude.{◌==◌, ◌||◌, ◌↔◌, map, All, Contains, IsSomeAnd, IfSome, unwrap_or}
+use Rattle.std.proofs.Common.{◌≡◌, ◌≢◌, ℕ, zero, suc, ◌<◌, Bool, true, false, cond, List, [], ◌∷◌, length, get_or, slice_get, take, Option, Some, None, inl, inr, refl, sym, ap, subst, ◌∙◌, true≢false, arith}
+use Rattle.std.specs.Prelude.{◌==◌, ◌||◌, ◌↔◌, map, option_map, All, Contains, IsSomeAnd, IfSome, MatchOption, unwrap_or}
+use Rattle.std.specs.Borrow.{Bor}
+use Rattle.std.specs.FinMap as finite
 use Rattle.std.specs.List.Sorted.{IsStrictlyIncreasing}
 use Rattle.std.specs.Map.{lookup}
 use Rattle.std.specs.Option.{option_map_or}
@@ -11,8 +13,11 @@ use Rattle.std.proofs.lemmas.Option.{slice_get-get_or}
 use Rattle.std.proofs.lemmas.Slice.Eq.{bytes_eq-Decides}
 use Rattle.smallvec.specs.SmallVec.{SmallVec}
 use Rattle.master_index.specs.declared.rising.RowIds.{RowIds}
-use Rattle.master_index.specs.ColumnRows.{KeyedRows, listed, rows_under, is_among, AreRising, ids_in}
-use Rattle.master_index.specs.Masters.{HasIds, IsWideFor}
+use Rattle.master_index.specs.Between.{IsOver, in_rows}
+use Rattle.master_index.specs.ColumnRows.{KeyedRows, Tells, listed, noted, rows_under, is_among, is_noted, is_under, AreRising, ids_in}
+use Rattle.master_index.specs.InStep.{AreRowsWith}
+use Rattle.master_index.specs.Masters.{HasIds, IsRowWith, IsWideFor, MasterRows, id_at}
+use Rattle.master_index.proofs.BetweenFacts.{is_named, named_is}
 use Rattle.master_index.specs.declared.column_index.ColumnIndex.{ColumnIndex}
 use Rattle.master_index.specs.declared.column_list.ColumnList.{ColumnList}
 
@@ -62,6 +67,100 @@ matched (Some tuple) found columns ids row is wide = (
   λ has. let same = (bytes_eq-Decides ids (ids_in tuple columns)).0 (sym is ∙ contains_among found row has.0 has.1 has.2) in ids_are tuple columns wide ∙ ap (map Some) (sym same),
   λ has. among_contains found row (is ∙ (bytes_eq-Decides ids (ids_in tuple columns)).1 (sym (same_ids (ids_in tuple columns) ids (sym (ids_are tuple columns wide) ∙ has)))),
 )
+
+-- ---- a list that is in step with the rows
+under_is : (rows : MasterRows) (list : ColumnList) (es : KeyedRows) → IsOver (in_rows rows) list es → (ids : List ℕ) (row : ℕ)
+    → is_under ids row es ≡ option_map_or (λ tuple. bytes_eq ids (ids_in tuple list.columns)) (finite.get rows (list.master, row)) false
+under_is rows list es is ids row = by (is_under ids row es) refl
+  where
+    found : (tuple : List ℕ) → in_rows rows list.master row tuple ≡ true → ids_in tuple list.columns ≡ ids
+        → true ≡ option_map_or (λ tuple. bytes_eq ids (ids_in tuple list.columns)) (finite.get rows (list.master, row)) false
+    found tuple named key = sym (ap (λ o. option_map_or (λ tuple. bytes_eq ids (ids_in tuple list.columns)) o false) (named_is rows list.master row tuple named)
+        ∙ (bytes_eq-Decides ids (ids_in tuple list.columns)).1 (sym key))
+
+    missing : (o : Option (List ℕ)) → finite.get rows (list.master, row) ≡ o → is_under ids row es ≡ false → false ≡ option_map_or (λ tuple. bytes_eq ids (ids_in tuple list.columns)) o false
+    missing None at none = refl
+    missing (Some tuple) at none = other (bytes_eq ids (ids_in tuple list.columns)) refl
+      where
+        other : (b : Bool) → bytes_eq ids (ids_in tuple list.columns) ≡ b → false ≡ b
+        other true same =
+            let there = is.there row tuple (is_named rows list.master row tuple at) in
+            absurd (true≢false (sym there ∙ ap (λ xs. is_under xs row es) (sym ((bytes_eq-Decides ids (ids_in tuple list.columns)).0 same)) ∙ none))
+        other false apart = refl
+
+    by : (b : Bool) → is_under ids row es ≡ b → is_under ids row es ≡ option_map_or (λ tuple. bytes_eq ids (ids_in tuple list.columns)) (finite.get rows (list.master, row)) false
+    by true e = let (tuple, named, key) = is.known ids row e in e ∙ found tuple named key
+    by false e = e ∙ missing (finite.get rows (list.master, row)) refl e
+
+row_has : (o : Option (List ℕ)) (columns ids : List ℕ) → IfSome o (λ tuple. All (λ column. column < length tuple) columns) → IsSomeAnd o (λ tuple. HasIds tuple columns ids)
+    → (tuple : List ℕ) × (o ≡ Some tuple) × (ids_in tuple columns ≡ ids)
+row_has None columns ids wide has = absurd has
+row_has (Some tuple) columns ids wide has = (tuple, refl, same_ids (ids_in tuple columns) ids (sym (ids_are tuple columns wide) ∙ has))
+
+module _ (rows : MasterRows) (list : ColumnList) (es : KeyedRows) (ids : List ℕ) (is : IsOver (in_rows rows) list es) (rising : AreRising es)
+    (wide : (row : ℕ) → IfSome (finite.get rows (list.master, row)) (λ tuple. All (λ column. column < length tuple) list.columns)) where
+  exactly_under : (row : ℕ) → Contains (rows_under ids es) row ↔ IsRowWith rows list.master list.columns ids row
+  exactly_under row = matched (finite.get rows (list.master, row)) (rows_under ids es) list.columns ids row (under_is rows list es is ids row) (wide row)
+
+  alike_under : (one other column : ℕ) → IsRowWith rows list.master list.columns ids one → IsRowWith rows list.master list.columns ids other → column < 64 → is_noted ids column es ≡ false
+      → id_at rows list.master one column ≡ id_at rows list.master other column
+  alike_under one other column with_ids also within isnt = by (one == other) refl
+    where
+      by : (b : Bool) → (one == other) ≡ b → id_at rows list.master one column ≡ id_at rows list.master other column
+      by true e = ap (λ row. id_at rows list.master row column) (grind (arith, nat_tests, e))
+      by false e =
+          let (tuple, at, key) = row_has (finite.get rows (list.master, one)) list.columns ids (wide one) with_ids in
+          let (another, at', key') = row_has (finite.get rows (list.master, other)) list.columns ids (wide other) also in
+          let apart : one ≢ other = grind (arith, nat_tests, e) in
+          ap (λ o. option_map_or (λ held. slice_get held column) o None) at
+          ∙ is.alike one other tuple another apart (is_named rows list.master one tuple at) (is_named rows list.master other another at') (key ∙ sym key') column within (ap (λ xs. is_noted xs column es) key ∙ isnt)
+          ∙ sym (ap (λ o. option_map_or (λ held. slice_get held column) o None) at')
+
+  -- what a look-up by ids finds
+  pub held_under : (found : Option (Bor RowIds)) → option_map (λ rows. rows.now) found ≡ lookup (λ key. bytes_eq ids key.items) es
+      → MatchOption found ((row : ℕ) → ¬ IsRowWith rows list.master list.columns ids row) (λ held. AreRowsWith rows list.master list.columns ids held.now)
+  held_under None looked = λ row with_ids.
+      let has = subst (λ xs. Contains xs row) (ap (λ o. option_map_or listed o []) (sym looked)) ((exactly_under row).1 with_ids) in
+      omega (arith, has.1)
+  held_under (Some held) looked = record {
+    rising = subst IsStrictlyIncreasing here (rows_rise es ids rising);
+    exactly = λ row. subst (λ xs. Contains xs row ↔ IsRowWith rows list.master list.columns ids row) here (exactly_under row);
+    alike = λ one other column with_ids also within isnt.
+        alike_under one other column with_ids also within (ap (λ o. option_map_or (λ rows. noted rows column) o false) (sym looked) ∙ isnt);
+  }
+    where
+      here : rows_under ids es ≡ listed held.now
+      here = ap (λ o. option_map_or listed o []) (sym looked)
+
+-- ---- the first of rows that have one id
+rises_first : (rows : List ℕ) → IsStrictlyIncreasing (take 1 rows)
+rises_first [] k within = absurd (omega arith)
+rises_first (row ∷ rows) k within = absurd (omega arith)
+
+first_among : (rows : List ℕ) (row : ℕ) → Contains (take 1 rows) row → Contains rows row
+first_among [] row has = has
+first_among (x ∷ rows) row (zero, within, at) = (0, omega arith, at)
+first_among (x ∷ rows) row (suc k, within, at) = absurd (omega arith)
+
+first_of : (rows : List ℕ) (row : ℕ) → Contains rows row → (first : ℕ) × Contains (take 1 rows) first
+first_of [] row has = absurd (omega (arith, has.1))
+first_of (x ∷ rows) row has = (x, (0, omega arith, refl))
+
+pub told_rise : (held : RowIds) (column : ℕ) (told : List ℕ) → Tells held column told → IsStrictlyIncreasing (listed held) → IsStrictlyIncreasing told
+told_rise held column told (inl all) rising = subst IsStrictlyIncreasing (sym all) rising
+told_rise held column told (inr (first, within, isnt)) rising = subst IsStrictlyIncreasing (sym first) (rises_first (listed held))
+
+pub told_among : (held : RowIds) (column : ℕ) (told : List ℕ) → Tells held column told → (row : ℕ) → Contains told row → Contains (listed held) row
+told_among held column told (inl all) row has = subst (λ xs. Contains xs row) all has
+told_among held column told (inr (first, within, isnt)) row has = first_among (listed held) row (subst (λ xs. Contains xs row) first has)
+
+pub told_each : (held : RowIds) (column : ℕ) (told : List ℕ) (id : ℕ → Option ℕ) → Tells held column told
+    → ((one other : ℕ) → Contains (listed held) one → Contains (listed held) other → column < 64 → noted held column ≡ false → id one ≡ id other)
+    → (row : ℕ) → Contains (listed held) row → (other : ℕ) × Contains told other × (id other ≡ id row)
+told_each held column told id (inl all) same row has = (row, subst (λ xs. Contains xs row) (sym all) has, refl)
+told_each held column told id (inr (first, within, isnt)) same row has =
+    let (least, among) = first_of (listed held) row has in
+    (least, subst (λ xs. Contains xs least) (sym first) among, same least row (first_among (listed held) least among) has within isnt)
 
 -- ---- the list that was handed in
 -- a list that none of the indexes is of was not handed in

@@ -1,5 +1,6 @@
+pub mod ColumnSets
 pub mod ColumnRows
-pub mod ColumnWatch
 pub mod Masters
 pub mod Tables
+pub mod Between
 pub mod InStep

@@ -1,8 +1,9 @@
 -- What a master index is: the lists of columns that it was made with, and the rows of master tables.
-use Rattle.std.specs.Prelude.{◌≡◌, ℕ, ◌<◌, ◌==◌, List, Some, map, length, slice_get, refl, All, IsSomeAnd, count_by}
+use Rattle.std.specs.Prelude.{◌≡◌, ℕ, ◌<◌, ◌==◌, List, Option, Some, None, map, length, slice_get, refl, All, IsSomeAnd, count_by}
 use Rattle.std.specs.Ordering.{nat_cmp, on, then_cmp}
 use Rattle.std.specs.declared.cmp.Ordering.{Ordering}
 use Rattle.std.specs.FinMap as finite
+use Rattle.std.specs.Option.{option_map_or}
 use Rattle.std.specs.Coded.{Coded, code_by, coded×, coded_list, coded_ℕ}
 use Rattle.master_index.specs.declared.column_list.ColumnList.{ColumnList}
 
@@ -29,6 +30,10 @@ HasIds tuple columns ids = map (slice_get tuple) columns ≡ map Some ids
 -- a row of the table, with these ids in these columns
 abbrev pub IsRowWith : MasterRows → ℕ → List ℕ → List ℕ → ℕ → Type 0
 IsRowWith rows table columns ids row = IsSomeAnd (finite.get rows (table, row)) (λ tuple. HasIds tuple columns ids)
+
+-- the id of a row in a column
+abbrev pub id_at : MasterRows → ℕ → ℕ → ℕ → Option ℕ
+id_at rows table row column = option_map_or (λ tuple. slice_get tuple column) (finite.get rows (table, row)) None
 
 -- the tuple reaches each column of each list of the table
 abbrev pub IsWideFor : List ColumnList → ℕ → List ℕ → Type 0

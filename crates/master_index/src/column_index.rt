@@ -1,19 +1,23 @@
 //! The rows of one master table by the ids in some of its columns, kept in step with the rows.
-ghost use Rattle.std.specs.Prelude.{◌≡◌, ◌≤◌, ◌<◌, ◌==◌, ◌&&◌, ℕ, List, length, All, IfOk, IsTrue, ◌↔◌, false};
+ghost use Rattle.std.specs.Prelude.{◌≡◌, ◌+◌, ◌≤◌, ◌<◌, ◌==◌, ℕ, List, length, option_map, if◌then◌else◌, All, IfOk, OnOk, OnErr, IsTrue, ◌↔◌, false};
+ghost use Rattle.std.specs.FinMap as finite;
+ghost use Rattle.std.specs.Map.{lookup};
+ghost use Rattle.std.specs.Option.{ForSome};
 ghost use Rattle.std.specs.Str.{bytes_eq};
 ghost use Rattle.row_store.specs.Tuple.{ids_of};
-ghost use Rattle.master_index.specs.ColumnRows.{AreOrderly, ids_in, is_under, rows_under};
-ghost use Rattle.master_index.specs.ColumnWatch.{ColumnEntry, ColumnsMade, gives_entry, attributes_of};
-ghost use Rattle.std.proofs.Common.{arith};
-ghost use Rattle.std.proofs.lemmas.Bool.Decides.{nat_tests};
+ghost use Rattle.master_index.specs.Between.{IsBetween, IsOver, Reaches, in_tables, with_one};
+ghost use Rattle.master_index.specs.ColumnRows.{AreOrderly, ids_in, is_under};
+ghost use Rattle.master_index.specs.Tables.{rows_of_tables};
 
 use crate::column_list::ColumnList;
 use crate::column_rows::{ColumnRows, put_row, rows_with, take_row};
 use crate::key::Key;
+use crate::rising::RowIds;
+use crate::tables::Tables;
 use hash_keys::HashKeys;
 use indexmap::IndexMap;
 use probe_steps::Steps;
-use row_store::{RowId, Tuple, Watch};
+use row_store::{RowId, Tuple};
 use std::alloc::{AllocError, Global};
 use std::sync::ledger::Ledger;
 use value_pool::ValueId;
@@ -52,85 +56,67 @@ impl ColumnIndex {
         self.list.master == master && self.list.columns.as_slice() == columns
     }
 
-    /// The rows with these ids in the columns.
-    pub(crate) fn rows(&self, ids: &[ValueId]) -> &[RowId]
-        ensures { result.now ≡ rows_under ids.now self.now.rows.entries }
+    /// The rows with these ids in the columns, if there are any.
+    pub(crate) fn rows(&self, ids: &[ValueId]) -> Option<&RowIds>
+        ensures { option_map (λ rows. rows.now) result ≡ lookup (λ key. bytes_eq ids.now key.items) self.now.rows.entries }
     {
         rows_with(&self.rows, ids)
     }
-}
 
-impl Watch for ColumnIndex {
-    ghost Entry = { ColumnEntry };
-
-    ghost Made = { ColumnsMade };
-
-    ghost made = { λ index. index.list };
-
-    ghost holds = { λ index entry. is_under entry.ids entry.row index.rows.entries };
-
-    ghost gives = { gives_entry };
-
-    ghost table_of = { λ how _. how.master };
-
-    ghost row_of = { λ _ entry. entry.row };
-
-    ghost needed = { λ how table. table == how.master };
-
-    ghost attributes = { attributes_of };
-
-    ghost cost = { λ _. 1 };
-
-    fn needs(&self, table: usize) -> bool {
-        table == self.list.master
-    }
-
-    fn add<L: Ledger>(
+    /// Puts the row under the key of the tuple, if it is of this table. The tables are as they were before.
+    pub(crate) fn add<L: Ledger>(
         &mut self,
-        table: usize,
+        tables: &Tables,
+        master: usize,
         row: RowId,
-        old: Option<&Tuple>,
-        new: &Tuple,
+        tuple: &Tuple,
         steps: &mut Steps<L>,
-    ) -> Result<(), AllocError> {
-        if table != self.list.master {
+    ) -> Result<(), AllocError>
+        requires wide { Reaches master (ids_of tuple.now) self.old.list }
+        requires in_step { IsOver (in_tables tables.now.stores.items) self.old.list self.old.rows.entries }
+        ensures list { self.new.list ≡ self.old.list }
+        ensures ok { OnOk result (IsOver (with_one (in_tables tables.now.stores.items) master row (ids_of tuple.now)) self.new.list self.new.rows.entries) }
+        ensures err { OnErr result (IsOver (in_tables tables.now.stores.items) self.new.list self.new.rows.entries) }
+        ensures probes { steps.new ≤ steps.old + (if master == self.old.list.master then 1 else 0) }
+    {
+        if master != self.list.master {
             return Ok(());
         }
         let columns = self.list.columns.as_slice();
-        if let Some(tuple) = old {
-            if agree(tuple, new, columns) {
-                return Ok(());
-            }
-        }
         let mut key = Key::with_capacity(*self.rows.allocator(), columns.len())?;
-        write_key(&mut key, new, columns);
-        put_row(&mut self.rows, key, row, steps)
+        write_key(&mut key, tuple, columns);
+        put_row(&mut self.rows, key, tables, master, row, tuple, steps)
     }
 
-    fn remove<L: Ledger>(
+    /// Takes the row away from the key of the tuple, if it is of this table, unless its tuple in the tables has
+    /// that key.
+    pub(crate) fn remove<L: Ledger>(
         &mut self,
-        table: usize,
+        tables: &Tables,
+        master: usize,
         row: RowId,
-        old: &Tuple,
-        new: Option<&Tuple>,
+        tuple: &Tuple,
         steps: &mut Steps<L>,
-    ) {
-        if table != self.list.master {
+    )
+        requires wide { Reaches master (ids_of tuple.now) self.old.list }
+        requires wide_left { ForSome (finite.get (rows_of_tables tables.now.stores.items) (master, row)) (λ ids. Reaches master ids self.old.list) }
+        requires between { IsBetween (in_tables tables.now.stores.items) (with_one (in_tables tables.now.stores.items) master row (ids_of tuple.now)) self.old.list self.old.rows.entries }
+        ensures list { self.new.list ≡ self.old.list }
+        ensures in_step { IsOver (in_tables tables.now.stores.items) self.new.list self.new.rows.entries }
+        ensures probes { steps.new ≤ steps.old + (if master == self.old.list.master then 1 else 0) }
+    {
+        if master != self.list.master {
             return;
         }
         let columns = self.list.columns.as_slice();
-        if let Some(tuple) = new {
-            if agree(tuple, old, columns) {
+        if let Some(left) = tables.get(master, row) {
+            if agree(left, tuple, columns) {
                 return;
             }
         }
-        write_key(&mut self.key, old, columns);
+        write_key(&mut self.key, tuple, columns);
         take_row(&mut self.rows, self.key.as_slice(), row, steps);
     }
-
-    ghost names_row = { λ how table row ids entry given. (Prim.grind (arith, nat_tests), Prim.grind (arith, nat_tests)) };
-
-    ghost unneeded = { λ how table row ids entry unneeded. Prim.grind (arith, nat_tests) };
 }
 
 // Writes the ids of a tuple in the columns into a key that has the room.

@@ -1,16 +1,19 @@
 //! The rows of all master tables, and the indexes of their columns.
-ghost use Rattle.std.specs.Prelude.{◌≡◌, ◌+◌, ◌*◌, ◌≤◌, ◌↔◌, ℕ, None, length, Contains, IsSome, IfOk, OnOk, OnErr};
+ghost use Rattle.std.specs.Prelude.{◌≡◌, ◌+◌, ◌*◌, ◌≤◌, ◌↔◌, ℕ, None, length, Contains, IsSome, MatchOption, IfOk, OnOk, OnErr};
 ghost use Rattle.std.specs.List.Sorted.{IsStrictlyIncreasing};
 ghost use Rattle.std.specs.FinMap as finite;
 ghost use Rattle.row_store.specs.Tuple.{ids_of, ids_behind};
-ghost use Rattle.master_index.specs.Masters.{IsRowWith, IsWideFor, lists_of};
+ghost use Rattle.master_index.specs.InStep.{AreRowsWith};
+ghost use Rattle.master_index.specs.Masters.{IsRowWith, IsWideFor, id_at, lists_of};
 
 use crate::column_index::ColumnIndex;
 use crate::column_list::ColumnList;
+use crate::lists::{add_to_all, take_from_each};
+use crate::rising::RowIds;
 use crate::tables::Tables;
 use hash_keys::HashKeys;
 use probe_steps::Steps;
-use row_store::{RowId, Tuple, add_to_all, remove_from_all};
+use row_store::{RowId, Tuple};
 use std::alloc::{AllocError, Global};
 use std::marker::Model;
 use std::sync::ledger::Ledger;
@@ -76,12 +79,45 @@ impl MasterIndex {
         ensures rising { IsStrictlyIncreasing result.now }
         ensures exactly { (row : ℕ) → Contains result.now row ↔ IsRowWith self.now.rows master columns.now ids.now row }
     {
+        match self.held(master, columns, ids) {
+            Some(rows) => rows.as_slice(),
+            None => &[],
+        }
+    }
+
+    /// Of the rows with these ids in these columns, by rising ids, so many that they tell each id that these rows
+    /// have in one more column: the first alone, where no two of them were ever seen to differ there. It takes no
+    /// memory.
+    pub fn telling_matches(
+        &self,
+        master: usize,
+        columns: &[usize],
+        ids: &[ValueId],
+        told: usize,
+    ) -> &[RowId]
+        requires { Contains self.now.lists (record { master = master; columns = columns.now }) }
+        ensures rising { IsStrictlyIncreasing result.now }
+        ensures only { (row : ℕ) → Contains result.now row → IsRowWith self.now.rows master columns.now ids.now row }
+        ensures each { (row : ℕ) → IsRowWith self.now.rows master columns.now ids.now row →
+            (other : ℕ) × Contains result.now other × (id_at self.now.rows master other told ≡ id_at self.now.rows master row told) }
+    {
+        match self.held(master, columns, ids) {
+            Some(rows) => rows.telling(told),
+            None => &[],
+        }
+    }
+
+    // What is kept of the rows with these ids in these columns, if there are any.
+    fn held(&self, master: usize, columns: &[usize], ids: &[ValueId]) -> Option<&RowIds>
+        requires { Contains self.now.lists (record { master = master; columns = columns.now }) }
+        ensures { MatchOption result ((row : ℕ) → ¬ IsRowWith self.now.rows master columns.now ids.now row) (λ held. AreRowsWith self.now.rows master columns.now ids.now held.now) }
+    {
         for index in &self.columns {
             if index.is_of(master, columns) {
                 return index.rows(ids);
             }
         }
-        &[]
+        None
     }
 
     /// Adds a row that isn't there. After a refusal the rows are as before. The first row of an id makes room for all ids
@@ -103,7 +139,8 @@ impl MasterIndex {
     {
         let shared = tuple.clone()?;
         self.tables.ready(master, row)?;
-        add_to_all(&mut self.columns, master, row, None, tuple, steps)?;
+        let columns = self.columns.as_mut_slice();
+        add_to_all(columns, &self.tables, master, row, tuple, steps)?;
         self.tables.put(master, row, shared);
         Ok(())
     }
@@ -116,7 +153,8 @@ impl MasterIndex {
         ensures probes { steps.new ≤ steps.old + lists_of self.old.lists master }
     {
         let tuple = self.tables.take(master, row);
-        remove_from_all(&mut self.columns, master, row, &tuple, None, steps);
+        let columns = self.columns.as_mut_slice();
+        take_from_each(columns, &self.tables, master, row, &tuple, steps);
     }
 
     /// Puts the tuple in place of the row's. After a refusal the rows are as before.
@@ -135,11 +173,10 @@ impl MasterIndex {
         ensures probes { steps.new ≤ steps.old + 2 * lists_of self.old.lists master }
     {
         let shared = tuple.clone()?;
-        let old = self.tables.get(master, row).unwrap().clone()?;
         let columns = self.columns.as_mut_slice();
-        add_to_all(columns, master, row, Some(&old), tuple, steps)?;
-        remove_from_all(columns, master, row, &old, Some(tuple), steps);
-        self.tables.replace(master, row, shared);
+        add_to_all(columns, &self.tables, master, row, tuple, steps)?;
+        let old = self.tables.replace(master, row, shared);
+        take_from_each(columns, &self.tables, master, row, &old, steps);
         Ok(())
     }
 }

@@ -19,10 +19,10 @@ use Rattle.rule_model.specs.declared.edit_rule.EditRule.{EditRule}
 use Rattle.schema_core.specs.Lookups.{attrs_at}
 use Rattle.rule_model.specs.Rules.{IsValidEditRule}
 use Rattle.rule_model.specs.Books.{IsBook, book_edits}
-use Rattle.master_index.specs.Masters.{HasIds, IsRowWith}
+use Rattle.master_index.specs.Masters.{HasIds, IsRowWith, id_at}
 use Rattle.rule_runs.specs.declared.moves.Move.{Move}
 use Rattle.rule_runs.specs.declared.moves.Start.{Start}
-use Rattle.rule_runs.specs.Moves.{Stage, values_in, IsReady, correction, Corrects, Applies, after}
+use Rattle.rule_runs.specs.Moves.{Stage, values_in, IsReady, correction, Corrects, Applies, after, value_written}
 use Rattle.rule_runs.specs.Starts.{basis_of, width_of, IsTupleOf, IsStart, IsRuleOf, ReadsWithin}
 use Rattle.rule_runs.proofs.Lists.{All-at, IfSome-at, slice_get-either}
 use Rattle.rule_runs.proofs.Moving.{WritesWithin, parts, after-is}
@@ -159,6 +159,20 @@ applies_by_rule start stage number rule row there =
       λ applies. split-inside o (IsReady (basis_of start) stage rule) Same ((inside-map o rule P).0 (subst (λ p. IsSomeAnd p P) is applies)),
       λ (ready, same). subst (λ p. IsSomeAnd p P) (sym is) ((inside-map o rule P).1 (join-inside o (IsReady (basis_of start) stage rule) Same ready same)),
     )
+
+-- the value that a move of the rule writes is its master row's in the source
+abbrev source_of : EditRule × List ℕ → Option ℕ
+source_of c = slice_get c.1 c.0.source
+
+pub written_by : (start : Start) (number : ℕ) (rule : EditRule) (row : ℕ) → slice_get (book_edits start.rules.now) number ≡ Some rule
+    → value_written (basis_of start) (record { rule = number; master = row }) ≡ id_at start.masters.now.rows rule.master row rule.source
+written_by start number rule row there =
+    ap (λ o. option_map_or source_of (option_and_then (λ (r : EditRule). option_map (λ (m : List ℕ). (r, m)) (finite.get start.masters.now.rows (r.master, row))) o) None) there
+    ∙ inside (finite.get start.masters.now.rows (rule.master, row))
+  where
+    inside : (o : Option (List ℕ)) → option_map_or source_of (option_map (λ (m : List ℕ). (rule, m)) o) None ≡ option_map_or (λ (m : List ℕ). slice_get m rule.source) o None
+    inside None = refl
+    inside (Some m) = refl
 
 -- a move that applies has a rule of the book
 pub move_within : (start : Start) (stage : Stage ℕ) (move : Move) → Applies (basis_of start) stage move → move.rule < length (book_edits start.rules.now)

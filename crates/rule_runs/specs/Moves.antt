@@ -1,6 +1,6 @@
 -- Moves: an editing rule corrects a tuple from a row of its master table. The values of tuples are of any kind for which
 -- it is known whether a value is a text.
-use Rattle.std.specs.Prelude.{◌≡◌, ℕ, Bool, true, false, List, map, Option, slice_get, slice_set, IsSomeAnd, All, option_map}
+use Rattle.std.specs.Prelude.{◌≡◌, ℕ, Bool, true, false, List, map, Option, None, slice_get, slice_set, IsSomeAnd, All, option_map}
 use Rattle.std.specs.Option.{option_and_then, option_map_or}
 use Rattle.rule_model.specs.declared.edit_rule.EditCell.{EditCell}
 use Rattle.rule_model.specs.declared.edit_rule.EditCell.TheVariants.{Any, Is, Not}
@@ -67,6 +67,10 @@ module _ {V : Type 0} (basis : Basis V) where
   -- the stage after a move
   abbrev pub after : Stage V → Move → Stage V
   after stage move = option_map_or (corrected stage) (correction move) stage
+
+  -- the value that the move writes, where its rule and its master row are there
+  abbrev pub value_written : Move → Option V
+  value_written move = option_map_or (λ (c : EditRule × List V). slice_get c.1 c.0.source) (correction move) None
 
   -- the attribute that a move validates
   abbrev pub target_of : Move → Option ℕ

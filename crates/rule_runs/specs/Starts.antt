@@ -1,5 +1,5 @@
 -- Where runs start: a tuple of value ids with its vouched attributes, the rule book, the pool of texts and the master rows.
-use Rattle.std.specs.Prelude.{◌≡◌, ℕ, ◌<◌, ◌≤◌, Bool, false, List, ◌++◌, length, take, slice_get, All, Contains, IfSome, IsSomeAnd}
+use Rattle.std.specs.Prelude.{◌≡◌, ℕ, ◌<◌, ◌≤◌, Bool, false, List, ◌++◌, length, take, slice_get, Some, All, Contains, IfSome, IsSomeAnd}
 use Rattle.std.specs.Option.{option_map_or}
 use Rattle.std.specs.FinMap as finite
 use Rattle.std.specs.Str.{bytes_eq}
@@ -18,7 +18,7 @@ use Rattle.rule_runs.specs.declared.runs.Run.{Run}
 use Rattle.rule_runs.specs.declared.runs.RunCheck.{RunCheck}
 use Rattle.rule_runs.specs.declared.runs.RunCheck.TheVariants.{Maximal, NotMaximal, Breaks}
 use Rattle.rule_runs.specs.Marks.{marked}
-use Rattle.rule_runs.specs.Moves.{Basis, Stage, Applies, IsRunOf, IsMaximalRun, end_after}
+use Rattle.rule_runs.specs.Moves.{Basis, Stage, Applies, IsReady, IsRunOf, IsMaximalRun, end_after}
 
 -- the id is that of the text
 abbrev pub has_text : List (List ℕ) → ℕ → List ℕ → Bool
@@ -77,6 +77,12 @@ pub record IsRuleOf (start : Start) (rule : EditRule) : Type 0 where
   pub valid : IsValidEditRule start.rules.now.schema rule
   pub columns : Contains start.masters.now.lists (record { master = rule.master; columns = rule.xm })
   pub few : All HasFewAttrs start.rules.now.schema.tables
+
+-- the rule of the number, which is ready at the tuple
+pub record IsReadyRule (start : Start) (tuple : List ℕ) (z : Marks) (number : ℕ) (rule : EditRule) : Type 0 where
+  pub there : slice_get (book_edits start.rules.now) number ≡ Some rule
+  pub rule_of : IsRuleOf start rule
+  pub ready : IsReady (basis_of start) (stage_of tuple z) rule
 
 -- What a rule reads and writes lies within a tuple of so many attributes, and a key of what it matches has at most 64 values.
 pub record ReadsWithin (rule : EditRule) (width : ℕ) : Type 0 where

@@ -9,7 +9,7 @@ mod next;
 mod ready;
 pub mod runs;
 
-pub use lookup::rows_that_apply;
+pub use lookup::rows_to_try;
 pub use marks::Marks;
 pub use moves::{Move, Start};
 pub use next::{applies, first_move};

@@ -1,7 +1,8 @@
 use Rattle.std.proofs.Common.{◌≡◌, ℕ, Some, take}
 use Rattle.std.specs.Prelude.{All, IfSome}
+use Rattle.rule_runs.specs.Moves.{value_written}
 use Rattle.rule_runs.specs.Starts.{basis_of}
-use Rattle.fix_engine.specs.Rivals.{AgreesBy, value_written}
+use Rattle.fix_engine.specs.Rivals.{AgreesBy}
 use Rattle.fix_engine.proofs.rivals.rival_by_rule.Given as goal
 
 abbrev pub invariant-loop-row : goal.invariant-loop-row

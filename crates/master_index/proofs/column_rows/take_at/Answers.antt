@@ -3,7 +3,7 @@ use Rattle.std.specs.Str.{bytes_eq}
 use Rattle.std.proofs.lemmas.Slice.Eq.{bytes_eq-Decides}
 use Rattle.master_index.specs.declared.rising.RowIds.{RowIds}
 use Rattle.master_index.specs.ColumnRows.{listed}
-use Rattle.master_index.proofs.KeyedRowFacts.{lent_rises, lent_has_rows, kept_written, kept_removed, left_written, left_removed, some_left, value_twice}
+use Rattle.master_index.proofs.KeyedRowFacts.{lent_rises, lent_has_rows, kept_written, kept_removed, left_written, left_removed, notes_left, notes_without, some_left, value_twice}
 use Rattle.master_index.proofs.column_rows.take_at.Goals as goal
 
 -- the rows that are lent are not the row alone
@@ -39,3 +39,9 @@ returns-else-eq-clause-kept c =
     let isnt = isnt_alone c.index_mut.result.now c.index.result.now c.as_slice.result.now c.as_slice-2.result.now c.args.row c.eq.result same c.as_slice.ensures c.as_slice-2.ensures c.eq.ensures c.if-eq.false in
     kept_written es c.args.place c.take.new.self c.requires.kept c.take.ensures.rising
     (some_left c.args.row (listed c.index_mut.result.now) (listed c.take.new.self) (lent_has_rows es c.args.place c.index_mut.result.now c.requires.kept c.index_mut.ensures.value) isnt c.take.ensures.at_most_one c.take.ensures.none)
+
+pub returns-then-eq-clause-noted : goal.returns-then-eq-clause-noted
+returns-then-eq-clause-noted c = notes_without c.args.map.now c.requires.unique c.args.row c.args.place c.swap_remove_index.new.self c.swap_remove_index.result c.swap_remove_index.ensures.updates c.swap_remove_index.ensures.unchanged
+
+pub returns-else-eq-clause-noted : goal.returns-else-eq-clause-noted
+returns-else-eq-clause-noted c = notes_left c.args.map.now c.requires.unique c.args.row c.args.place c.index_mut.result.now c.take.new.self c.index_mut.ensures.value c.take.ensures.noted

@@ -1,6 +1,6 @@
 use Rattle.std.proofs.Common.{◌≢◌, ℕ, ◌<◌, get_or}
 use Rattle.master_index.specs.declared.column_index.ColumnIndex.{ColumnIndex}
-use Rattle.master_index.proofs.index.MasterIndex.matches.Given as goal
+use Rattle.master_index.proofs.index.MasterIndex.held.Given as goal
 
 -- none so far is of the list
 abbrev pub invariant-loop-index : goal.invariant-loop-index
