@@ -20,6 +20,7 @@ use std::sync::ledger::Ledger;
 
 /// A bench as far as its rules can be asked. It lends no row: whoever is handed it and no bench learns of rows by its queries
 /// alone, and each of them counts its probes. Clauses see what they see of the bench.
+#[derive(Drop)]
 pub struct BenchQueries<'a> {
     project: &'a Project,
     index: &'a AllIndexes,
