@@ -14,3 +14,4 @@ pub mod NumberedNames
 pub mod QuestionNames
 pub mod MadeHolds
 pub mod Found
+pub mod NodeTexts
