@@ -1,13 +1,12 @@
 //! The text of a tree: its nodes by names, one on a line.
 
-ghost use Rattle.std.specs.Prelude.{◌≡◌, ◌+◌, ◌++◌, ◌∷◌, [], All, map, IfOk, IfSome, IsSome, OnOk};
+ghost use Rattle.std.specs.Prelude.{◌≡◌, ◌+◌, ◌<◌, ◌++◌, ◌∷◌, [], All, map, IfOk, IfSome, IsSome, OnOk};
 ghost use Rattle.std.specs.Option.{option_map_or};
 ghost use Rattle.schema_core.specs.Schemas.{IsValidSchema};
 ghost use Rattle.line_grammar.specs.Spelling.{file_text, line_text};
 ghost use Rattle.rule_model.specs.Rules.{IsValidDep};
 ghost use Rattle.cert_text.specs.CertText.{reason_parts};
 ghost use Rattle.cert_text.specs.Written.{IsReasonOf};
-ghost use Rattle.cert_text.specs.declared.answers.Kind.{Kind as AnyKind};
 ghost use Rattle.cert_text.specs.declared.names.ReasonName.TheVariants.{Clause};
 ghost use Rattle.cert_check.specs.Made.{HaveNames, IsFitNode, IsRightTree, IsTreeText, named_node, named_parts, named_reason};
 ghost use Rattle.cert_check.specs.Shown.{asks_from};
@@ -25,7 +24,7 @@ const MOST_CLAUSES: usize = 999_999_999_999;
 /// Appends a clause by its number. One that is greater than a certificate can have is answered like want of memory.
 fn push_clause(out: &mut Vec<u8>, at: usize) -> Result<(), AllocError>
     ensures text { OnOk result (out.new.items ≡ out.old.items ++ line_text (reason_parts (Clause (at + 1)))) }
-    ensures fit { (kind : AnyKind) → OnOk result (IsReasonOf kind (Clause (at + 1))) }
+    ensures few { OnOk result (at < MOST_CLAUSES) }
 {
     if at >= MOST_CLAUSES {
         return Err(AllocError);
