@@ -1,5 +1,4 @@
 pub mod Positions
-pub mod Zips
 pub mod NamePlaces
 pub mod Occurring
 pub mod OneTrees
