@@ -14,7 +14,7 @@ returns-clause-text c =
     let head = line_text (option_map_or var_parts one []) in
     let rest = line_text (option_map_or var_parts other []) in
     let both = c.in_ok-push_var-2.ensures.text ∙ ap (λ (t : List ℕ). t ++ rest) (c.in_ok-push.ensures.items ∙ ap (λ (t : List ℕ). t ++ 32 ∷ []) c.in_ok-push_var.ensures.text ∙ append_assoc first head (32 ∷ []))
-        ∙ append_assoc first (head ++ 32 ∷ []) rest ∙ ap (λ (t : List ℕ). first ++ t) (append_assoc head (32 ∷ []) rest) in
+    ∙ append_assoc first (head ++ 32 ∷ []) rest ∙ ap (λ (t : List ℕ). first ++ t) (append_assoc head (32 ∷ []) rest) in
     appended c.args.out.now.items first c.push_var-2.new.out.items (codes "two ") (head ++ (32 ∷ [] ++ rest)) _ c.in_ok-extend_from_slice.ensures.items (two_text one other c.requires) both
 
 pub returns-clause-fit : goal.returns-clause-fit
