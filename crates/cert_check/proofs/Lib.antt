@@ -1,5 +1,4 @@
 pub mod Positions
-pub mod Zips
 pub mod NamePlaces
 pub mod Occurring
 pub mod OneTrees
@@ -14,3 +13,4 @@ pub mod NumberedNames
 pub mod QuestionNames
 pub mod MadeHolds
 pub mod Found
+pub mod NodeTexts

@@ -1,8 +1,9 @@
--- The certificates of the deciders' answers.
-use Rattle.std.specs.Prelude.{◌≡◌, ℕ, ◌+◌, ◌≤◌, List, [], ◌∷◌, length, map, Option, Some, None, slice_get, All, IsSome}
+-- The certificates of the deciders' answers, and their texts.
+use Rattle.std.specs.Prelude.{◌≡◌, ℕ, ◌+◌, ◌≤◌, List, [], ◌∷◌, length, map, Option, Some, None, slice_get, All, IfSome, IsSome}
 use Rattle.std.specs.List.{AllZip}
-use Rattle.std.specs.Option.{option_map, option_and_then}
+use Rattle.std.specs.Option.{option_map, option_map_or}
 use Rattle.schema_core.specs.Lookups.{attrs_at}
+use Rattle.schema_core.specs.Schemas.{table_place}
 use Rattle.schema_core.specs.declared.schema.Schema.{Schema}
 use Rattle.case_tree.specs.CaseTree.{CaseTree, ClauseSet, IsRightAt, leaf_count, places, preorder}
 use Rattle.case_tree.specs.declared.tree.Node.{Node}
@@ -21,9 +22,10 @@ use Rattle.cfd_consistency.specs.declared.decider.Consistency.TheVariants as fou
 use Rattle.cfd_implication.specs.Answers as implication
 use Rattle.cfd_implication.specs.declared.answer.Implication.{Implication}
 use Rattle.cfd_implication.specs.declared.answer.Implication.TheVariants as told
-use Rattle.cert_text.specs.Written.{IsBudget}
-use Rattle.cert_text.specs.CertText.{node_parts}
+use Rattle.cert_text.specs.Written.{IsBudget, IsNodeOf}
+use Rattle.cert_text.specs.CertText.{IsCertText, node_parts}
 use Rattle.line_grammar.specs.Spelling.{file_text}
+use Rattle.line_grammar.specs.declared.writing.Part.{Part}
 use Rattle.cert_text.specs.Canonical.{witness_cert, counter_cert, case_cert}
 use Rattle.cert_text.specs.declared.cert.Question.{Question}
 use Rattle.cert_text.specs.declared.cert.Question.TheVariants.{Consistent, Implies}
@@ -32,8 +34,8 @@ use Rattle.cert_text.specs.declared.names.ReasonName.{ReasonName}
 use Rattle.cert_text.specs.declared.names.ReasonName.TheVariants.{Clause, Two, NoneOf}
 use Rattle.cert_text.specs.declared.names.NodeName.{NodeName}
 use Rattle.cert_text.specs.declared.names.NodeName.TheVariants.{Split, Leaf, Open}
-use Rattle.cert_check.specs.Names.{Names}
-use Rattle.cert_check.specs.Shown.{asks_consistency, asks_implication}
+use Rattle.cert_check.specs.Names.{Names, named_cell}
+use Rattle.cert_check.specs.Shown.{IsRightCert, asks_consistency, asks_implication}
 
 -- ---- nodes by names
 
@@ -47,12 +49,20 @@ both f (Some a) (Some b) = Some (f a b)
 abbrev pub named_reason : Names → Reason → Option ReasonName
 named_reason names (reasons.Clause at) = Some (Clause (at + 1))
 named_reason names (reasons.Two v w) = both (λ one other. Two one other) (slice_get names.vars v) (slice_get names.vars w)
-named_reason names (reasons.NoneOf at) = option_map (λ cell. NoneOf cell) (option_and_then (λ cell. cell) (slice_get names.cells at))
+named_reason names (reasons.NoneOf at) = option_map (λ cell. NoneOf cell) (named_cell names.cells at)
 
 abbrev pub named_node : Names → Node → Option NodeName
 named_node names (nodes.Split v) = option_map (λ var. Split var) (slice_get names.vars v)
 named_node names (nodes.Leaf reason) = option_map (λ named. Leaf named) (named_reason names reason)
 named_node names nodes.Unclosed = Some Open
+
+-- the line of a node that has a name
+abbrev pub named_parts : Names → Node → List Part
+named_parts names node = option_map_or node_parts (named_node names node) []
+
+-- its name can stand in a certificate of the question
+abbrev pub IsFitNode : Names → Node → Type 0
+IsFitNode names node = IfSome (named_node names node) (IsNodeOf names.kind)
 
 -- these are the nodes by names, place by place
 abbrev pub AreNamed : Names → List Node → List NodeName → Type 0
@@ -120,6 +130,23 @@ abbrev pub IsCertOfDep : Book → Dep → Implication → CertParts → Type 0
 IsCertOfDep rules dep (told.Counter one other) cert = cert ≡ counter_cert (decl_of rules.schema dep) one other
 IsCertOfDep rules dep (told.Implied tree) cert = IsTreeCert (asks_implication rules dep).names (Implies (decl_of rules.schema dep)) None tree cert
 IsCertOfDep rules dep (told.Spent tree) cert = IsTreeCert (asks_implication rules dep).names (Implies (decl_of rules.schema dep)) (Some (leaf_count tree)) tree cert
+
+-- of the table of a name
+abbrev pub IsCertOfTable : Book → List ℕ → Consistency → CertParts → Type 0
+IsCertOfTable rules name answer cert = IfSome (table_place rules.schema name) (λ table. IsCertOf rules name table answer cert)
+
+-- the text of some certificate
+pub record IsSomeText (IsOne : CertParts → Type 0) (text : List ℕ) : Type 0 where
+  pub cert : CertParts
+  pub is : IsOne cert
+  pub spelled : IsCertText cert text
+
+-- the text of some right certificate
+pub record IsRightText (rules : Book) (IsOne : CertParts → Type 0) (text : List ℕ) : Type 0 where
+  pub cert : CertParts
+  pub is : IsOne cert
+  pub right : IsRightCert rules cert
+  pub spelled : IsCertText cert text
 
 -- ---- right answers
 

@@ -1,6 +1,7 @@
 -- The variables and the cells of a question by their names, in the order of their numbers.
-use Rattle.std.specs.Prelude.{ℕ, ◌==◌, ◌&&◌, Bool, true, false, if◌then◌else◌, List, [], ◌∷◌, ◌++◌, length, map, Option, Some, None}
+use Rattle.std.specs.Prelude.{ℕ, ◌==◌, ◌&&◌, Bool, true, false, if◌then◌else◌, List, [], ◌∷◌, ◌++◌, length, map, Option, Some, None, slice_get}
 use Rattle.std.specs.List.{flat_map, position_or_len}
+use Rattle.std.specs.Option.{option_and_then}
 use Rattle.std.specs.Str.{bytes_eq}
 use Rattle.schema_core.specs.declared.schema.Attr.{Attr}
 use Rattle.rule_parser.specs.RuleText.{attr_name}
@@ -43,6 +44,10 @@ value_cells tuple attr values = if length values == 0 then [] else Some (cell_na
 abbrev pub attr_cells : Kind → List ℕ → List (List ℕ) → List (Option CellName)
 attr_cells Consistency attr values = value_cells Only attr values
 attr_cells Implication attr values = None ∷ (value_cells First attr values ++ value_cells Second attr values)
+
+-- the name of the cell of that number, where it has one
+abbrev pub named_cell : List (Option CellName) → ℕ → Option CellName
+named_cell cells at = option_and_then (λ cell. cell) (slice_get cells at)
 
 -- ---- the names of a question
 

@@ -1,5 +1,6 @@
 //! What certificates say about rules is checked here. A certificate names tables, variables and cells; over a rule book
-//! these names stand for numbers, and its tuples and its tree are judged by what the deciders' questions ask.
+//! these names stand for numbers, and its tuples and its tree are judged by what the deciders' questions ask. What the
+//! deciders answer is written as certificates, node by node from its number.
 #![tactic(auto)]
 
 mod check;
@@ -15,6 +16,6 @@ pub mod verdict;
 
 pub use check::check_cert;
 pub use copies::{copy_cell, copy_cells};
-pub use made::{cert_of_consistency, cert_of_implication};
+pub use made::{consistency_text, implication_text};
 pub use tree_lines::tree_text;
 pub use verdict::CertVerdict;

@@ -1,60 +1,58 @@
-//! The names at places among those of one attribute.
+//! The names at places among those of one attribute, as they are written.
 
-ghost use Rattle.std.specs.Prelude.{◌≡◌, ◌+◌, ◌*◌, ◌^◌, ◌<◌, Some, length, slice_get, IfOk, IfSome};
+ghost use Rattle.std.specs.Prelude.{◌≡◌, ◌+◌, ◌*◌, ◌^◌, ◌<◌, ◌++◌, [], length, slice_get, IfSome, OnOk};
+ghost use Rattle.std.specs.Option.{option_map_or};
 ghost use Rattle.text_lists.specs.Names.{IsName};
+ghost use Rattle.line_grammar.specs.Spelling.{line_text};
+ghost use Rattle.cert_text.specs.CertText.{cell_name_parts, var_parts};
 ghost use Rattle.cert_text.specs.Written.{IsOfKind, IsCellOf, IsVarOf};
-ghost use Rattle.cert_check.specs.Names.{cell_name, value_vars, attr_vars, value_cells, attr_cells};
+ghost use Rattle.cert_check.specs.Names.{attr_cells, attr_vars, named_cell, value_vars};
 ghost use Rattle.cert_text.specs.declared.answers.Kind.TheVariants.{Implication};
 
 use cert_text::answers::Kind;
-use cert_text::{CellName, VarName, Which};
+use cert_text::{Which, push_cell, push_equality, push_value};
 use schema_core::Text;
-use std::alloc::{AllocError, Global};
+use std::alloc::AllocError;
 use value_pool::Pool;
 
-fn cell_name(tuple: Which, attr: &Text) -> Result<CellName, AllocError>
-    ensures { IfOk result (λ name. name ≡ cell_name tuple attr.now) }
-{
-    Ok(CellName {
-        tuple,
-        attr: attr.clone()?,
-    })
-}
-
-fn value_var(
-    alloc: Global,
+fn push_value_var(
+    out: &mut Vec<u8>,
     kind: Kind,
     tuple: Which,
     attr: &Text,
     values: &Pool,
     place: usize,
-) -> Result<VarName, AllocError>
+) -> Result<(), AllocError>
     requires kind { IsOfKind kind tuple }
     requires attr { IsName attr.now }
     requires within { place < length values.now }
-    ensures name { IfOk result (λ name. slice_get (value_vars tuple attr.now values.now) place ≡ Some name) }
-    ensures fit { IfOk result (IsVarOf kind) }
+    ensures text { OnOk result (out.new.items ≡ out.old.items ++ line_text (option_map_or var_parts (slice_get (value_vars tuple attr.now values.now) place) [])) }
+    ensures fit { IfSome (slice_get (value_vars tuple attr.now values.now) place) (IsVarOf kind) }
 {
-    let value = Text::new(alloc, values.text(place))?;
-    Ok(VarName::Value(cell_name(tuple, attr)?, value))
+    push_value(out, tuple, attr, values.text(place))
 }
 
-fn pair_var(alloc: Global, attr: &Text, values: &Pool, place: usize) -> Result<VarName, AllocError>
+fn push_pair_var(
+    out: &mut Vec<u8>,
+    attr: &Text,
+    values: &Pool,
+    place: usize,
+) -> Result<(), AllocError>
     requires attr { IsName attr.now }
     requires within { place < length (attr_vars Implication attr.now values.now) }
-    ensures name { IfOk result (λ name. slice_get (attr_vars Implication attr.now values.now) place ≡ Some name) }
-    ensures fit { IfOk result (IsVarOf Implication) }
+    ensures text { OnOk result (out.new.items ≡ out.old.items ++ line_text (option_map_or var_parts (slice_get (attr_vars Implication attr.now values.now) place) [])) }
+    ensures fit { IfSome (slice_get (attr_vars Implication attr.now values.now) place) (IsVarOf Implication) }
 {
     if place == 0 {
-        return Ok(VarName::Equal(attr.clone()?));
+        return push_equality(out, attr);
     }
     let place = place - 1;
     let count = values.len();
     if place < count {
-        value_var(alloc, Kind::Implication, Which::First, attr, values, place)
+        push_value_var(out, Kind::Implication, Which::First, attr, values, place)
     } else {
-        value_var(
-            alloc,
+        push_value_var(
+            out,
             Kind::Implication,
             Which::Second,
             attr,
@@ -64,54 +62,60 @@ fn pair_var(alloc: Global, attr: &Text, values: &Pool, place: usize) -> Result<V
     }
 }
 
-/// The variable at a place among those of an attribute.
-pub fn var_at(
-    alloc: Global,
+/// Appends the name of the variable at a place among those of an attribute.
+pub fn push_var_at(
+    out: &mut Vec<u8>,
     kind: Kind,
     attr: &Text,
     values: &Pool,
     place: usize,
-) -> Result<VarName, AllocError>
+) -> Result<(), AllocError>
     requires attr { IsName attr.now }
     requires within { place < length (attr_vars kind attr.now values.now) }
-    ensures name { IfOk result (λ name. slice_get (attr_vars kind attr.now values.now) place ≡ Some name) }
-    ensures fit { IfOk result (IsVarOf kind) }
+    ensures text { OnOk result (out.new.items ≡ out.old.items ++ line_text (option_map_or var_parts (slice_get (attr_vars kind attr.now values.now) place) [])) }
+    ensures fit { IfSome (slice_get (attr_vars kind attr.now values.now) place) (IsVarOf kind) }
 {
     match kind {
-        Kind::Consistency => value_var(alloc, kind, Which::Only, attr, values, place),
-        Kind::Implication => pair_var(alloc, attr, values, place),
+        Kind::Consistency => push_value_var(out, kind, Which::Only, attr, values, place),
+        Kind::Implication => push_pair_var(out, attr, values, place),
     }
 }
 
-fn pair_cell(attr: &Text, values: &Pool, place: usize) -> Result<Option<CellName>, AllocError>
+fn push_pair_cell(
+    out: &mut Vec<u8>,
+    attr: &Text,
+    values: &Pool,
+    place: usize,
+) -> Result<(), AllocError>
     requires attr { IsName attr.now }
     requires within { place < length (attr_cells Implication attr.now values.now) }
-    ensures name { IfOk result (λ name. slice_get (attr_cells Implication attr.now values.now) place ≡ Some name) }
-    ensures fit { IfOk result (λ name. IfSome name (IsCellOf Implication)) }
+    ensures text { OnOk result (out.new.items ≡ out.old.items ++ line_text (option_map_or cell_name_parts (named_cell (attr_cells Implication attr.now values.now) place) [])) }
+    ensures fit { IfSome (named_cell (attr_cells Implication attr.now values.now) place) (IsCellOf Implication) }
 {
     if place == 0 {
-        return Ok(None);
+        Ok(())
+    } else if place == 1 {
+        push_cell(out, Which::First, attr)
+    } else {
+        push_cell(out, Which::Second, attr)
     }
-    if place == 1 {
-        return Ok(Some(cell_name(Which::First, attr)?));
-    }
-    Ok(Some(cell_name(Which::Second, attr)?))
 }
 
-/// The cell at a place among those of an attribute, if it has a name.
-pub fn cell_at(
+/// Appends the name of the cell at a place among those of an attribute, if it has one.
+pub fn push_cell_at(
+    out: &mut Vec<u8>,
     kind: Kind,
     attr: &Text,
     values: &Pool,
     place: usize,
-) -> Result<Option<CellName>, AllocError>
+) -> Result<(), AllocError>
     requires attr { IsName attr.now }
     requires within { place < length (attr_cells kind attr.now values.now) }
-    ensures name { IfOk result (λ name. slice_get (attr_cells kind attr.now values.now) place ≡ Some name) }
-    ensures fit { IfOk result (λ name. IfSome name (IsCellOf kind)) }
+    ensures text { OnOk result (out.new.items ≡ out.old.items ++ line_text (option_map_or cell_name_parts (named_cell (attr_cells kind attr.now values.now) place) [])) }
+    ensures fit { IfSome (named_cell (attr_cells kind attr.now values.now) place) (IsCellOf kind) }
 {
     match kind {
-        Kind::Consistency => Ok(Some(cell_name(Which::Only, attr)?)),
-        Kind::Implication => pair_cell(attr, values, place),
+        Kind::Consistency => push_cell(out, Which::Only, attr),
+        Kind::Implication => push_pair_cell(out, attr, values, place),
     }
 }

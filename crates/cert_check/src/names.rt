@@ -1,14 +1,17 @@
 //! The variables and cells of a question by their names.
 
-ghost use Rattle.std.specs.Prelude.{◌≡◌, ◌+◌, ◌*◌, ◌^◌, ◌<◌, ◌≤◌, Some, All, length, slice_get, IfOk, IfSome};
+ghost use Rattle.std.specs.Prelude.{◌≡◌, ◌+◌, ◌*◌, ◌^◌, ◌<◌, ◌≤◌, ◌++◌, [], All, length, slice_get, IfOk, IfSome, OnOk};
 ghost use Rattle.std.specs.List.{position_or_len};
+ghost use Rattle.std.specs.Option.{option_map_or};
 ghost use Rattle.rule_parser.specs.RuleText.{attr_name};
 ghost use Rattle.schema_core.specs.Schemas.{IsValidAttr};
 ghost use Rattle.cell_values.specs.Values.{AreFew, occurring};
+ghost use Rattle.line_grammar.specs.Spelling.{line_text};
+ghost use Rattle.cert_text.specs.CertText.{cell_name_parts, var_parts};
 ghost use Rattle.cert_text.specs.Written.{IsCellOf, IsVarOf};
-ghost use Rattle.cert_check.specs.Names.{names_of, attr_vars, attr_cells, same_var, is_cell, var_number, cell_number};
+ghost use Rattle.cert_check.specs.Names.{names_of, attr_vars, attr_cells, named_cell, same_var, is_cell, var_number, cell_number};
 
-use crate::named::{cell_at, var_at};
+use crate::named::{push_cell_at, push_var_at};
 use crate::places::{cell_count, cell_place, var_count, var_place};
 use cell_values::{CellValues, TableRules, occurring};
 use cert_text::answers::Kind;
@@ -70,22 +73,22 @@ impl<'a> Naming<'a> {
         cell_number(self.kind, self.attrs, self.values.as_slice(), name)
     }
 
-    /// The name of a variable.
-    pub fn var_name(&self, alloc: Global, number: usize) -> Result<VarName, AllocError>
+    /// Appends the name of a variable.
+    pub fn push_var(&self, out: &mut Vec<u8>, number: usize) -> Result<(), AllocError>
         requires { number < length self.now.vars }
-        ensures name { IfOk result (λ name. slice_get self.now.vars number ≡ Some name) }
-        ensures fit { IfOk result (IsVarOf self.now.kind) }
+        ensures text { OnOk result (out.new.items ≡ out.old.items ++ line_text (option_map_or var_parts (slice_get self.now.vars number) [])) }
+        ensures fit { IfSome (slice_get self.now.vars number) (IsVarOf self.now.kind) }
     {
-        var_name(alloc, self.kind, self.attrs, self.values.as_slice(), number)
+        push_var(out, self.kind, self.attrs, self.values.as_slice(), number)
     }
 
-    /// The name of a cell, if it has one.
-    pub fn cell_name(&self, number: usize) -> Result<Option<CellName>, AllocError>
+    /// Appends the name of a cell, if it has one.
+    pub fn push_cell(&self, out: &mut Vec<u8>, number: usize) -> Result<(), AllocError>
         requires { number < length self.now.cells }
-        ensures name { IfOk result (λ name. slice_get self.now.cells number ≡ Some name) }
-        ensures fit { IfOk result (λ name. IfSome name (IsCellOf self.now.kind)) }
+        ensures text { OnOk result (out.new.items ≡ out.old.items ++ line_text (option_map_or cell_name_parts (named_cell self.now.cells number) [])) }
+        ensures fit { IfSome (named_cell self.now.cells number) (IsCellOf self.now.kind) }
     {
-        cell_name(self.kind, self.attrs, self.values.as_slice(), number)
+        push_cell(out, self.kind, self.attrs, self.values.as_slice(), number)
     }
 }
 
@@ -146,89 +149,83 @@ fn cell_number(kind: Kind, attrs: &[Attr], values: &[CellValues], name: &CellNam
     first
 }
 
-/// The variable at a place among those of an attribute.
-fn var_of(
-    alloc: Global,
+/// Appends the name of the variable at a place among those of an attribute.
+fn push_var_of(
+    out: &mut Vec<u8>,
     kind: Kind,
     attrs: &[Attr],
     cell: &CellValues,
     place: usize,
-) -> Result<VarName, AllocError>
+) -> Result<(), AllocError>
     requires valid { All IsValidAttr attrs.now }
     requires there { cell.now.attr < length attrs.now }
     requires within { place < length (attr_vars kind (attr_name attrs.now cell.now.attr) cell.now.values) }
-    ensures name { IfOk result (λ name. slice_get (attr_vars kind (attr_name attrs.now cell.now.attr) cell.now.values) place ≡ Some name) }
-    ensures fit { IfOk result (IsVarOf kind) }
+    ensures text { OnOk result (out.new.items ≡ out.old.items ++ line_text (option_map_or var_parts (slice_get (attr_vars kind (attr_name attrs.now cell.now.attr) cell.now.values) place) [])) }
+    ensures fit { IfSome (slice_get (attr_vars kind (attr_name attrs.now cell.now.attr) cell.now.values) place) (IsVarOf kind) }
 {
-    let name = var_at(
-        alloc,
-        kind,
-        attr_name(attrs, cell.attr),
-        &cell.values,
-        place,
-    )?;
-    Ok(name)
+    push_var_at(out, kind, attr_name(attrs, cell.attr), &cell.values, place)
 }
 
-/// The cell at a place among those of an attribute, if it has a name.
-fn cell_of(
+/// Appends the name of the cell at a place among those of an attribute, if it has one.
+fn push_cell_of(
+    out: &mut Vec<u8>,
     kind: Kind,
     attrs: &[Attr],
     cell: &CellValues,
     place: usize,
-) -> Result<Option<CellName>, AllocError>
+) -> Result<(), AllocError>
     requires valid { All IsValidAttr attrs.now }
     requires there { cell.now.attr < length attrs.now }
     requires within { place < length (attr_cells kind (attr_name attrs.now cell.now.attr) cell.now.values) }
-    ensures name { IfOk result (λ name. slice_get (attr_cells kind (attr_name attrs.now cell.now.attr) cell.now.values) place ≡ Some name) }
-    ensures fit { IfOk result (λ name. IfSome name (IsCellOf kind)) }
+    ensures text { OnOk result (out.new.items ≡ out.old.items ++ line_text (option_map_or cell_name_parts (named_cell (attr_cells kind (attr_name attrs.now cell.now.attr) cell.now.values) place) [])) }
+    ensures fit { IfSome (named_cell (attr_cells kind (attr_name attrs.now cell.now.attr) cell.now.values) place) (IsCellOf kind) }
 {
-    let name = cell_at(kind, attr_name(attrs, cell.attr), &cell.values, place)?;
-    Ok(name)
+    push_cell_at(out, kind, attr_name(attrs, cell.attr), &cell.values, place)
 }
 
-fn var_name(
-    alloc: Global,
+fn push_var(
+    out: &mut Vec<u8>,
     kind: Kind,
     attrs: &[Attr],
     values: &[CellValues],
     number: usize,
-) -> Result<VarName, AllocError>
+) -> Result<(), AllocError>
     requires few { AreFew values.now }
     requires valid { All IsValidAttr attrs.now }
     requires there { All (λ cell. cell.attr < length attrs.now) values.now }
     requires known { number < length (names_of kind attrs.now values.now).vars }
-    ensures name { IfOk result (λ name. slice_get (names_of kind attrs.now values.now).vars number ≡ Some name) }
-    ensures fit { IfOk result (IsVarOf kind) }
+    ensures text { OnOk result (out.new.items ≡ out.old.items ++ line_text (option_map_or var_parts (slice_get (names_of kind attrs.now values.now).vars number) [])) }
+    ensures fit { IfSome (slice_get (names_of kind attrs.now values.now).vars number) (IsVarOf kind) }
 {
     let mut place = number;
     for cell in values {
         let count = var_count(kind, &cell.values);
         if place < count {
-            return var_of(alloc, kind, attrs, cell, place);
+            return push_var_of(out, kind, attrs, cell, place);
         }
         place -= count;
     }
     unreachable!()
 }
 
-fn cell_name(
+fn push_cell(
+    out: &mut Vec<u8>,
     kind: Kind,
     attrs: &[Attr],
     values: &[CellValues],
     number: usize,
-) -> Result<Option<CellName>, AllocError>
+) -> Result<(), AllocError>
     requires valid { All IsValidAttr attrs.now }
     requires there { All (λ cell. cell.attr < length attrs.now) values.now }
     requires known { number < length (names_of kind attrs.now values.now).cells }
-    ensures name { IfOk result (λ name. slice_get (names_of kind attrs.now values.now).cells number ≡ Some name) }
-    ensures fit { IfOk result (λ name. IfSome name (IsCellOf kind)) }
+    ensures text { OnOk result (out.new.items ≡ out.old.items ++ line_text (option_map_or cell_name_parts (named_cell (names_of kind attrs.now values.now).cells number) [])) }
+    ensures fit { IfSome (named_cell (names_of kind attrs.now values.now).cells number) (IsCellOf kind) }
 {
     let mut place = number;
     for cell in values {
         let count = cell_count(kind, &cell.values);
         if place < count {
-            return cell_of(kind, attrs, cell, place);
+            return push_cell_of(out, kind, attrs, cell, place);
         }
         place -= count;
     }

@@ -3,4 +3,4 @@ pub mod NodeLines
 pub mod NodesAgain
 pub mod LinesAgain
 pub mod CertsAgain
-pub mod Printed
+pub mod CertTexts

@@ -1,6 +1,6 @@
 -- Certificates whose lines are those of the canonical text: the question stands on the first, the answer on the second,
 -- and behind it the second tuple, or the nodes in preorder one on a line.
-use Rattle.std.specs.Prelude.{◌≡◌, ℕ, ◌+◌, List, [], ◌∷◌, map, Option}
+use Rattle.std.specs.Prelude.{ℕ, ◌+◌, List, [], ◌∷◌, map, Option}
 use Rattle.rule_model.specs.declared.decl.CfdDecl.{CfdDecl}
 use Rattle.cert_text.specs.declared.cert.Question.{Question}
 use Rattle.cert_text.specs.declared.cert.Question.TheVariants.{Consistent, Implies}
@@ -46,7 +46,3 @@ from_second (Tree tree) = Tree (tree_lines tree.budget (map (λ (node : NodeLine
 -- a certificate with the lines of its canonical text
 abbrev pub with_canonical_lines : CertParts → CertParts
 with_canonical_lines cert = record { asked = asked_first cert.asked.question; answer = from_second cert.answer }
-
--- its lines are those already
-abbrev pub HasCanonicalLines : CertParts → Type 0
-HasCanonicalLines cert = with_canonical_lines cert ≡ cert

@@ -1,7 +1,7 @@
 -- The canonical text of a certificate: the question on a line, the answer on the next, and behind it the second tuple or
 -- the nodes of the tree in preorder, one on a line. There is one space behind each word and each comma, and none round `=`
 -- and `.`.
-use Rattle.std.specs.Prelude.{ℕ, List, [], ◌∷◌, ◌++◌, map, Option, Some, None, codes}
+use Rattle.std.specs.Prelude.{◌≡◌, ℕ, List, [], ◌∷◌, ◌++◌, map, Option, Some, None, Ok, codes}
 use Rattle.std.specs.List.{flat_map}
 use Rattle.line_grammar.specs.Spelling.{name, number, text, mark, spaced_list, file_text}
 use Rattle.line_grammar.specs.declared.tokens.Mark.TheVariants.{Equals, Dot}
@@ -26,7 +26,7 @@ use Rattle.cert_text.specs.declared.names.ReasonName.{ReasonName}
 use Rattle.cert_text.specs.declared.names.ReasonName.TheVariants.{Clause, Two, NoneOf}
 use Rattle.cert_text.specs.declared.names.NodeName.{NodeName}
 use Rattle.cert_text.specs.declared.names.NodeName.TheVariants.{Split, Leaf, Open}
-use Rattle.cert_text.specs.CertFiles.{kind_of}
+use Rattle.cert_text.specs.CertFiles.{kind_of, reads_cert}
 use Rattle.cert_text.specs.CertLines.{closed_word}
 
 -- ---- nodes
@@ -85,6 +85,10 @@ abbrev pub tree_line : Kind → Option ℕ → List Part
 tree_line kind None = name (closed_word kind) ∷ []
 tree_line kind (Some budget) = name (codes "spent") ∷ Space ∷ number budget ∷ []
 
+-- the first two lines of a certificate with a tree
+abbrev pub tree_head : Question → Option ℕ → List (List Part)
+tree_head question budget = question_line question ∷ tree_line (kind_of question) budget ∷ []
+
 -- an answer to a question of the kind
 abbrev pub answer_lines : Kind → Answer → List (List Part)
 answer_lines kind (Witness one) = texts_line (codes "witness") one.values ∷ []
@@ -98,3 +102,8 @@ cert_lines cert = question_line cert.asked.question ∷ answer_lines (kind_of ce
 
 unfoldable pub cert_text : CertParts → List ℕ
 cert_text cert = file_text (cert_lines cert)
+
+-- the text of a certificate, which is read again as that certificate
+pub record IsCertText (cert : CertParts) (bytes : List ℕ) : Type 0 where
+  pub written : bytes ≡ cert_text cert
+  pub read_again : reads_cert bytes ≡ Ok cert

@@ -1,11 +1,10 @@
 //! Certificates as text: the answer to a question about the rules of a table, with what shows it. One is read from the
-//! lines of a file.
+//! lines of a file, and written from its parts.
 #![tactic(auto)]
 
 pub mod answers;
 pub mod cert;
 pub mod fault;
-mod made;
 pub mod names;
 mod nodes;
 mod parse;
@@ -17,4 +16,6 @@ pub use cert::{Answer, Asked, Cert, CertParts, NodeLine, Question, TreeLines, Tu
 pub use fault::{CertCause, CertFault};
 pub use names::{CellName, NodeName, ReasonName, VarName, Which};
 pub use parse::parse_cert;
-pub use print::{print_cert, push_cert, push_node, push_texts};
+pub use print::{
+    counter_text, push_cell, push_equality, push_texts, push_value, tree_head, witness_text,
+};

@@ -1,6 +1,6 @@
 -- Certificates of what the deciders answer.
-use Rattle.std.proofs.Common.{◌≡◌, ℕ, ◌<◌, ◌≤◌, List, Option, None, Some, Result, Ok, Err, sym, ap, subst}
-use Rattle.std.specs.Prelude.{IfOk, IfSome, IsSome, IsSomeAnd, unwrap_or}
+use Rattle.std.proofs.Common.{◌≡◌, ℕ, ◌<◌, ◌≤◌, List, Option, None, Some, sym, ap, ◌∙◌, subst}
+use Rattle.std.specs.Prelude.{IfSome, IsSome, IsSomeAnd, unwrap_or}
 use Rattle.shelf_io.specs.Sink.{SinkTold}
 use Rattle.rule_model.specs.Books.{Book, book_deps}
 use Rattle.rule_model.specs.declared.dep.Dep.{Dep}
@@ -14,19 +14,22 @@ use Rattle.cfd_implication.specs.Answers as implication
 use Rattle.cfd_implication.specs.Question as implication_question
 use Rattle.cfd_implication.specs.declared.answer.Implication.{Implication}
 use Rattle.cfd_implication.specs.declared.answer.Implication.TheVariants as told
-use Rattle.cert_text.specs.CertText.{cert_text}
 use Rattle.cert_text.specs.declared.cert.CertParts.{CertParts}
 use Rattle.cert_text.specs.declared.cert.Question.TheVariants.{Consistent, Implies}
-use Rattle.cert_check.specs.Made.{IsCertOf, IsCertOfDep, IsFound, decl_of}
+use Rattle.cert_check.specs.Made.{IsCertOf, IsCertOfDep, IsFound, IsRightText, decl_of}
 use Rattle.cert_check.specs.Shown.{IsRightCert}
 use Rattle.cli_output.specs.declared.status.Status.{Status}
-use Rattle.cli_output.specs.Output.{Ends, Only}
+use Rattle.cli_output.specs.Output.{Ends, Only, Outputs}
 use Rattle.cli_output.proofs.Outputs.{Ends-wider}
 use Rattle.rule_forms.specs.Certificates.{Answers, cert_status, certificates, spent_budget}
+use Rattle.rule_forms.specs.ConsistentForm.{consistency_status}
+use Rattle.rule_forms.specs.ImpliesForm.{implication_status}
 
--- what is written of a certificate of some kind is the text of one of that kind
-pub told_cert : (IsOne : CertParts → Type 0) (cert : CertParts) → IsOne cert → (status : Status) (sink sink_after : SinkTold) → Ends (Only (cert_text cert) (cert_status cert)) status sink sink_after → Ends (certificates IsOne) status sink sink_after
-told_cert IsOne cert is status sink sink_after ends = Ends-wider (Only (cert_text cert) (cert_status cert)) (certificates IsOne) (λ bytes s o. (cert, is, o.0, o.1)) status sink sink_after ends
+-- what is told of an answer is what is written
+pub told_written : (outputs : Outputs) (text bytes : List ℕ) (own status : Status) (sink sink_after : SinkTold) → bytes ≡ text → outputs text own → Ends (Only bytes own) status sink sink_after → Ends outputs status sink sink_after
+told_written outputs text bytes own status sink sink_after same is ends =
+    Ends-wider (Only bytes own) outputs
+    (λ b s o. subst (λ (t : List ℕ). outputs t s) (sym (o.0 ∙ same)) (subst (λ (other : Status). outputs text other) (sym o.1) is)) status sink sink_after ends
 
 -- ---- a table
 
@@ -59,16 +62,23 @@ of_table rules name table budget (found.Spent tree) cert right is shown = record
   spent = is_spent cert (leaf_count tree) budget (enough_of (consistency_question.question rules table).cells) (ap (λ (c : CertParts). spent_budget c.answer) is.whole) right.1 right.2;
 }
 
--- the certificate of what was answered about the table of a name answers its question
-pub table_answer : (rules : Book) (name : List ℕ) (budget : ℕ) (answer : Consistency) (cert : CertParts) (place : Option ℕ) → IsSome place → IfSome place (λ table. consistency.IsAnswer rules budget table answer) → IfSome place (λ table. IsCertOf rules name table answer cert) → IsRightCert rules cert
-    → Answers rules (Consistent name) budget (enough_of (consistency_question.question rules (unwrap_or place 0)).cells) cert
-table_answer rules name budget answer cert None there right is shown = absurd (cc)
-table_answer rules name budget answer cert (Some table) there right is shown = of_table rules name table budget answer cert right is shown
+status_of_table : (rules : Book) (name : List ℕ) (table : ℕ) (answer : Consistency) (cert : CertParts) → IsCertOf rules name table answer cert → consistency_status answer ≡ cert_status cert
+status_of_table rules name table (found.Witness tuple) cert is = ap cert_status (sym is)
+status_of_table rules name table (found.Never tree) cert is = ap cert_status (sym is.whole)
+status_of_table rules name table (found.Spent tree) cert is = ap cert_status (sym is.whole)
+
+-- the text of the certificate of what was answered about the table of a name answers its question
+pub table_told : (rules : Book) (name : List ℕ) (budget : ℕ) (answer : Consistency) (text : List ℕ) (place : Option ℕ) → IsSome place → IfSome place (λ table. consistency.IsAnswer rules budget table answer)
+    → IsRightText rules (λ cert. IfSome place (λ table. IsCertOf rules name table answer cert)) text
+    → certificates (Answers rules (Consistent name) budget (enough_of (consistency_question.question rules (unwrap_or place 0)).cells)) text (consistency_status answer)
+table_told rules name budget answer text None there right right_text = absurd (cc)
+table_told rules name budget answer text (Some table) there right right_text =
+    (right_text.cert, of_table rules name table budget answer right_text.cert right right_text.is right_text.right, right_text.spelled, status_of_table rules name table answer right_text.cert right_text.is)
 
 -- ---- a dependency
 
 -- the certificate of what was answered about a dependency answers its question
-pub dep_answer : (rules : Book) (dep : Dep) (budget : ℕ) (answer : Implication) (cert : CertParts) → implication.IsAnswer rules.schema (book_deps rules) dep budget answer → IsCertOfDep rules dep answer cert → IsRightCert rules cert
+dep_answer : (rules : Book) (dep : Dep) (budget : ℕ) (answer : Implication) (cert : CertParts) → implication.IsAnswer rules.schema (book_deps rules) dep budget answer → IsCertOfDep rules dep answer cert → IsRightCert rules cert
     → Answers rules (Implies (decl_of rules.schema dep)) budget (enough_of (implication_question.question rules.schema (book_deps rules) dep).cells) cert
 dep_answer rules dep budget (told.Counter one other) cert right is shown = record {
   asks = ap (λ (c : CertParts). c.asked.question) is;
@@ -86,9 +96,13 @@ dep_answer rules dep budget (told.Spent tree) cert right is shown = record {
   spent = is_spent cert (leaf_count tree) budget (enough_of (implication_question.question rules.schema (book_deps rules) dep).cells) (ap (λ (c : CertParts). spent_budget c.answer) is.whole) right.1 right.2;
 }
 
--- ---- what a maker of certificates gives
+status_of_dep : (rules : Book) (dep : Dep) (answer : Implication) (cert : CertParts) → IsCertOfDep rules dep answer cert → implication_status answer ≡ cert_status cert
+status_of_dep rules dep (told.Counter one other) cert is = ap cert_status (sym is)
+status_of_dep rules dep (told.Implied tree) cert is = ap cert_status (sym is.whole)
+status_of_dep rules dep (told.Spent tree) cert is = ap cert_status (sym is.whole)
 
--- what has two properties has a third that follows from them
-pub if_both : {X E : Type 0} (P Q R : X → Type 0) → ((x : X) → P x → Q x → R x) → (result : Result X E) → IfOk result P → IfOk result Q → IfOk result R
-if_both P Q R follows (Ok x) p q = follows x p q
-if_both P Q R follows (Err error) p q = tt
+-- and so does its text
+pub dep_told : (rules : Book) (dep : Dep) (budget : ℕ) (answer : Implication) (text : List ℕ) → implication.IsAnswer rules.schema (book_deps rules) dep budget answer → IsRightText rules (IsCertOfDep rules dep answer) text
+    → certificates (Answers rules (Implies (decl_of rules.schema dep)) budget (enough_of (implication_question.question rules.schema (book_deps rules) dep).cells)) text (implication_status answer)
+dep_told rules dep budget answer text right right_text =
+    (right_text.cert, dep_answer rules dep budget answer right_text.cert right right_text.is right_text.right, right_text.spelled, status_of_dep rules dep answer right_text.cert right_text.is)

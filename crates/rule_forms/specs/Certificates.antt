@@ -2,7 +2,7 @@
 use Rattle.std.specs.Prelude.{◌≡◌, ℕ, ◌<◌, Option, None, Some, IfSome}
 use Rattle.rule_model.specs.Books.{Book}
 use Rattle.cert_text.specs.CertFiles.{kind_of}
-use Rattle.cert_text.specs.CertText.{cert_text}
+use Rattle.cert_text.specs.CertText.{IsCertText}
 use Rattle.cert_text.specs.declared.answers.Kind.{Kind}
 use Rattle.cert_text.specs.declared.answers.Kind.TheVariants.{Consistency, Implication}
 use Rattle.cert_text.specs.declared.cert.Answer.{Answer}
@@ -45,6 +45,6 @@ pub record Answers (rules : Book) (question : Question) (budget enough : ℕ) (c
   pub right : IsRightCert rules cert
   pub spent : IfSome (spent_budget cert.answer) (λ named. (named ≡ budget) × (budget < enough))
 
--- the canonical text of such a certificate, with the status of its answer
+-- the canonical text of such a certificate, which is read again as that certificate, with the status of its answer
 abbrev pub certificates : (CertParts → Type 0) → Outputs
-certificates IsOne bytes status = (cert : CertParts) × IsOne cert × (bytes ≡ cert_text cert) × (status ≡ cert_status cert)
+certificates IsOne bytes status = (cert : CertParts) × IsOne cert × IsCertText cert bytes × (status ≡ cert_status cert)

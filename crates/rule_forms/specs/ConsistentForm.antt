@@ -6,10 +6,15 @@ use Rattle.text_lists.specs.declared.limits.Limits.{Limits}
 use Rattle.rule_model.specs.Books.{Book}
 use Rattle.case_search.specs.Enough.{enough_of}
 use Rattle.cfd_consistency.specs.Question.{question}
+use Rattle.cfd_consistency.specs.declared.decider.Consistency.{Consistency}
+use Rattle.cfd_consistency.specs.declared.decider.Consistency.TheVariants.{Witness, Never, Spent}
 use Rattle.cert_text.specs.declared.cert.CertParts.{CertParts}
 use Rattle.cert_text.specs.declared.cert.Question.TheVariants.{Consistent}
 use Rattle.cli_output.specs.declared.refusal.Cause.{Cause}
 use Rattle.cli_output.specs.declared.refusal.Cause.TheVariants.{UnknownTable}
+use Rattle.cli_output.specs.declared.status.Status.{Status}
+use Rattle.cli_output.specs.declared.status.Status.TheVariants as status
+use Rattle.cli_output.specs.declared.status.Status.TheVariants.{Clean, Findings}
 use Rattle.cli_output.specs.Fetching.{Fetching, ◌>>=◌, about, given}
 use Rattle.cli_output.specs.Output.{Outputs, Task}
 use Rattle.cli_output.specs.RuleFiles.{fetch_book}
@@ -28,6 +33,12 @@ fetch_known limits project table = fetch_book limits project >>= λ rules. given
 abbrev pub IsTableAnswer : Book → List ℕ → ℕ → CertParts → Type 0
 IsTableAnswer rules table budget =
     Answers rules (Consistent table) budget (enough_of (question rules (table_number rules.schema table)).cells)
+
+-- the status of what the decider answers
+abbrev pub consistency_status : Consistency → Status
+consistency_status (Witness tuple) = Clean
+consistency_status (Never tree) = Findings
+consistency_status (Spent tree) = status.Spent
 
 abbrev pub consistent_outputs : List ℕ → ℕ → Book → Outputs
 consistent_outputs table budget rules = certificates (IsTableAnswer rules table budget)

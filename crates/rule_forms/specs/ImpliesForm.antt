@@ -5,10 +5,15 @@ use Rattle.rule_model.specs.Books.{book_deps}
 use Rattle.rule_parser.specs.RuleFiles.{reads_dep}
 use Rattle.case_search.specs.Enough.{enough_of}
 use Rattle.cfd_implication.specs.Question.{question}
+use Rattle.cfd_implication.specs.declared.answer.Implication.{Implication}
+use Rattle.cfd_implication.specs.declared.answer.Implication.TheVariants.{Counter, Implied, Spent}
 use Rattle.cert_text.specs.declared.cert.CertParts.{CertParts}
 use Rattle.cert_text.specs.declared.cert.Question.TheVariants.{Implies}
 use Rattle.cert_check.specs.Made.{decl_of}
 use Rattle.cli_output.specs.declared.refusal.Cause.TheVariants as cause
+use Rattle.cli_output.specs.declared.status.Status.{Status}
+use Rattle.cli_output.specs.declared.status.Status.TheVariants as status
+use Rattle.cli_output.specs.declared.status.Status.TheVariants.{Clean, Findings}
 use Rattle.cli_output.specs.Fetching.{Fetching, ◌>>=◌, about, given}
 use Rattle.cli_output.specs.Output.{Outputs, Task}
 use Rattle.cli_output.specs.RuleFiles.{fetch_book, spelled}
@@ -26,6 +31,12 @@ fetch_asked limits project word =
 abbrev pub IsDepAnswer : Asked → ℕ → CertParts → Type 0
 IsDepAnswer asked budget =
     Answers asked.rules (Implies (decl_of asked.rules.schema asked.dep)) budget (enough_of (question asked.rules.schema (book_deps asked.rules) asked.dep).cells)
+
+-- the status of what the decider answers
+abbrev pub implication_status : Implication → Status
+implication_status (Counter one other) = Findings
+implication_status (Implied tree) = Clean
+implication_status (Spent tree) = status.Spent
 
 abbrev pub implies_outputs : ℕ → Asked → Outputs
 implies_outputs budget asked = certificates (IsDepAnswer asked budget)

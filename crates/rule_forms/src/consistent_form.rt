@@ -3,14 +3,13 @@ ghost use Rattle.std.specs.Prelude.{◌≡◌, ◌≤◌, IfOk, IsSome};
 ghost use Rattle.text_lists.specs.Limits.{AreLimits};
 ghost use Rattle.schema_core.specs.Schemas.{table_place};
 ghost use Rattle.cli_output.specs.Fetching.{Fetches, Reads, about};
-ghost use Rattle.cli_output.specs.Output.{Ends, Output, UsesDevices, Writes};
-ghost use Rattle.rule_forms.specs.ConsistentForm.{IsTableAnswer, consistent_outputs, consistent_task, fetch_known, if_known};
+ghost use Rattle.cli_output.specs.Output.{Ends, IsWhole, Output, UsesDevices, Writes};
+ghost use Rattle.rule_forms.specs.ConsistentForm.{consistency_status, consistent_outputs, consistent_task, fetch_known, if_known};
 
-use crate::certificates::write_cert;
-use cert_check::cert_of_consistency;
-use cert_text::Cert;
-use cfd_consistency::consistent;
-use cli_output::{Cause, Status, Stop, end_by, fetch_book, refused};
+use crate::told::Told;
+use cert_check::consistency_text;
+use cfd_consistency::{Consistency, consistent};
+use cli_output::{Cause, Status, Stop, end_by, end_with, fetch_book, refused};
 use rule_model::RuleBook;
 use schema_core::{Limits, Text};
 use shelf_io::{Shelf, Sink};
@@ -80,25 +79,36 @@ fn answer<O: Sink>(
     requires within { budget ≤ 1000000 }
     ensures { Ends (consistent_outputs table.now budget rules.now) result (O.told out.old) (O.told out.new) }
 {
-    match certificate(alloc, rules, table, budget) {
-        Ok(cert) => write_cert(alloc, &cert, out),
+    match told_of(alloc, rules, table, budget) {
+        Ok(told) => end_with(out, &told.text, told.status),
         Err(AllocError) => Status::Memory,
     }
 }
 
-fn certificate(
-    alloc: Global,
-    rules: &RuleBook,
-    table: &Text,
-    budget: u64,
-) -> Result<Cert, AllocError>
+fn told_of(alloc: Global, rules: &RuleBook, table: &Text, budget: u64) -> Result<Told, AllocError>
     requires known { IsSome (table_place rules.now.schema table.now) }
     requires some { 1 ≤ budget }
     requires within { budget ≤ 1000000 }
-    ensures { IfOk result (IsTableAnswer rules.now table.now budget) }
+    ensures output { IfOk result (λ told. consistent_outputs table.now budget rules.now told.text.items told.status) }
+    ensures whole { IfOk result (λ told. IsWhole told.status) }
 {
     match consistent(alloc, rules, table.as_str(), budget) {
-        Ok(answer) => cert_of_consistency(alloc, rules, table.as_str(), answer),
+        Ok(answer) => {
+            let text = consistency_text(alloc, rules, table.as_str(), &answer)?;
+            let status = consistency_status(&answer);
+            Ok(Told { text, status })
+        }
         Err(_) => Err(AllocError),
+    }
+}
+
+fn consistency_status(answer: &Consistency) -> Status
+    ensures status { result ≡ consistency_status answer.now }
+    ensures whole { IsWhole result }
+{
+    match answer {
+        Consistency::Witness(_) => Status::Clean,
+        Consistency::Never(_) => Status::Findings,
+        Consistency::Spent(_) => Status::Spent,
     }
 }

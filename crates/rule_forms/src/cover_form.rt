@@ -8,6 +8,7 @@ ghost use Rattle.cli_output.specs.Output.{Ends, IsWhole, Output, UsesDevices, Wr
 ghost use Rattle.rule_forms.specs.CoverForm.{cover_outputs, cover_status, cover_task};
 
 use crate::consistent_form::fetch_known;
+use crate::told::Told;
 use cli_output::{Status, end_by, end_with};
 use rule_cover::{Fate, Piece, cover, cover_text};
 use rule_model::RuleBook;
@@ -36,13 +37,6 @@ pub fn cover_project<S: Shelf, O: Sink>(
         Ok(rules) => answer(alloc, &rules, table, budget, out),
         Err(stop) => end_by(alloc, &stop, out),
     }
-}
-
-/// What is written of a cover, and how the call ends.
-#[derive(Drop)]
-struct Told {
-    text: Vec<u8>,
-    status: Status,
 }
 
 /// Writes the fates of the pieces of the table.

@@ -4,15 +4,14 @@ ghost use Rattle.text_lists.specs.Limits.{AreLimits};
 ghost use Rattle.rule_model.specs.Rules.{IsValidDep};
 ghost use Rattle.rule_parser.specs.RuleFiles.{reads_dep};
 ghost use Rattle.cli_output.specs.Fetching.{Fetches, Reads, about};
-ghost use Rattle.cli_output.specs.Output.{Ends, Output, UsesDevices, Writes};
+ghost use Rattle.cli_output.specs.Output.{Ends, IsWhole, Output, UsesDevices, Writes};
 ghost use Rattle.cli_output.specs.RuleFiles.{spelled};
-ghost use Rattle.rule_forms.specs.ImpliesForm.{IsDepAnswer, fetch_asked, implies_outputs, implies_task};
+ghost use Rattle.rule_forms.specs.ImpliesForm.{fetch_asked, implication_status, implies_outputs, implies_task};
 
-use crate::certificates::write_cert;
-use cert_check::cert_of_implication;
-use cert_text::Cert;
-use cfd_implication::implies;
-use cli_output::{Cause, Status, Stop, end_by, fetch_book, refused};
+use crate::told::Told;
+use cert_check::implication_text;
+use cfd_implication::{Implication, implies};
+use cli_output::{Cause, Status, Stop, end_by, end_with, fetch_book, refused};
 use rule_model::{Dep, RuleBook};
 use rule_parser::{ParseFault, parse_dep};
 use schema_core::{Limits, Text};
@@ -89,19 +88,33 @@ fn answer<O: Sink>(alloc: Global, asked: &Asked, budget: u64, out: &mut O) -> St
     requires within { budget ≤ 1000000 }
     ensures { Ends (implies_outputs budget asked.now) result (O.told out.old) (O.told out.new) }
 {
-    match certificate(alloc, asked, budget) {
-        Ok(cert) => write_cert(alloc, &cert, out),
+    match told_of(alloc, asked, budget) {
+        Ok(told) => end_with(out, &told.text, told.status),
         Err(AllocError) => Status::Memory,
     }
 }
 
-fn certificate(alloc: Global, asked: &Asked, budget: u64) -> Result<Cert, AllocError>
+fn told_of(alloc: Global, asked: &Asked, budget: u64) -> Result<Told, AllocError>
     requires valid { IsValidDep asked.now.rules.schema asked.now.dep }
     requires row { length asked.now.dep.rule.rows ≡ 1 }
     requires some { 1 ≤ budget }
     requires within { budget ≤ 1000000 }
-    ensures { IfOk result (IsDepAnswer asked.now budget) }
+    ensures output { IfOk result (λ told. implies_outputs budget asked.now told.text.items told.status) }
+    ensures whole { IfOk result (λ told. IsWhole told.status) }
 {
     let answer = implies(alloc, &asked.rules, &asked.dep, budget)?;
-    cert_of_implication(alloc, &asked.rules, &asked.dep, answer)
+    let text = implication_text(alloc, &asked.rules, &asked.dep, &answer)?;
+    let status = implication_status(&answer);
+    Ok(Told { text, status })
+}
+
+fn implication_status(answer: &Implication) -> Status
+    ensures status { result ≡ implication_status answer.now }
+    ensures whole { IsWhole result }
+{
+    match answer {
+        Implication::Counter(_, _) => Status::Findings,
+        Implication::Implied(_) => Status::Clean,
+        Implication::Spent(_) => Status::Spent,
+    }
 }

@@ -2,11 +2,11 @@
 //! imply one more, and whether a certificate holds. Each answers with a certificate, or with the verdict on one.
 #![tactic(auto)]
 
-mod certificates;
 pub mod check_form;
 pub mod consistent_form;
 mod cover_form;
 pub mod implies_form;
+mod told;
 
 pub use check_form::check_project;
 pub use consistent_form::consistent_project;

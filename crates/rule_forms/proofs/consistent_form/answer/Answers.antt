@@ -1,8 +1,9 @@
-use Rattle.rule_forms.specs.ConsistentForm.{IsTableAnswer}
-use Rattle.rule_forms.proofs.CertAnswers.{told_cert}
+use Rattle.rule_forms.specs.ConsistentForm.{consistent_outputs}
+use Rattle.rule_forms.proofs.CertAnswers.{told_written}
 use Rattle.rule_forms.proofs.consistent_form.answer.Goals as goal
 
 pub returns-in-Ok : goal.returns-in-Ok
 returns-in-Ok g c =
-    told_cert (IsTableAnswer c.args.rules.now c.args.table.now c.args.budget) c.in-Ok.cert c.in-Ok.ensures
-    c.write_cert.result (g.O.Sink.told c.args.out.now) (g.O.Sink.told c.write_cert.new.out) c.write_cert.ensures
+    let told = c.in-Ok.told in
+    told_written (consistent_outputs c.args.table.now c.args.budget c.args.rules.now) told.text.items c.deref.result.now told.status
+    c.end_with.result (g.O.Sink.told c.args.out.now) (g.O.Sink.told c.end_with.new.out) c.deref.ensures.value c.in-Ok.ensures.output c.end_with.ensures.ends

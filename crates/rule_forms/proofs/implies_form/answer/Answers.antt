@@ -1,8 +1,9 @@
-use Rattle.rule_forms.specs.ImpliesForm.{IsDepAnswer}
-use Rattle.rule_forms.proofs.CertAnswers.{told_cert}
+use Rattle.rule_forms.specs.ImpliesForm.{implies_outputs}
+use Rattle.rule_forms.proofs.CertAnswers.{told_written}
 use Rattle.rule_forms.proofs.implies_form.answer.Goals as goal
 
 pub returns-in-Ok : goal.returns-in-Ok
 returns-in-Ok g c =
-    told_cert (IsDepAnswer c.args.asked.now c.args.budget) c.in-Ok.cert c.in-Ok.ensures
-    c.write_cert.result (g.O.Sink.told c.args.out.now) (g.O.Sink.told c.write_cert.new.out) c.write_cert.ensures
+    let told = c.in-Ok.told in
+    told_written (implies_outputs c.args.budget c.args.asked.now) told.text.items c.deref.result.now told.status
+    c.end_with.result (g.O.Sink.told c.args.out.now) (g.O.Sink.told c.end_with.new.out) c.deref.ensures.value c.in-Ok.ensures.output c.end_with.ensures.ends
