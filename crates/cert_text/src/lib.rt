@@ -11,6 +11,8 @@ mod nodes;
 mod parse;
 mod print;
 mod questions;
+mod seen;
+pub mod tree_nodes;
 mod variables;
 
 pub use cert::{Answer, Asked, Cert, CertParts, NodeLine, Question, TreeLines, TupleLine};
@@ -18,3 +20,4 @@ pub use fault::{CertCause, CertFault};
 pub use names::{CellName, NodeName, ReasonName, VarName, Which};
 pub use parse::parse_cert;
 pub use print::{print_cert, push_cert, push_node, push_texts};
+pub use tree_nodes::{NodePlace, TreeNodes};

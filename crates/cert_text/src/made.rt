@@ -10,17 +10,18 @@ ghost use Rattle.cert_text.specs.Written.{AreTexts, IsQuestion, IsBudget, IsNode
 
 use crate::cert::{Answer, Asked, Cert, CertParts, NodeLine, Question, TreeLines, TupleLine};
 use crate::names::NodeName;
+use crate::tree_nodes::TreeNodes;
 use rule_model::CfdDecl;
 use std::alloc::{AllocError, Global};
 use text_lists::{List, Text, Texts};
 
 /// The nodes, one on a line behind the question and the answer.
-fn node_lines(alloc: Global, nodes: List<NodeName>) -> Result<List<NodeLine>, AllocError>
+fn node_lines(alloc: Global, nodes: List<NodeName>) -> Result<TreeNodes, AllocError>
     ensures { IfOk result (λ lines. lines ≡ node_lines 3 nodes) }
 {
-    let mut lines = List::new(alloc);
+    let mut lines = TreeNodes::new(alloc);
     for node in nodes.into_vec() {
-        let line = lines.as_slice().len() + 3;
+        let line = lines.len() + 3;
         lines.push(NodeLine { line, node })?;
     }
     Ok(lines)

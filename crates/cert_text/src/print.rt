@@ -10,10 +10,11 @@ ghost use Rattle.cert_text.specs.Written.{IsWrittenCert};
 ghost use Rattle.cert_text.specs.CertText.{tuple_parts, cell_name_parts, var_parts, reason_parts, node_parts, node_line, row_parts, dep_parts, question_line, texts_line, tree_line, answer_lines, cert_text};
 
 use crate::answers::Kind;
-use crate::cert::{Answer, Cert, NodeLine, Question};
+use crate::cert::{Answer, Cert, Question};
 use crate::names::{CellName, NodeName, ReasonName, VarName, Which};
 use crate::parse::kind_of;
 use crate::questions::closed_word;
+use crate::tree_nodes::TreeNodes;
 use line_grammar::{push_number, push_quoted, push_spaced_list};
 use rule_model::{Cell, CfdDecl, CfdRow};
 use rule_parser::{Cells, Values, push_row, push_sides};
@@ -109,11 +110,11 @@ pub fn push_node(out: &mut Vec<u8>, node: &NodeName) -> Result<(), AllocError>
 }
 
 /// The nodes, one on a line.
-fn push_nodes(out: &mut Vec<u8>, nodes: &[NodeLine]) -> Result<(), AllocError>
+fn push_nodes(out: &mut Vec<u8>, nodes: &TreeNodes) -> Result<(), AllocError>
     ensures { OnOk result (out.new.items ≡ out.old.items ++ file_text (map node_line nodes.now)) }
 {
-    for node in nodes {
-        push_node(out, &node.node)?;
+    for place in 0..nodes.len() {
+        push_node(out, nodes.node_at(place))?;
         out.push(b'\n')?;
     }
     Ok(())
@@ -191,7 +192,7 @@ fn push_answer(out: &mut Vec<u8>, kind: Kind, answer: &Answer) -> Result<(), All
         }
         Answer::Tree(tree) => {
             push_tree_line(out, kind, tree.budget)?;
-            push_nodes(out, tree.nodes.as_slice())
+            push_nodes(out, &tree.nodes)
         }
     }
 }

@@ -3,5 +3,5 @@ use Rattle.line_grammar.specs.Spelling.{file_text}
 use Rattle.cert_text.specs.CertText.{node_line}
 use Rattle.cert_text.proofs.print.push_nodes.Given as goal
 
-abbrev pub invariant-loop-node : goal.invariant-loop-node
-invariant-loop-node l = l.out.items ≡ l.fn.out.items ++ file_text (map node_line (take l.node-index l.nodes))
+abbrev pub invariant-loop-place : goal.invariant-loop-place
+invariant-loop-place l = l.out.items ≡ l.fn.out.items ++ file_text (map node_line (take l.place l.nodes))
