@@ -21,7 +21,7 @@ use std::alloc::{AllocError, Global};
 /// The greatest number that a clause can have in a certificate.
 const MOST_CLAUSES: usize = 999_999_999_999;
 
-/// Appends a clause by its number. One that is greater than a certificate can have is answered like want of memory.
+/// Appends a clause by its number. One greater than a certificate can have is answered like want of memory.
 fn push_clause(out: &mut Vec<u8>, at: usize) -> Result<(), AllocError>
     ensures text { OnOk result (out.new.items ≡ out.old.items ++ line_text (reason_parts (Clause (at + 1)))) }
     ensures few { OnOk result (at < MOST_CLAUSES) }
