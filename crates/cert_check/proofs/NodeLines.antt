@@ -1,11 +1,12 @@
 -- The lines of a tree, and what the checker of trees answers.
-use Rattle.std.proofs.Common.{inl, inr, ◌≡◌, ◌≢◌, ℕ, zero, suc, ◌<◌, ◌≤◌, Bool, true, false, List, [], ◌∷◌, length, get_or, take, Option, Some, None, refl, sym, ap, ◌∙◌, subst, arith}
+use Rattle.std.proofs.Common.{inl, inr, ◌≡◌, ◌≢◌, ℕ, zero, suc, ◌+◌, ◌++◌, ◌<◌, ◌≤◌, Bool, true, false, List, [], ◌∷◌, length, get_or, take, Option, Some, None, refl, sym, ap, ◌∙◌, subst, arith}
 use Rattle.std.specs.Prelude.{map, slice_get, All}
 use Rattle.std.specs.List.{AllByRecursion, Any, position_or_len}
 use Rattle.std.proofs.lemmas.List.Elements.{recursion_from_All, All-from_recursion}
 use Rattle.std.proofs.lemmas.List.Sums.{fails_before_first, passes_at_first}
 use Rattle.std.proofs.lemmas.Bool.{cases_lt}
-use Rattle.std.proofs.lemmas.List.{length-map, take_all}
+use Rattle.std.proofs.lemmas.List.{get_or_default, length-map, map_more, take_all}
+use Rattle.std.proofs.Math.ListN.{get_or-map}
 use Rattle.std.proofs.lemmas.Option.{slice_get_within}
 use Rattle.case_tree.specs.CaseTree.{CaseTree, ClauseSet, Place, preorder, places, IsRightAt, Refutes, IsPartial, IsFirstWrong, leaf_count}
 use Rattle.case_tree.specs.Verdict.{IsVerdict}
@@ -19,7 +20,9 @@ use Rattle.cert_text.specs.declared.names.NodeName.{NodeName}
 use Rattle.cert_text.specs.declared.names.NodeName.TheVariants.{Split, Leaf, Open}
 use Rattle.cert_check.specs.Names.{Names}
 use Rattle.cert_check.specs.Nodes.{node_of, is_open}
+use Rattle.cert_text.specs.TreeNodes.{lines_of as placed_lines}
 use Rattle.cert_text.specs.declared.cert.TreeLines.{TreeLines}
+use Rattle.cert_text.specs.declared.tree_nodes.NodePlace.{NodePlace}
 use Rattle.cert_check.specs.Shown.{Asks, nodes_of}
 use Rattle.cert_check.specs.Verdict.{Line, End, Passes, NodesPass, BudgetLine, TreePasses}
 use Rattle.cert_check.specs.declared.verdict.CertVerdict.{CertVerdict}
@@ -276,3 +279,22 @@ module _ (set : ClauseSet) (names : Names) (lines : List NodeLine) where
           listed = wrong.listed;
           passes = first_fails set (Some budget) (spent_line (preorder wrong.tree)) at lines them d place.0 (wrong_within at wrong) pass place.1 (λ passes. place.2 passes.right);
         }
+
+-- ---- nodes by their places among the forms
+
+-- each form is looked up once
+pub numbered : (names : Names) (forms : List NodeName) (places : List NodePlace) → map (λ (place : NodePlace). get_or (map (λ (form : NodeName). node_of names form) forms) place.form Unclosed) places ≡ nodes_of names (placed_lines forms places)
+numbered names forms [] = refl
+numbered names forms (place ∷ places) =
+    let f = λ (form : NodeName). node_of names form in
+    ap (λ (node : Node). node ∷ map (λ (p : NodePlace). get_or (map f forms) p.form Unclosed) places) (get_or-map f forms place.form Open)
+    ∙ ap (λ (nodes : List Node). node_of names (get_or forms place.form Open) ∷ nodes) (numbered names forms places)
+
+-- the form of one more node
+pub one_more_form : (forms : List Node) (places : List NodePlace) (i : ℕ) (old new : List Node) (d e : Node) (first : NodePlace) → i < length places → (get_or places i first).form < length forms
+    → old ≡ map (λ (place : NodePlace). get_or forms place.form d) (take i places) → new ≡ old ++ get_or forms (get_or places i first).form e ∷ [] → new ≡ map (λ (place : NodePlace). get_or forms place.form d) (take (i + 1) places)
+one_more_form forms places i old new d e first more within before pushed =
+    let at = λ (place : NodePlace). get_or forms place.form d in
+    pushed ∙ ap (λ (nodes : List Node). nodes ++ get_or forms (get_or places i first).form e ∷ []) before
+    ∙ ap (λ (node : Node). map at (take i places) ++ node ∷ []) (get_or_default forms (get_or places i first).form e d within)
+    ∙ sym (map_more at places i first more)

@@ -1,5 +1,8 @@
 pub mod Shapes
 pub mod NodeLines
+pub mod NodePlaces
+pub mod SeenLines
+pub mod NodeTexts
 pub mod NodesAgain
 pub mod LinesAgain
 pub mod CertsAgain

@@ -4,9 +4,10 @@ ghost use Rattle.std.specs.Prelude.{◌≡◌};
 ghost use Rattle.cert_text.specs.Written.{IsWrittenCert};
 
 use crate::names::NodeName;
+use crate::tree_nodes::TreeNodes;
 use rule_model::CfdDecl;
 use std::marker::Model;
-use text_lists::{List, Text, Texts};
+use text_lists::{Text, Texts};
 
 /// Whether the rules of a table are consistent, or imply a dependency. It is a declaration without a name, of one attribute
 /// on the right and one tableau row.
@@ -39,7 +40,7 @@ pub struct NodeLine {
 pub struct TreeLines {
     pub line: usize,
     pub budget: Option<u64>,
-    pub nodes: List<NodeLine>,
+    pub nodes: TreeNodes,
 }
 
 #[derive(Debug, Drop)]

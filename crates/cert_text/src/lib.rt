@@ -10,6 +10,8 @@ mod nodes;
 mod parse;
 mod print;
 mod questions;
+mod seen;
+pub mod tree_nodes;
 mod variables;
 
 pub use cert::{Answer, Asked, Cert, CertParts, NodeLine, Question, TreeLines, TupleLine};
@@ -19,3 +21,4 @@ pub use parse::parse_cert;
 pub use print::{
     counter_text, push_cell, push_equality, push_texts, push_value, tree_head, witness_text,
 };
+pub use tree_nodes::{NodePlace, TreeNodes};

@@ -1,25 +1,28 @@
 //! A certificate file as a certificate.
 
-ghost use Rattle.std.specs.Prelude.{⊤, ◌≡◌, ◌+◌, ◌≤◌, length, IfOk, IfErr};
-ghost use Rattle.line_grammar.specs.Faults.{IsUnlessMemory, line_tells};
+ghost use Rattle.std.specs.Prelude.{◌≡◌, ◌+◌, ◌^◌, ◌<◌, ◌≤◌, ◌++◌, ◌∷◌, [], false, length, slice_index_or, Some, IfOk, IfErr, OnOk, MatchResult};
+ghost use Rattle.line_grammar.specs.Faults.{GivesUnlessMemory, IsUnlessMemory, line_tells};
+ghost use Rattle.line_grammar.specs.Groups.{read_lines};
 ghost use Rattle.line_grammar.specs.Lines.{lines};
 ghost use Rattle.cert_text.specs.CertLines.{answer_at, node_at};
-ghost use Rattle.cert_text.specs.CertFiles.{kind_of, read_whole, with_tuple, with_answer, with_line, whole, missing_behind, reads_cert};
+ghost use Rattle.cert_text.specs.CertFiles.{kind_of, read_whole, no_line, with_tuple, with_node, with_answer, with_line, whole, missing_behind, reads_cert};
+ghost use Rattle.cert_text.specs.NodeTexts.{AreSeen, has_nodes, with_lines, with_text};
 ghost use Rattle.cert_text.specs.Written.{IsQuestion, IsAnswerLine, IsNodeOf, IsTreeOf, IsDraft, IsWrittenCert, AreTexts};
 ghost use Rattle.line_grammar.specs.declared.fault.LineFault.TheVariants.{Memory};
-ghost use Rattle.cert_text.specs.declared.answers.Draft.TheVariants.{Nodes};
+ghost use Rattle.cert_text.specs.declared.answers.Draft.TheVariants.{Nodes, Nothing};
 ghost use Rattle.cert_text.specs.declared.answers.Draft.{Draft as AnyDraft};
+ghost use Rattle.cert_text.specs.declared.cert.NodeLine.{NodeLine as AnyLine};
 
 use crate::answers::{AnswerLine, Draft, Kind};
 use crate::cert::{Answer, Asked, Cert, CertParts, NodeLine, Question, TreeLines, TupleLine};
 use crate::fault::{CertCause, CertFault};
 use crate::names::NodeName;
 use crate::nodes::{OneTupleNode, TwoTuplesNode};
-use crate::questions::{ConsistencyAnswer, ImplicationAnswer, NoLine, QuestionLine, SecondTuple};
-use line_grammar::{Gather, Line, read_lines, split_line};
+use crate::questions::{ConsistencyAnswer, ImplicationAnswer, QuestionLine, SecondTuple};
+use crate::seen::Seen;
+use crate::tree_nodes::TreeNodes;
+use line_grammar::{Content, Line, content_of, split_line};
 use std::alloc::Global;
-use std::mem;
-use text_lists::List;
 
 /// Whether the question is about one tuple or about two.
 pub fn kind_of(question: &Question) -> Kind
@@ -63,7 +66,7 @@ fn with_answer(alloc: Global, asked: Asked, line: usize, answer: AnswerLine) -> 
         AnswerLine::Closed => None,
         AnswerLine::Spent(budget) => Some(budget),
     };
-    let nodes = List::new(alloc);
+    let nodes = TreeNodes::new(alloc);
     Draft::Nodes(
         asked,
         TreeLines {
@@ -103,40 +106,25 @@ fn missing_behind(node: &NodeName, missing: usize) -> Result<usize, CertFault>
     }
 }
 
-/// The certificate as far as it was read.
-#[derive(Drop)]
-struct Reader {
-    draft: Draft,
-}
-
-/// What was read, with a node where a subtree is missing.
-#[tactic(auto, unfolding(crate::specs::CertFiles::with_line))]
-fn with_node(
-    alloc: Global,
-    asked: Asked,
-    mut tree: TreeLines,
-    missing: usize,
-    line: Line<'_>,
-) -> Result<Draft, CertFault>
-    requires question { IsQuestion asked.question }
-    requires tree { IsTreeOf (kind_of asked.question) tree missing }
-    ensures exact { IsUnlessMemory line_tells (with_line (Nodes asked tree missing) line.entry) result }
-    ensures fit { IfOk result IsDraft }
+/// The fault of a line that may not stand there.
+fn no_line(line: &Line<'_>) -> CertFault
+    ensures { MatchResult (no_line {X = AnyDraft} line.now) (λ _. ⊥) (λ told. line_tells result ≡ Some told) }
 {
-    if missing == 0 {
-        return line.read::<NoLine, CertCause>(alloc);
+    let cause = match &line.content {
+        Content::NotUtf8 => CertCause::NotUtf8,
+        Content::BadTokens(_) | Content::Tokens(_) => CertCause::BadLine,
+    };
+    CertFault::At {
+        line: line.number,
+        cause,
     }
-    let number = line.number;
-    let node = read_node(alloc, kind_of(&asked.question), line)?;
-    let missing = missing_behind(&node, missing)?;
-    tree.nodes.push(NodeLine { line: number, node })?;
-    Ok(Draft::Nodes(asked, tree, missing))
 }
 
 /// What was read, with one more line.
 #[tactic(auto, unfolding(crate::specs::CertFiles::with_line))]
 fn with_line(alloc: Global, draft: Draft, line: Line<'_>) -> Result<Draft, CertFault>
-    requires { IsDraft draft }
+    requires draft { IsDraft draft }
+    requires head { has_nodes draft ≡ false }
     ensures exact { IsUnlessMemory line_tells (with_line draft line.entry) result }
     ensures fit { IfOk result IsDraft }
 {
@@ -164,31 +152,182 @@ fn with_line(alloc: Global, draft: Draft, line: Line<'_>) -> Result<Draft, CertF
                 answer: Answer::Counter(one, other),
             }))
         }
-        Draft::Nodes(asked, tree, missing) => with_node(alloc, asked, tree, missing, line),
-        Draft::Whole(_) => line.read::<NoLine, CertCause>(alloc),
+        Draft::Nodes(_, _, _) => unreachable!(),
+        Draft::Whole(_) => Err(no_line(&line)),
     }
 }
 
-impl<'a> Gather<Line<'a>> for Reader {
-    type Cause = CertCause;
-
-    ghost Gathered = { AnyDraft };
-
-    ghost Made = { ⊤ };
-
-    ghost gathered = { λ reader. reader.draft };
-
-    ghost made = { λ _. tt };
-
-    ghost with_item = { λ _. with_line };
-
-    ghost is_fit = { λ _. IsDraft };
-
-    fn add(&mut self, alloc: Global, line: Line<'a>) -> Result<(), CertFault> {
-        let draft = mem::replace(&mut self.draft, Draft::Nothing);
-        self.draft = with_line(alloc, draft, line)?;
-        Ok(())
+/// What was read, with a line of the file.
+fn with_text(alloc: Global, draft: Draft, number: usize, text: &[u8]) -> Result<Draft, CertFault>
+    requires draft { IsDraft draft }
+    requires head { has_nodes draft ≡ false }
+    ensures exact { IsUnlessMemory line_tells (with_text draft number text.now) result }
+    ensures fit { IfOk result IsDraft }
+{
+    match content_of(alloc, text) {
+        None => Ok(draft),
+        Some(content) => with_line(alloc, draft, Line { number, content }),
     }
+}
+
+// ---- nodes
+
+/// Adds a node that stands on that line as it does at that place.
+fn push_again(
+    tree: &mut TreeLines,
+    missing: usize,
+    number: usize,
+    place: usize,
+) -> Result<usize, CertFault>
+    requires some { 1 ≤ missing }
+    requires place { place < length tree.old.nodes }
+    ensures count { (d : AnyLine) → IfOk result (λ n. n ≡ missing_behind (slice_index_or tree.old.nodes place d).node missing) }
+    ensures tree { (d : AnyLine) → OnOk result (tree.new ≡ with_node tree.old number (slice_index_or tree.old.nodes place d).node) }
+    ensures memory { IfErr result (λ fault. fault ≡ Memory) }
+{
+    let missing = missing_behind(tree.nodes.node_at(place), missing)?;
+    tree.nodes.push_again(number, place)?;
+    Ok(missing)
+}
+
+/// Adds a node that was read from a line.
+fn push_new<'a>(
+    tree: &mut TreeLines,
+    missing: usize,
+    seen: &mut Seen<'a>,
+    number: usize,
+    text: &'a [u8],
+    node: NodeName,
+) -> Result<usize, CertFault>
+    requires some { 1 ≤ missing }
+    ensures count { IfOk result (λ n. n ≡ missing_behind node missing) }
+    ensures tree { OnOk result (tree.new ≡ with_node tree.old number node) }
+    ensures seen { OnOk result (seen.new ≡ seen.old ++ (text.now, length tree.old.nodes) ∷ []) }
+    ensures memory { IfErr result (λ fault. fault ≡ Memory) }
+{
+    let missing = missing_behind(&node, missing)?;
+    seen.remember(text, tree.nodes.len())?;
+    tree.nodes.push(NodeLine { line: number, node })?;
+    Ok(missing)
+}
+
+/// Takes a line that spells no node seen before, and gives how many subtrees are missing behind it.
+fn with_new_node<'a>(
+    alloc: Global,
+    asked: &Asked,
+    tree: &mut TreeLines,
+    missing: usize,
+    seen: &mut Seen<'a>,
+    number: usize,
+    text: &'a [u8],
+) -> Result<usize, CertFault>
+    requires tree { IsTreeOf (kind_of asked.now.question) tree.old missing }
+    requires seen { AreSeen (kind_of asked.now.question) tree.old.nodes seen.old }
+    ensures exact { GivesUnlessMemory line_tells (with_text (Nodes asked.now tree.old missing) number text.now) (λ n. Nodes asked.now tree.new n) result }
+    ensures tree { IfOk result (IsTreeOf (kind_of asked.now.question) tree.new) }
+    ensures seen { OnOk result (AreSeen (kind_of asked.now.question) tree.new.nodes seen.new) }
+{
+    let Some(content) = content_of(alloc, text) else {
+        return Ok(missing);
+    };
+    let line = Line { number, content };
+    if missing == 0 {
+        return Err(no_line(&line));
+    }
+    let node = read_node(alloc, kind_of(&asked.question), line)?;
+    push_new(tree, missing, seen, number, text, node)
+}
+
+/// Takes a line behind the first nodes, and gives how many subtrees are missing behind it.
+fn with_node<'a>(
+    alloc: Global,
+    asked: &Asked,
+    tree: &mut TreeLines,
+    missing: usize,
+    seen: &mut Seen<'a>,
+    number: usize,
+    text: &'a [u8],
+) -> Result<usize, CertFault>
+    requires tree { IsTreeOf (kind_of asked.now.question) tree.old missing }
+    requires seen { AreSeen (kind_of asked.now.question) tree.old.nodes seen.old }
+    ensures exact { GivesUnlessMemory line_tells (with_text (Nodes asked.now tree.old missing) number text.now) (λ n. Nodes asked.now tree.new n) result }
+    ensures tree { IfOk result (IsTreeOf (kind_of asked.now.question) tree.new) }
+    ensures seen { OnOk result (AreSeen (kind_of asked.now.question) tree.new.nodes seen.new) }
+{
+    if missing > 0 {
+        if let Some(place) = seen.find(text) {
+            return push_again(tree, missing, number, place);
+        }
+    }
+    with_new_node(alloc, asked, tree, missing, seen, number, text)
+}
+
+/// What was read, with the lines that are left, each of which is a node.
+fn with_nodes(
+    alloc: Global,
+    asked: Asked,
+    mut tree: TreeLines,
+    mut missing: usize,
+    mut before: usize,
+    bytes: &[u8],
+) -> Result<Draft, CertFault>
+    requires room { before + length bytes.now < 2 ^ 64 }
+    requires question { IsQuestion asked.question }
+    requires tree { IsTreeOf (kind_of asked.question) tree missing }
+    ensures exact { IsUnlessMemory line_tells (with_lines (Nodes asked tree missing) before bytes.now) result }
+    ensures fit { IfOk result IsDraft }
+{
+    let mut seen = Seen::new(alloc)?;
+    let mut rest = bytes;
+    while !rest.is_empty() {
+        let (text, behind) = split_line(rest);
+        before += 1;
+        rest = behind;
+        missing = with_node(alloc, &asked, &mut tree, missing, &mut seen, before, text)?;
+    }
+    Ok(Draft::Nodes(asked, tree, missing))
+}
+
+// ---- files
+
+fn has_nodes(draft: &Draft) -> bool
+    ensures { result ≡ has_nodes draft.now }
+{
+    matches!(draft, Draft::Nodes(_, _, _))
+}
+
+/// What was read, with the lines that are left, of which there are none but behind a tree.
+fn with_rest(alloc: Global, draft: Draft, before: usize, bytes: &[u8]) -> Result<Draft, CertFault>
+    requires room { before + length bytes.now < 2 ^ 64 }
+    requires draft { IsDraft draft }
+    requires rest { has_nodes draft ≡ false → length bytes.now ≡ 0 }
+    ensures exact { IsUnlessMemory line_tells (with_lines draft before bytes.now) result }
+    ensures fit { IfOk result IsDraft }
+{
+    match draft {
+        Draft::Nodes(asked, tree, missing) => with_nodes(
+            alloc, asked, tree, missing, before, bytes,
+        ),
+        other => Ok(other),
+    }
+}
+
+/// What the lines of a file say.
+#[tactic(auto, unfolding(line_grammar::specs::Groups::read_lines))]
+fn read_draft(alloc: Global, bytes: &[u8]) -> Result<Draft, CertFault>
+    ensures exact { IsUnlessMemory line_tells (read_lines with_line Nothing bytes.now) result }
+    ensures fit { IfOk result IsDraft }
+{
+    let mut draft = Draft::Nothing;
+    let mut before = 0usize;
+    let mut rest = bytes;
+    while !rest.is_empty() && !has_nodes(&draft) {
+        let (text, behind) = split_line(rest);
+        before += 1;
+        rest = behind;
+        draft = with_text(alloc, draft, before, text)?;
+    }
+    with_rest(alloc, draft, before, rest)
 }
 
 /// How many lines a file has, those that are passed over too.
@@ -233,10 +372,7 @@ fn whole(draft: Draft, bytes: &[u8]) -> Result<CertParts, CertFault>
 pub fn parse_cert(alloc: Global, bytes: &[u8]) -> Result<Cert, CertFault>
     ensures { IsUnlessMemory line_tells (reads_cert bytes.now) result }
 {
-    let mut reader = Reader {
-        draft: Draft::Nothing,
-    };
-    read_lines(alloc, &mut reader, bytes)?;
-    let parts = whole(reader.draft, bytes)?;
+    let draft = read_draft(alloc, bytes)?;
+    let parts = whole(draft, bytes)?;
     Ok(Cert::new(parts))
 }

@@ -1,13 +1,13 @@
 //! The question of a certificate, and the first lines of its answer.
 
-ghost use Rattle.std.specs.Prelude.{◌≡◌, IfOk, None};
+ghost use Rattle.std.specs.Prelude.{◌≡◌, IfOk};
 ghost use Rattle.line_grammar.specs.Phrases.{Reads, text_at};
 ghost use Rattle.line_grammar.specs.TokenLists.{list1_at};
 ghost use Rattle.cert_text.specs.CertLines.{question_for, question_at, values_word, closed_word, budget_at, answer_for, answer_at, and_at};
-ghost use Rattle.cert_text.specs.Written.{AreTexts, IsQuestion, IsAnswerLine, IsDraft};
+ghost use Rattle.cert_text.specs.Written.{AreTexts, IsQuestion, IsAnswerLine};
 ghost use Rattle.cert_text.specs.declared.answers.Kind.TheVariants.{Consistency, Implication};
 
-use crate::answers::{AnswerLine, Draft, Kind};
+use crate::answers::{AnswerLine, Kind};
 use crate::cert::Question;
 use line_grammar::{Phrase, Quoted, Tokens, Unread};
 use rule_parser::DepLine;
@@ -25,9 +25,6 @@ pub struct ImplicationAnswer;
 
 /// The second of two tuples.
 pub struct SecondTuple;
-
-/// Any further line, which may not stand there.
-pub struct NoLine;
 
 fn question_for(alloc: Global, word: &Text, tokens: &mut Tokens<'_>) -> Result<Question, Unread>
     ensures exact { Reads (question_for word.now) tokens.old tokens.new result }
@@ -157,17 +154,5 @@ impl Phrase for SecondTuple {
     fn take(alloc: Global, tokens: &mut Tokens<'_>) -> Result<Texts, Unread> {
         tokens.word("and")?;
         texts(alloc, tokens)
-    }
-}
-
-impl Phrase for NoLine {
-    type Value = Draft;
-
-    ghost reads = { λ _. None };
-
-    ghost is_fit = { IsDraft };
-
-    fn take(_alloc: Global, _tokens: &mut Tokens<'_>) -> Result<Draft, Unread> {
-        Err(Unread::Absent)
     }
 }

@@ -1,7 +1,6 @@
-use Rattle.std.proofs.Common.{ℕ, List, Option, None, Some, sym, subst}
+use Rattle.std.proofs.Common.{ℕ, List, Option, sym, subst}
 use Rattle.case_tree.specs.Verdict.{IsVerdict}
 use Rattle.case_tree.specs.declared.tree.Node.{Node}
-use Rattle.cert_text.specs.declared.cert.NodeLine.{NodeLine}
 use Rattle.cert_check.specs.Verdict.{TreePasses}
 use Rattle.cert_check.proofs.NodeLines.{asks_with, lines_of}
 use Rattle.cert_check.proofs.trees.check_tree.Goals as goal
@@ -18,8 +17,7 @@ returns-in-None c =
     let names = c.args.names.now in
     let lines = c.args.lines.now in
     let found = c.closed_verdict.ensures clauses names (subst (λ (nodes : List Node). IsVerdict clauses nodes c.in_ok-checked.checked) c.in_ok-tree.ensures c.in_ok-checked.ensures) in
-    let at_lines = subst (λ (nodes : List NodeLine). TreePasses (asks_with clauses names) (lines_of lines.line None nodes) c.closed_verdict.result) c.as_slice-nodes.ensures found in
-    subst (λ (budget : Option ℕ). TreePasses (asks_with clauses names) (lines_of lines.line budget lines.nodes) c.closed_verdict.result) (sym c.in-None.is) at_lines
+    subst (λ (budget : Option ℕ). TreePasses (asks_with clauses names) (lines_of lines.line budget lines.nodes) c.closed_verdict.result) (sym c.in-None.is) found
 
 pub returns : goal.returns
 returns c =
@@ -27,5 +25,4 @@ returns c =
     let names = c.args.names.now in
     let lines = c.args.lines.now in
     let found = c.spent_verdict.ensures clauses names (subst (λ (nodes : List Node). IsVerdict clauses nodes c.in_ok-checked.checked) c.in_ok-tree.ensures c.in_ok-checked.ensures) in
-    let at_lines = subst (λ (nodes : List NodeLine). TreePasses (asks_with clauses names) (lines_of lines.line (Some c.in-Some.budget) nodes) c.spent_verdict.result) c.as_slice-nodes.ensures found in
-    subst (λ (budget : Option ℕ). TreePasses (asks_with clauses names) (lines_of lines.line budget lines.nodes) c.spent_verdict.result) (sym c.in-Some.is) at_lines
+    subst (λ (budget : Option ℕ). TreePasses (asks_with clauses names) (lines_of lines.line budget lines.nodes) c.spent_verdict.result) (sym c.in-Some.is) found
