@@ -1,6 +1,6 @@
 //! The text of a tree: its nodes by names, one on a line.
 
-ghost use Rattle.std.specs.Prelude.{◌≡◌, ◌+◌, ◌<◌, ◌++◌, ◌∷◌, [], All, map, IfOk, IfSome, IsSome, OnOk};
+ghost use Rattle.std.specs.Prelude.{◌≡◌, ◌+◌, ◌<◌, ◌++◌, [], All, map, IfOk, IfSome, IsSome, OnOk};
 ghost use Rattle.std.specs.Option.{option_map_or};
 ghost use Rattle.schema_core.specs.Schemas.{IsValidSchema};
 ghost use Rattle.line_grammar.specs.Spelling.{file_text, line_text};
@@ -21,7 +21,7 @@ use std::alloc::{AllocError, Global};
 /// The greatest number that a clause can have in a certificate.
 const MOST_CLAUSES: usize = 999_999_999_999;
 
-/// Appends a clause by its number. One that is greater than a certificate can have is answered like want of memory.
+/// Appends a clause by its number. One greater than a certificate can have is answered like want of memory.
 fn push_clause(out: &mut Vec<u8>, at: usize) -> Result<(), AllocError>
     ensures text { OnOk result (out.new.items ≡ out.old.items ++ line_text (reason_parts (Clause (at + 1)))) }
     ensures few { OnOk result (at < MOST_CLAUSES) }

@@ -1,4 +1,4 @@
-use Rattle.std.proofs.Common.{◌≡◌, sym, subst}
+use Rattle.std.proofs.Common.{sym, subst}
 use Rattle.schema_core.specs.Schemas.{table_place}
 use Rattle.cli_output.specs.declared.status.Status.{Status}
 use Rattle.rule_forms.specs.ConsistentForm.{consistent_outputs}

@@ -1,4 +1,4 @@
-use Rattle.std.proofs.Common.{◌≡◌, sym, subst}
+use Rattle.std.proofs.Common.{sym, subst}
 use Rattle.cli_output.specs.declared.status.Status.{Status}
 use Rattle.rule_forms.specs.ImpliesForm.{implies_outputs}
 use Rattle.rule_forms.proofs.CertAnswers.{dep_told}

@@ -1,4 +1,4 @@
-use Rattle.std.proofs.Common.{ℕ, List, [], ◌∷◌, ◌++◌, length, ap, ◌∙◌}
+use Rattle.std.proofs.Common.{List, [], ◌∷◌, ◌++◌, length, ap, ◌∙◌}
 use Rattle.cert_text.specs.declared.cert.NodeLine.{NodeLine}
 use Rattle.cert_text.specs.declared.names.NodeName.{NodeName}
 use Rattle.cert_text.specs.declared.tree_nodes.NodePlace.{NodePlace}
