@@ -19,8 +19,8 @@ HasOneFree set clause =
 
 -- A model is an allowed assignment. A refuted tree refutes the clauses, within the budget of leaves. A spent tree is
 -- right as far as it goes, has as many leaves as the budget, and the budget is less than enough.
-abbrev pub IsAnswer : ClauseSet → ℕ → Found → Type 0
-IsAnswer set budget (Model values) =
+abbrev pub IsDecision : ClauseSet → ℕ → Found → Type 0
+IsDecision set budget (Model values) =
     (length values.items ≡ var_count set.cells) × IsAllowed set (λ v. slice_index_or values.items v false)
-IsAnswer set budget (Refuted tree) = Refutes set tree × (leaf_count tree ≤ budget)
-IsAnswer set budget (Spent tree) = IsPartial set tree × (leaf_count tree ≡ budget) × (budget < enough_of set.cells)
+IsDecision set budget (Refuted tree) = Refutes set tree × (leaf_count tree ≤ budget)
+IsDecision set budget (Spent tree) = IsPartial set tree × (leaf_count tree ≡ budget) × (budget < enough_of set.cells)

@@ -3,7 +3,7 @@ ghost use Rattle.std.specs.Prelude.{◌≡◌, ◌<◌, ◌≤◌, ◌++◌, Boo
 ghost use Rattle.std.specs.List.{All, range_with_len};
 ghost use Rattle.case_tree.specs.CaseTree.{IsOneTree, Refutes, leaf_count, var_count};
 ghost use Rattle.case_tree.specs.Walk.{next_path};
-ghost use Rattle.case_search.specs.Answer.{HasOneFree, IsAnswer};
+ghost use Rattle.case_search.specs.Answer.{HasOneFree, IsDecision};
 
 use crate::assignments::values;
 use crate::guards::guard_all;
@@ -33,7 +33,7 @@ pub fn decide(alloc: Global, clauses: &Clauses, budget: u64) -> Result<Found, Al
     requires one_free { All (HasOneFree clauses.now) clauses.now.clauses }
     requires some { 1 ≤ budget }
     requires within { budget ≤ 1000000 }
-    ensures { IfOk result (IsAnswer clauses.now budget) }
+    ensures { IfOk result (IsDecision clauses.now budget) }
 {
     if budget <= FIRST_LEAVES {
         return walk(alloc, clauses, Order::ByPlace, budget);
@@ -50,7 +50,7 @@ fn go_on(alloc: Global, clauses: &Clauses, budget: u64) -> Result<Found, AllocEr
     requires one_free { All (HasOneFree clauses.now) clauses.now.clauses }
     requires some { 1 ≤ budget }
     requires within { budget ≤ 1000000 }
-    ensures { IfOk result (IsAnswer clauses.now budget) }
+    ensures { IfOk result (IsDecision clauses.now budget) }
 {
     if let Some(values) = find_model(alloc, clauses, budget)? {
         return Ok(Found::Model(values));
@@ -86,7 +86,7 @@ fn walk(alloc: Global, clauses: &Clauses, order: Order, budget: u64) -> Result<F
     requires one_free { All (HasOneFree clauses.now) clauses.now.clauses }
     requires some { 1 ≤ budget }
     requires within { budget ≤ 1000000 }
-    ensures { IfOk result (IsAnswer clauses.now budget) }
+    ensures { IfOk result (IsDecision clauses.now budget) }
 {
     let mut guards = guard_all(alloc, clauses)?;
     let mut trail = Trail::new(alloc, clauses.vars())?;

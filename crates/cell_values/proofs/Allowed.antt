@@ -11,13 +11,13 @@ use Rattle.cell_values.specs.declared.values.CellValues.{CellValues}
 use Rattle.cell_values.specs.Standing.{Agrees}
 use Rattle.cell_values.proofs.Choices.{counts_once}
 use Rattle.cell_values.proofs.Meaning.{AreValues, IsCovered}
-use Rattle.cell_values.specs.declared.side.Side.{Side}
-use Rattle.cell_values.specs.declared.side.Side.TheVariants.{Only, First, Second}
-use Rattle.cell_values.specs.declared.side.TupleCount.{TupleCount}
-use Rattle.cell_values.specs.declared.side.TupleCount.TheVariants.{One, Two}
+use Rattle.cell_values.specs.declared.which.Which.{Which}
+use Rattle.cell_values.specs.declared.which.Which.TheVariants.{Only, First, Second}
+use Rattle.cell_values.specs.declared.which.TupleCount.{TupleCount}
+use Rattle.cell_values.specs.declared.which.TupleCount.TheVariants.{One, Two}
 use Rattle.cell_values.specs.Layout.{attr_cells, attr_var, value_cell, value_var, var_cells, var_width}
 use Rattle.cell_values.proofs.Truths.{text_of}
-use Rattle.cell_values.proofs.Order.{ArePair, IsSideOf, offset, Placed, placed_at, placed_by, RisesFrom, value_var_at}
+use Rattle.cell_values.proofs.Order.{ArePair, IsWhichOf, offset, Placed, placed_at, placed_by, RisesFrom, value_var_at}
 use Rattle.cell_values.proofs.Told.{Tells, tuple_at}
 
 -- ---- cells
@@ -40,7 +40,7 @@ value_cell_all P first c fact = cond_both (nat_eq (length c.values) 0) [] (whole
 
 -- what is so of each cell of an attribute
 abbrev pub HoldsAt : TupleCount → (VarCell → Type 0) → ℕ → CellValues → Type 0
-HoldsAt count P first c = (ArePair count → P (equal_cell first)) × ((side : Side) → IsSideOf count side → P (whole_cell (first + offset side c) c))
+HoldsAt count P first c = (ArePair count → P (equal_cell first)) × ((which : Which) → IsWhichOf count which → P (whole_cell (first + offset which c) c))
 
 attr_cells_all : (count : TupleCount) (P : VarCell → Type 0) (first : ℕ) (c : CellValues) → HoldsAt count P first c → All P (attr_cells count first c)
 attr_cells_all One P first c holds = let at : first + 0 ≡ first = omega arith in value_cell_all P first c (subst (λ n. P (whole_cell n c)) at (holds.1 Only tt))
@@ -59,7 +59,7 @@ value_cell_at P first c all some =
     let there : value_cell first c ≡ whole_cell first c ∷ [] = cond-false (nat_eq (length c.values) 0) [] (whole_cell first c ∷ []) (ne_eqb (length c.values) 0 (λ e. omega arith)) in
     All-head P (whole_cell first c) [] (subst (All P) there all)
 
-attr_cells_at : (count : TupleCount) (P : VarCell → Type 0) (first : ℕ) (c : CellValues) → All P (attr_cells count first c) → 0 < length c.values → (side : Side) → IsSideOf count side → P (whole_cell (first + offset side c) c)
+attr_cells_at : (count : TupleCount) (P : VarCell → Type 0) (first : ℕ) (c : CellValues) → All P (attr_cells count first c) → 0 < length c.values → (which : Which) → IsWhichOf count which → P (whole_cell (first + offset which c) c)
 attr_cells_at One P first c all some Only is = let at : first ≡ first + 0 = omega arith in subst (λ n. P (whole_cell n c)) at (value_cell_at P first c all some)
 attr_cells_at One P first c all some First is = absurd is
 attr_cells_at One P first c all some Second is = absurd is
@@ -73,7 +73,7 @@ attr_cells_at Two P first c all some Second is =
 
 module _ (count : TupleCount) (P : VarCell → Type 0) where
   abbrev HoldsThere : ℕ → CellValues → Type 0
-  HoldsThere first c = 0 < length c.values → (side : Side) → IsSideOf count side → P (whole_cell (first + offset side c) c)
+  HoldsThere first c = 0 < length c.values → (which : Which) → IsWhichOf count which → P (whole_cell (first + offset which c) c)
 
   var_cells_at : (first : ℕ) (cells : List CellValues) → All P (var_cells count first cells) → Placed count HoldsThere first cells
   var_cells_at first [] all = tt
@@ -83,10 +83,10 @@ module _ (count : TupleCount) (P : VarCell → Type 0) where
   )
 
   -- what is so of each cell is so of that of a tuple's values
-  pub cell_at : (low : ℕ) (cells : List CellValues) (c : CellValues) → RisesFrom low cells → Contains cells c → All P (var_cells count 0 cells) → 0 < length c.values → (side : Side) → IsSideOf count side → P (whole_cell (value_var side cells c.attr) c)
-  cell_at low cells c rises there all some side is =
-      let at : 0 + attr_var count cells c.attr + offset side c ≡ value_var side cells c.attr = omega (arith, value_var_at count side is low cells c rises there) in
-      subst (λ n. P (whole_cell n c)) at (placed_at count HoldsThere 0 low cells c rises (var_cells_at 0 cells all) there some side is)
+  pub cell_at : (low : ℕ) (cells : List CellValues) (c : CellValues) → RisesFrom low cells → Contains cells c → All P (var_cells count 0 cells) → 0 < length c.values → (which : Which) → IsWhichOf count which → P (whole_cell (value_var which cells c.attr) c)
+  cell_at low cells c rises there all some which is =
+      let at : 0 + attr_var count cells c.attr + offset which c ≡ value_var which cells c.attr = omega (arith, value_var_at count which is low cells c rises there) in
+      subst (λ n. P (whole_cell n c)) at (placed_at count HoldsThere 0 low cells c rises (var_cells_at 0 cells all) there some which is)
 
 -- ---- what two tuples give is allowed
 
@@ -123,7 +123,7 @@ none_demanded truth first demanded = absurd cc
 
 -- what is known of each attribute and of the texts of the tuples there
 abbrev pub Stands : TupleCount → List (List ℕ) → List (List ℕ) → CellValues → Type 0
-Stands count one other c = AreValues c × ((side : Side) → IsSideOf count side → IsCovered c (text_of (tuple_at one other side) c.attr))
+Stands count one other c = AreValues c × ((which : Which) → IsWhichOf count which → IsCovered c (text_of (tuple_at one other which) c.attr))
 
 module _ (count : TupleCount) (truth : ℕ → Bool) (one other : List (List ℕ)) (low : ℕ) (cells : List CellValues) (rises : RisesFrom low cells) (stands : (c : CellValues) → Contains cells c → Stands count one other c)
     (tells : Placed count (Tells one other count truth) 0 cells) where
@@ -133,11 +133,11 @@ module _ (count : TupleCount) (truth : ℕ → Bool) (one other : List (List ℕ
   pub has_one : All (HasOne truth) (var_cells count 0 cells)
   has_one = var_cells_all count (HasOne truth) 0 cells (placed_by count (HoldsAt count (HasOne truth)) 0 low cells rises (λ c there. (
     λ pair. one_of_one truth (0 + attr_var count cells c.attr),
-    λ side is. one_value truth (0 + attr_var count cells c.attr + offset side c) c (text_of (tuple_at one other side) c.attr) (stands c there).0 ((told_of c there).1 side is),
+    λ which is. one_value truth (0 + attr_var count cells c.attr + offset which c) c (text_of (tuple_at one other which) c.attr) (stands c there).0 ((told_of c there).1 which is),
   )))
 
   pub has_some : All (HasSome truth) (var_cells count 0 cells)
   has_some = var_cells_all count (HasSome truth) 0 cells (placed_by count (HoldsAt count (HasSome truth)) 0 low cells rises (λ c there. (
     λ pair. none_demanded truth (0 + attr_var count cells c.attr),
-    λ side is. some_value truth (0 + attr_var count cells c.attr + offset side c) c (text_of (tuple_at one other side) c.attr) ((stands c there).1 side is) ((told_of c there).1 side is),
+    λ which is. some_value truth (0 + attr_var count cells c.attr + offset which c) c (text_of (tuple_at one other which) c.attr) ((stands c there).1 which is) ((told_of c there).1 which is),
   )))

@@ -9,10 +9,10 @@ use Rattle.cfd_semantics.proofs.Members.{contains-here, contains-there}
 use Rattle.case_tree.specs.declared.clauses.VarCell.{VarCell}
 use Rattle.case_tree.specs.CaseTree.{FollowFrom, var_count}
 use Rattle.case_tree.proofs.Cells.{var_count-cons}
-use Rattle.cell_values.specs.declared.side.Side.{Side}
-use Rattle.cell_values.specs.declared.side.Side.TheVariants.{Only, First, Second}
-use Rattle.cell_values.specs.declared.side.TupleCount.{TupleCount}
-use Rattle.cell_values.specs.declared.side.TupleCount.TheVariants.{One, Two}
+use Rattle.cell_values.specs.declared.which.Which.{Which}
+use Rattle.cell_values.specs.declared.which.Which.TheVariants.{Only, First, Second}
+use Rattle.cell_values.specs.declared.which.TupleCount.{TupleCount}
+use Rattle.cell_values.specs.declared.which.TupleCount.TheVariants.{One, Two}
 use Rattle.cell_values.specs.declared.values.CellValues.{CellValues}
 use Rattle.cell_values.specs.Layout.{attr_cells, attr_var, count_of, value_cell, value_var, var_cells, var_total, var_width}
 use Rattle.cell_values.specs.Values.{AreFew}
@@ -132,7 +132,7 @@ module _ (count : TupleCount) where
     twice (c ∷ cs) = omega (arith, total_cons count c cs, width_most count c, sum_by-cons (λ (cell : CellValues). length cell.values + 1) c cs, twice cs)
 
 -- the variables of a tuple's values are within all
-pub value_within : (side : Side) (cells : List CellValues) (attr : ℕ) (found : CellValues) → find (λ (cell : CellValues). nat_eq cell.attr attr) cells ≡ Some found → value_var side cells attr + length found.values ≤ var_total (count_of side) cells
+pub value_within : (which : Which) (cells : List CellValues) (attr : ℕ) (found : CellValues) → find (λ (cell : CellValues). nat_eq cell.attr attr) cells ≡ Some found → value_var which cells attr + length found.values ≤ var_total (count_of which) cells
 value_within Only cells attr found e = found_within One cells attr found e
 value_within First cells attr found e = omega (arith, found_within Two cells attr found e)
 value_within Second cells attr found e = omega (arith, found_within Two cells attr found e, ap (λ (o : Option CellValues). length (option_map_or (λ (cell : CellValues). cell.values) o [])) e)

@@ -17,10 +17,10 @@ use Rattle.case_search.specs.Answer.{IsFree, HasOneFree}
 use Rattle.schema_core.specs.Lookups.{domain_at}
 use Rattle.schema_core.specs.Schemas.{IsValidAttr}
 use Rattle.schema_core.specs.declared.schema.Attr.{Attr}
-use Rattle.cell_values.specs.declared.side.Side.{Side}
-use Rattle.cell_values.specs.declared.side.Side.TheVariants.{Only, First, Second}
-use Rattle.cell_values.specs.declared.side.TupleCount.{TupleCount}
-use Rattle.cell_values.specs.declared.side.TupleCount.TheVariants.{One, Two}
+use Rattle.cell_values.specs.declared.which.Which.{Which}
+use Rattle.cell_values.specs.declared.which.Which.TheVariants.{Only, First, Second}
+use Rattle.cell_values.specs.declared.which.TupleCount.{TupleCount}
+use Rattle.cell_values.specs.declared.which.TupleCount.TheVariants.{One, Two}
 use Rattle.cell_values.specs.declared.values.CellValues.{CellValues}
 use Rattle.cell_values.specs.Layout.{attr_var, value_var, var_cells, var_total, var_width}
 use Rattle.cell_values.specs.Literals.{literals_where, matches_as, meets, misses}
@@ -33,7 +33,7 @@ use Rattle.cell_values.proofs.Choices.{same_place}
 use Rattle.cell_values.proofs.Meaning.{AreValues, IsKnownCell}
 use Rattle.cell_values.proofs.Occurs.{rises, occurring_has}
 use Rattle.cell_values.proofs.OneTuple.{IsCellHere, IsRuleOf, left_here, right_here}
-use Rattle.cell_values.proofs.Order.{ArePair, attr_var_here, attr_var_next, find_at, IsSideOf, offset, offset_within, placed_by, rises_above, RisesFrom, value_var_at, values_at}
+use Rattle.cell_values.proofs.Order.{ArePair, attr_var_here, attr_var_next, find_at, IsWhichOf, offset, offset_within, placed_by, rises_above, RisesFrom, value_var_at, values_at}
 use Rattle.cell_values.proofs.Lists.{all_flat_map}
 use Rattle.cell_values.proofs.Texts.{good_at}
 use Rattle.cell_values.proofs.ValueFacts.{known_if_there}
@@ -64,8 +64,8 @@ same_attr : (low : ℕ) (cells : List CellValues) (c d : CellValues) → RisesFr
 same_attr low cells c d rising c_there d_there same =
     some_same c d (sym (find_at low cells c rising c_there) ∙ ap (λ n. find (λ (x : CellValues). nat_eq x.attr n) cells) same ∙ find_at low cells d rising d_there)
 
-pair_offset : (count : TupleCount) (side : Side) (c : CellValues) → ArePair count → IsSideOf count side → 1 ≤ offset side c
-pair_offset One side c pair is = absurd pair
+pair_offset : (count : TupleCount) (which : Which) (c : CellValues) → ArePair count → IsWhichOf count which → 1 ≤ offset which c
+pair_offset One which c pair is = absurd pair
 pair_offset Two Only c pair is = absurd is
 pair_offset Two First c pair is = omega arith
 pair_offset Two Second c pair is = omega arith
@@ -103,8 +103,8 @@ module _ (count : TupleCount) (attrs : List Attr) (valid : AllByRecursion IsVali
   set = record { cells = var_cells count 0 (occurring attrs all_rules); clauses = clauses }
 
   -- a value's variable of a demanded cell lies in no other
-  not_free : (side : Side) → IsSideOf count side → (c : CellValues) → Contains cells c → (v : ℕ) → attr_var count cells c.attr + offset side c ≤ v → v < attr_var count cells c.attr + offset side c + length c.values → c.demanded ≡ true → IsFree set v → ⊥
-  not_free side is c there v from to demanded (j, x, j_in, j_is, (free, x_in)) =
+  not_free : (which : Which) → IsWhichOf count which → (c : CellValues) → Contains cells c → (v : ℕ) → attr_var count cells c.attr + offset which c ≤ v → v < attr_var count cells c.attr + offset which c + length c.values → c.demanded ≡ true → IsFree set v → ⊥
+  not_free which is c there v from to demanded (j, x, j_in, j_is, (free, x_in)) =
       all_at j x (var_cells_all count (λ (cell : VarCell). cell.demanded ≡ false → IsIn cell v → ⊥) 0 cells (placed_by count (HoldsAt count (λ (cell : VarCell). cell.demanded ≡ false → IsIn cell v → ⊥)) 0 0 cells (rises attrs all_rules) each)) j_in j_is free x_in where
         all_at : (k : ℕ) (y : VarCell) → All (λ (cell : VarCell). cell.demanded ≡ false → IsIn cell v → ⊥) (var_cells count 0 cells) → k < length (var_cells count 0 cells) → get_or (var_cells count 0 cells) k y ≡ y → y.demanded ≡ false → IsIn y v → ⊥
         all_at k y every k_in at = subst (λ (cell : VarCell). cell.demanded ≡ false → IsIn cell v → ⊥) at (every k y k_in)
@@ -115,11 +115,11 @@ module _ (count : TupleCount) (attrs : List Attr) (valid : AllByRecursion IsVali
               let one = same_attr 0 cells c d (rises attrs all_rules) there d_there same in
               let at : attr_var count cells c.attr ≡ attr_var count cells d.attr = ap (attr_var count cells) same in
               let wanted : d.demanded ≡ true = ap (λ (z : CellValues). z.demanded) (sym one) ∙ demanded in
-              (λ pair off within. let a = within.0 in let b = within.1 in let more = pair_offset count side c pair is in omega arith, λ other other_is off within. absurd (true≢false (sym wanted ∙ off))))
+              (λ pair off within. let a = within.0 in let b = within.1 in let more = pair_offset count which c pair is in omega arith, λ other other_is off within. absurd (true≢false (sym wanted ∙ off))))
           | inr other ↦ elim other [
             | inl less ↦ (
                 let later = apart count 0 cells c d (rises attrs all_rules) there d_there less in
-                let fits = offset_within count side c is in
+                let fits = offset_within count which c is in
                 (λ pair off within. let a = within.0 in omega arith, λ s s_is off within. let a = within.0 in omega arith))
             | inr more ↦ (
                 let before = apart count 0 cells d c (rises attrs all_rules) d_there there more in
@@ -173,30 +173,30 @@ module _ (count : TupleCount) (attrs : List Attr) (valid : AllByRecursion IsVali
   pub attr_below : (attr : ℕ) (here : Here attr) → attr_var count cells attr + var_width count here.cell ≤ var_total count cells
   attr_below attr here = omega (arith, ap (attr_var count cells) here.named, inside count 0 cells here.cell (rises attrs all_rules) here.there)
 
-  module _ (side : Side) (is : IsSideOf count side) where
-    starts : (attr : ℕ) (here : Here attr) → value_var side cells attr ≡ attr_var count cells here.cell.attr + offset side here.cell
-    starts attr here = ap (value_var side cells) (sym here.named) ∙ value_var_at count side is 0 cells here.cell (rises attrs all_rules) here.there
+  module _ (which : Which) (is : IsWhichOf count which) where
+    starts : (attr : ℕ) (here : Here attr) → value_var which cells attr ≡ attr_var count cells here.cell.attr + offset which here.cell
+    starts attr here = ap (value_var which cells) (sym here.named) ∙ value_var_at count which is 0 cells here.cell (rises attrs all_rules) here.there
 
-    pub value_below : (attr : ℕ) (here : Here attr) → value_var side cells attr + length here.cell.values ≤ var_total count cells
-    value_below attr here = omega (arith, starts attr here, offset_within count side here.cell is, inside count 0 cells here.cell (rises attrs all_rules) here.there)
+    pub value_below : (attr : ℕ) (here : Here attr) → value_var which cells attr + length here.cell.values ≤ var_total count cells
+    value_below attr here = omega (arith, starts attr here, offset_within count which here.cell is, inside count 0 cells here.cell (rises attrs all_rules) here.there)
 
     -- a variable of a value of a demanded cell isn't free
-    value_not_free : (attr : ℕ) (here : Here attr) (place : ℕ) → place < length here.cell.values → here.cell.demanded ≡ true → IsFree set (value_var side cells attr + place) → ⊥
+    value_not_free : (attr : ℕ) (here : Here attr) (place : ℕ) → place < length here.cell.values → here.cell.demanded ≡ true → IsFree set (value_var which cells attr + place) → ⊥
     value_not_free attr here place within demanded free =
         let at = starts attr here in
-        not_free side is here.cell here.there (value_var side cells attr + place) (omega arith) (omega arith) demanded free
+        not_free which is here.cell here.there (value_var which cells attr + place) (omega arith) (omega arith) demanded free
 
-    lits_fine : (Q : ℕ → Type 0) (test : List ℕ → Bool) (attr : ℕ) (here : Here attr) → here.cell.demanded ≡ true → All (Fine Q) (literals_where test true (value_var side cells attr) here.cell.values)
+    lits_fine : (Q : ℕ → Type 0) (test : List ℕ → Bool) (attr : ℕ) (here : Here attr) → here.cell.demanded ≡ true → All (Fine Q) (literals_where test true (value_var which cells attr) here.cell.values)
     lits_fine Q test attr here demanded =
         let most = value_below attr here in
-        lits_all (Fine Q) test true (value_var side cells attr) here.cell.values (λ place within passes. record { below = omega arith; free = λ positive free. absurd (value_not_free attr here place within demanded free) })
+        lits_all (Fine Q) test true (value_var which cells attr) here.cell.values (λ place within passes. record { below = omega arith; free = λ positive free. absurd (value_not_free attr here place within demanded free) })
 
-    lits_negative : (Q : ℕ → Type 0) (test : List ℕ → Bool) (attr : ℕ) (here : Here attr) → All (Fine Q) (literals_where test false (value_var side cells attr) here.cell.values)
+    lits_negative : (Q : ℕ → Type 0) (test : List ℕ → Bool) (attr : ℕ) (here : Here attr) → All (Fine Q) (literals_where test false (value_var which cells attr) here.cell.values)
     lits_negative Q test attr here =
         let most = value_below attr here in
-        lits_all (Fine Q) test false (value_var side cells attr) here.cell.values (λ place within passes. record { below = omega arith; free = λ positive free. absurd cc })
+        lits_all (Fine Q) test false (value_var which cells attr) here.cell.values (λ place within passes. record { below = omega arith; free = λ positive free. absurd cc })
 
-    misses_fine : (Q : ℕ → Type 0) (attr : ℕ) (p : Pattern (List ℕ)) (here : Here attr) → IsKnownCell here.cell p → All (Fine Q) (misses (value_var side cells attr) here.cell.values p)
+    misses_fine : (Q : ℕ → Type 0) (attr : ℕ) (p : Pattern (List ℕ)) (here : Here attr) → IsKnownCell here.cell p → All (Fine Q) (misses (value_var which cells attr) here.cell.values p)
     misses_fine Q attr patterns.Any here known = All-nil (Fine Q)
     misses_fine Q attr (patterns.Is constant) here known = lits_negative Q (bytes_eq constant) attr here
     misses_fine Q attr (patterns.In members) here known = lits_fine Q (matches_as false (patterns.In members)) attr here (known.covered refl)
@@ -204,27 +204,27 @@ module _ (count : TupleCount) (attrs : List Attr) (valid : AllByRecursion IsVali
 
     -- the variable of a value that is the constant
     abbrev IsOf : ℕ → List (List ℕ) → List ℕ → ℕ → Type 0
-    IsOf attr values constant v = (place : ℕ) × (place < length values) × (get_or values place [] ≡ constant) × (v ≡ value_var side cells attr + place)
+    IsOf attr values constant v = (place : ℕ) × (place < length values) × (get_or values place [] ≡ constant) × (v ≡ value_var which cells attr + place)
 
     is_of_once : (attr : ℕ) (here : Here attr) (constant : List ℕ) (v w : ℕ) → IsOf attr here.cell.values constant v → IsOf attr here.cell.values constant w → v ≡ w
     is_of_once attr here constant v w (p, p_in, p_is, p_var) (q, q_in, q_is, q_var) =
         let same = same_place here.cell here.good p q p_in q_in (p_is ∙ sym q_is) in
-        p_var ∙ ap (λ (k : ℕ). value_var side cells attr + k) same ∙ sym q_var
+        p_var ∙ ap (λ (k : ℕ). value_var which cells attr + k) same ∙ sym q_var
 
     -- what `meets` says, where the cell isn't `_`: with it a clause that is fine whatever Q stays good
-    meets_good : (attr : ℕ) (p : Pattern (List ℕ)) (here : Here attr) (front : List Literal) → IsKnownCell here.cell p → ¬ (p ≡ patterns.Any) → ((Q : ℕ → Type 0) → All (Fine Q) front) → Good (front ++ meets (value_var side cells attr) here.cell.values p)
+    meets_good : (attr : ℕ) (p : Pattern (List ℕ)) (here : Here attr) (front : List Literal) → IsKnownCell here.cell p → ¬ (p ≡ patterns.Any) → ((Q : ℕ → Type 0) → All (Fine Q) front) → Good (front ++ meets (value_var which cells attr) here.cell.values p)
     meets_good attr patterns.Any here front known some fine = absurd (some refl)
     meets_good attr (patterns.Is constant) here front known some fine =
         let Q : ℕ → Type 0 = IsOf attr here.cell.values constant in
         let most = value_below attr here in
-        let list = meets (value_var side cells attr) here.cell.values (patterns.Is constant) in
+        let list = meets (value_var which cells attr) here.cell.values (patterns.Is constant) in
         good_by Q (front ++ list) (is_of_once attr here constant)
-        (All-append (Fine Q) front list (fine Q) (lits_all (Fine Q) (matches_as true (patterns.Is constant)) true (value_var side cells attr) here.cell.values (λ place within passes. record { below = omega arith; free = λ positive free. (place, within, sym ((bytes_eq-Decides constant (get_or here.cell.values place [])).0 passes), refl) })))
+        (All-append (Fine Q) front list (fine Q) (lits_all (Fine Q) (matches_as true (patterns.Is constant)) true (value_var which cells attr) here.cell.values (λ place within passes. record { below = omega arith; free = λ positive free. (place, within, sym ((bytes_eq-Decides constant (get_or here.cell.values place [])).0 passes), refl) })))
     meets_good attr (patterns.In members) here front known some fine =
-        let list = meets (value_var side cells attr) here.cell.values (patterns.In members) in
+        let list = meets (value_var which cells attr) here.cell.values (patterns.In members) in
         good_by (λ v. ⊥) (front ++ list) (λ v w left right. absurd left) (All-append (Fine (λ v. ⊥)) front list (fine (λ v. ⊥)) (lits_fine (λ v. ⊥) (matches_as true (patterns.In members)) attr here (known.covered refl)))
     meets_good attr (patterns.NotIn members) here front known some fine =
-        let list = meets (value_var side cells attr) here.cell.values (patterns.NotIn members) in
+        let list = meets (value_var which cells attr) here.cell.values (patterns.NotIn members) in
         good_by (λ v. ⊥) (front ++ list) (λ v w left right. absurd left) (All-append (Fine (λ v. ⊥)) front list (fine (λ v. ⊥)) (lits_fine (λ v. ⊥) (matches_as true (patterns.NotIn members)) attr here (known.covered refl)))
 
   -- ---- the cells of a rule
@@ -239,19 +239,19 @@ module _ (count : TupleCount) (attrs : List Attr) (valid : AllByRecursion IsVali
     known = known_if_there all_rules at.0 (domain_at attrs at.0) at.1 stands.there stands.of_domain;
   }
 
-  module _ (side : Side) (is : IsSideOf count side) where
-    pub misses_known : (Q : ℕ → Type 0) (at : ℕ × Pattern (List ℕ)) → Known at → All (Fine Q) (misses_at cells side at)
-    misses_known Q at known = subst (λ vs. All (Fine Q) (misses (value_var side cells at.0) vs at.1)) (sym known.here.values) (misses_fine side is Q at.0 at.1 known.here known.known)
+  module _ (which : Which) (is : IsWhichOf count which) where
+    pub misses_known : (Q : ℕ → Type 0) (at : ℕ × Pattern (List ℕ)) → Known at → All (Fine Q) (misses_at cells which at)
+    misses_known Q at known = subst (λ vs. All (Fine Q) (misses (value_var which cells at.0) vs at.1)) (sym known.here.values) (misses_fine which is Q at.0 at.1 known.here known.known)
 
-    pub meets_known : (front : List Literal) (at : ℕ × Pattern (List ℕ)) → Known at → ¬ (at.1 ≡ patterns.Any) → ((Q : ℕ → Type 0) → All (Fine Q) front) → Good (front ++ meets_at cells side at)
-    meets_known front at known some fine = subst (λ vs. Good (front ++ meets (value_var side cells at.0) vs at.1)) (sym known.here.values) (meets_good side is at.0 at.1 known.here front known.known some fine)
+    pub meets_known : (front : List Literal) (at : ℕ × Pattern (List ℕ)) → Known at → ¬ (at.1 ≡ patterns.Any) → ((Q : ℕ → Type 0) → All (Fine Q) front) → Good (front ++ meets_at cells which at)
+    meets_known front at known some fine = subst (λ vs. Good (front ++ meets (value_var which cells at.0) vs at.1)) (sym known.here.values) (meets_good which is at.0 at.1 known.here front known.known some fine)
 
     module _ (rule : Rule) (row : TableauRow (List ℕ)) (is_rule : IsRuleOf attrs rule) (there : Contains all_rules rule) (row_there : Contains rule.rows row) where
-      pub left_fine : (Q : ℕ → Type 0) → All (Fine Q) (misses_left cells side rule row)
-      left_fine Q = all_flat_map (Fine Q) (misses_at cells side) (zip rule.x row.x) (λ at cell. misses_known Q at (known_at at (left_here attrs all_rules rule row is_rule there row_there at cell)))
+      pub left_fine : (Q : ℕ → Type 0) → All (Fine Q) (misses_left cells which rule row)
+      left_fine Q = all_flat_map (Fine Q) (misses_at cells which) (zip rule.x row.x) (λ at cell. misses_known Q at (known_at at (left_here attrs all_rules rule row is_rule there row_there at cell)))
 
-      pub alone_good : ¬ (row.a ≡ patterns.Any) → Good (alone cells side rule row)
-      alone_good some = meets_known (misses_left cells side rule row) (rule.a, row.a) (known_at (rule.a, row.a) (right_here attrs all_rules rule row is_rule there row_there)) some (λ Q. left_fine Q)
+      pub alone_good : ¬ (row.a ≡ patterns.Any) → Good (alone cells which rule row)
+      alone_good some = meets_known (misses_left cells which rule row) (rule.a, row.a) (known_at (rule.a, row.a) (right_here attrs all_rules rule row is_rule there row_there)) some (λ Q. left_fine Q)
 
   -- ---- all
 

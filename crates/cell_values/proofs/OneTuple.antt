@@ -14,7 +14,7 @@ use Rattle.schema_core.specs.Lookups.{domain_at}
 use Rattle.schema_core.specs.Schemas.{Admits, IsValidAttr, IsValidDomain}
 use Rattle.schema_core.specs.declared.schema.Attr.{Attr}
 use Rattle.rule_model.specs.Rules.{IsCellOf, IsValidRow}
-use Rattle.cell_values.specs.declared.side.Side.{Side}
+use Rattle.cell_values.specs.declared.which.Which.{Which}
 use Rattle.cell_values.specs.declared.values.CellValues.{CellValues}
 use Rattle.cell_values.specs.Layout.{value_var}
 use Rattle.cell_values.specs.Literals.{meets, misses}
@@ -131,44 +131,44 @@ module _ (attrs : List Attr) (all : List Rule) (rule : Rule) (row : TableauRow (
 
 -- what `meets` says, but of `_`, of which it says nothing
 module _ (truth : ℕ → Bool) (cells : List CellValues) where
-  abbrev pub MeetsCell : Side → List (List ℕ) → ℕ → Pattern (List ℕ) → Type 0
-  MeetsCell side tuple attr patterns.Any = Unit {0}
-  MeetsCell side tuple attr (patterns.Is constant) = Meets truth cells side tuple (attr, patterns.Is constant)
-  MeetsCell side tuple attr (patterns.In members) = Meets truth cells side tuple (attr, patterns.In members)
-  MeetsCell side tuple attr (patterns.NotIn members) = Meets truth cells side tuple (attr, patterns.NotIn members)
+  abbrev pub MeetsCell : Which → List (List ℕ) → ℕ → Pattern (List ℕ) → Type 0
+  MeetsCell which tuple attr patterns.Any = Unit {0}
+  MeetsCell which tuple attr (patterns.Is constant) = Meets truth cells which tuple (attr, patterns.Is constant)
+  MeetsCell which tuple attr (patterns.In members) = Meets truth cells which tuple (attr, patterns.In members)
+  MeetsCell which tuple attr (patterns.NotIn members) = Meets truth cells which tuple (attr, patterns.NotIn members)
 
-module _ (attrs : List Attr) (valid : AllByRecursion IsValidAttr attrs) (all : List Rule) (tuple : List (List ℕ)) (typed : IsTupleOf attrs tuple) (truth : ℕ → Bool) (side : Side)
-    (agrees : (attr : ℕ) → attr < length attrs → occurs all attr ≡ true → Agrees truth (value_var side (occurring attrs all) attr) (cell_values all attr (domain_at attrs attr)) (text_of tuple attr)) where
+module _ (attrs : List Attr) (valid : AllByRecursion IsValidAttr attrs) (all : List Rule) (tuple : List (List ℕ)) (typed : IsTupleOf attrs tuple) (truth : ℕ → Bool) (which : Which)
+    (agrees : (attr : ℕ) → attr < length attrs → occurs all attr ≡ true → Agrees truth (value_var which (occurring attrs all) attr) (cell_values all attr (domain_at attrs attr)) (text_of tuple attr)) where
   values_are : (attr : ℕ) → attr < length attrs → occurs all attr ≡ true → values_for (occurring attrs all) attr ≡ (cell_values all attr (domain_at attrs attr)).values
   values_are attr within there = values_at 0 (occurring attrs all) (cell_values all attr (domain_at attrs attr)) (rises attrs all) (occurring_has attrs all attr within there)
 
-  pub misses_said : (at : ℕ × Pattern (List ℕ)) → IsCellHere attrs all at → Misses truth (occurring attrs all) side tuple at
+  pub misses_said : (at : ℕ × Pattern (List ℕ)) → IsCellHere attrs all at → Misses truth (occurring attrs all) which tuple at
   misses_said at here =
       let c = cell_values all at.0 (domain_at attrs at.0) in
       let domain = valid_domain_at attrs at.0 valid in
-      ap (λ vs. clause_true truth (misses (value_var side (occurring attrs all) at.0) vs at.1)) (values_are at.0 here.within here.occurs)
-      ∙ misses_is truth (value_var side (occurring attrs all) at.0) c (text_of tuple at.0) (values_good all at.0 (domain_at attrs at.0) domain)
+      ap (λ vs. clause_true truth (misses (value_var which (occurring attrs all) at.0) vs at.1)) (values_are at.0 here.within here.occurs)
+      ∙ misses_is truth (value_var which (occurring attrs all) at.0) c (text_of tuple at.0) (values_good all at.0 (domain_at attrs at.0) domain)
       (covered_if_admitted all at.0 (domain_at attrs at.0) (text_of tuple at.0) domain (admitted_at attrs tuple at.0 typed here.within))
       (agrees at.0 here.within here.occurs) at.1 (known_if_there all at.0 (domain_at attrs at.0) at.1 here.there here.of_domain)
 
-  meets_said : (at : ℕ × Pattern (List ℕ)) → IsCellHere attrs all at → ¬ (at.1 ≡ patterns.Any) → Meets truth (occurring attrs all) side tuple at
+  meets_said : (at : ℕ × Pattern (List ℕ)) → IsCellHere attrs all at → ¬ (at.1 ≡ patterns.Any) → Meets truth (occurring attrs all) which tuple at
   meets_said at here some =
       let c = cell_values all at.0 (domain_at attrs at.0) in
       let domain = valid_domain_at attrs at.0 valid in
-      ap (λ vs. clause_true truth (meets (value_var side (occurring attrs all) at.0) vs at.1)) (values_are at.0 here.within here.occurs)
-      ∙ meets_is truth (value_var side (occurring attrs all) at.0) c (text_of tuple at.0) (values_good all at.0 (domain_at attrs at.0) domain)
+      ap (λ vs. clause_true truth (meets (value_var which (occurring attrs all) at.0) vs at.1)) (values_are at.0 here.within here.occurs)
+      ∙ meets_is truth (value_var which (occurring attrs all) at.0) c (text_of tuple at.0) (values_good all at.0 (domain_at attrs at.0) domain)
       (covered_if_admitted all at.0 (domain_at attrs at.0) (text_of tuple at.0) domain (admitted_at attrs tuple at.0 typed here.within))
       (agrees at.0 here.within here.occurs) at.1 (known_if_there all at.0 (domain_at attrs at.0) at.1 here.there here.of_domain) some
 
-  pub cell_said : (attr : ℕ) (p : Pattern (List ℕ)) → IsCellHere attrs all (attr, p) → MeetsCell truth (occurring attrs all) side tuple attr p
+  pub cell_said : (attr : ℕ) (p : Pattern (List ℕ)) → IsCellHere attrs all (attr, p) → MeetsCell truth (occurring attrs all) which tuple attr p
   cell_said attr patterns.Any here = tt
   cell_said attr (patterns.Is constant) here = meets_said (attr, patterns.Is constant) here (λ e. absurd cc)
   cell_said attr (patterns.In members) here = meets_said (attr, patterns.In members) here (λ e. absurd cc)
   cell_said attr (patterns.NotIn members) here = meets_said (attr, patterns.NotIn members) here (λ e. absurd cc)
 
   module _ (rule : Rule) (row : TableauRow (List ℕ)) (is : IsRuleOf attrs rule) (there : Contains all rule) (row_there : Contains rule.rows row) where
-    pub left_said : AllByRecursion (Misses truth (occurring attrs all) side tuple) (zip rule.x row.x)
-    left_said = zipped (Misses truth (occurring attrs all) side tuple) rule.x row.x (λ at cell. misses_said at (left_here attrs all rule row is there row_there at cell))
+    pub left_said : AllByRecursion (Misses truth (occurring attrs all) which tuple) (zip rule.x row.x)
+    left_said = zipped (Misses truth (occurring attrs all) which tuple) rule.x row.x (λ at cell. misses_said at (left_here attrs all rule row is there row_there at cell))
 
-    pub right_said : MeetsCell truth (occurring attrs all) side tuple rule.a row.a
+    pub right_said : MeetsCell truth (occurring attrs all) which tuple rule.a row.a
     right_said = cell_said rule.a row.a (right_here attrs all rule row is there row_there)

@@ -6,10 +6,10 @@ use Rattle.std.specs.Option.{option_map_or}
 use Rattle.std.proofs.lemmas.Bool.{cond-true, cond-false, lt-ltb, le-ltb, eq-eqb, ne_eqb}
 use Rattle.std.proofs.lemmas.List.Sums.{sum_by-cons}
 use Rattle.cfd_semantics.proofs.Members.{contains_cases, contains_nothing, contains-here, contains-there}
-use Rattle.cell_values.specs.declared.side.Side.{Side}
-use Rattle.cell_values.specs.declared.side.Side.TheVariants.{Only, First, Second}
-use Rattle.cell_values.specs.declared.side.TupleCount.{TupleCount}
-use Rattle.cell_values.specs.declared.side.TupleCount.TheVariants.{One, Two}
+use Rattle.cell_values.specs.declared.which.Which.{Which}
+use Rattle.cell_values.specs.declared.which.Which.TheVariants.{Only, First, Second}
+use Rattle.cell_values.specs.declared.which.TupleCount.{TupleCount}
+use Rattle.cell_values.specs.declared.which.TupleCount.TheVariants.{One, Two}
 use Rattle.cell_values.specs.declared.values.CellValues.{CellValues}
 use Rattle.cell_values.specs.Values.{attrs_before, values_before, values_for}
 use Rattle.cell_values.specs.Layout.{attr_var, value_var, var_width}
@@ -92,25 +92,25 @@ values_at low cells c rises there = ap (λ (o : Option CellValues). option_map_o
 -- ---- the variables of a tuple among those of an attribute
 
 -- the tuple is one of so many
-abbrev pub IsSideOf : TupleCount → Side → Type 0
-IsSideOf One Only = Unit {0}
-IsSideOf One First = ⊥
-IsSideOf One Second = ⊥
-IsSideOf Two Only = ⊥
-IsSideOf Two First = Unit {0}
-IsSideOf Two Second = Unit {0}
+abbrev pub IsWhichOf : TupleCount → Which → Type 0
+IsWhichOf One Only = Unit {0}
+IsWhichOf One First = ⊥
+IsWhichOf One Second = ⊥
+IsWhichOf Two Only = ⊥
+IsWhichOf Two First = Unit {0}
+IsWhichOf Two Second = Unit {0}
 
 abbrev pub ArePair : TupleCount → Type 0
 ArePair One = ⊥
 ArePair Two = Unit {0}
 
 -- where the variables of its values begin
-abbrev pub offset : Side → CellValues → ℕ
+abbrev pub offset : Which → CellValues → ℕ
 offset Only cell = 0
 offset First cell = 1
 offset Second cell = 1 + length cell.values
 
-pub value_var_at : (count : TupleCount) (side : Side) → IsSideOf count side → (low : ℕ) (cells : List CellValues) (c : CellValues) → RisesFrom low cells → Contains cells c → value_var side cells c.attr ≡ attr_var count cells c.attr + offset side c
+pub value_var_at : (count : TupleCount) (which : Which) → IsWhichOf count which → (low : ℕ) (cells : List CellValues) (c : CellValues) → RisesFrom low cells → Contains cells c → value_var which cells c.attr ≡ attr_var count cells c.attr + offset which c
 value_var_at One Only is low cells c rises there = omega arith
 value_var_at One First is low cells c rises there = absurd is
 value_var_at One Second is low cells c rises there = absurd is
@@ -119,7 +119,7 @@ value_var_at Two First is low cells c rises there = refl
 value_var_at Two Second is low cells c rises there = omega (arith, ap (λ (vs : List (List ℕ)). length vs) (values_at low cells c rises there))
 
 -- and within
-pub offset_within : (count : TupleCount) (side : Side) (c : CellValues) → IsSideOf count side → offset side c + length c.values ≤ var_width count c
+pub offset_within : (count : TupleCount) (which : Which) (c : CellValues) → IsWhichOf count which → offset which c + length c.values ≤ var_width count c
 offset_within One Only c is = omega arith
 offset_within One First c is = absurd is
 offset_within One Second c is = absurd is

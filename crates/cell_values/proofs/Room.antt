@@ -7,7 +7,7 @@ use Rattle.std.proofs.lemmas.List.Sums.{sum_by-cons}
 use Rattle.cell_values.specs.declared.values.CellValues.{CellValues}
 use Rattle.cell_values.specs.Values.{AreFew, values_for, attrs_before, values_before}
 use Rattle.cell_values.specs.Layout.{equal_var}
-use Rattle.cell_values.specs.declared.side.TupleCount.TheVariants.{Two}
+use Rattle.cell_values.specs.declared.which.TupleCount.TheVariants.{Two}
 use Rattle.cell_values.proofs.Counting.{size}
 use Rattle.cell_values.proofs.Order.{attr_var-cons}
 

@@ -20,9 +20,9 @@ use Rattle.schema_core.specs.declared.schema.Domain.{Domain}
 use Rattle.schema_core.specs.declared.schema.Domain.TheVariants.{AnyText, Finite}
 use Rattle.rule_model.specs.Declarations.{constants_of}
 use Rattle.rule_model.specs.Rules.{IsCellOf, IsValidRow}
-use Rattle.cell_values.specs.declared.side.Side.{Side}
-use Rattle.cell_values.specs.declared.side.Side.TheVariants.{Only, First, Second}
-use Rattle.cell_values.specs.declared.side.TupleCount.{TupleCount}
+use Rattle.cell_values.specs.declared.which.Which.{Which}
+use Rattle.cell_values.specs.declared.which.Which.TheVariants.{Only, First, Second}
+use Rattle.cell_values.specs.declared.which.TupleCount.{TupleCount}
 use Rattle.cell_values.specs.declared.values.CellValues.{CellValues}
 use Rattle.cell_values.specs.Fresh.{fresh_past, longest}
 use Rattle.cell_values.specs.Layout.{equal_var, value_var, var_cells}
@@ -39,7 +39,7 @@ use Rattle.cell_values.proofs.Lists.{all_flat_map, all_map, find_first, find_non
 use Rattle.cell_values.proofs.Meaning.{AreValues, IsCovered}
 use Rattle.cell_values.proofs.Occurs.{rises, occurring_from}
 use Rattle.cell_values.proofs.OneTuple.{admitted_at, IsRuleOf, valid_domain_at, zip_cell}
-use Rattle.cell_values.proofs.Order.{find_at, IsSideOf}
+use Rattle.cell_values.proofs.Order.{find_at, IsWhichOf}
 use Rattle.cell_values.proofs.Truths.{text_of}
 use Rattle.cell_values.proofs.ValueFacts.{covered_if_admitted, with_text_cases, values_good}
 
@@ -190,8 +190,8 @@ module _ (attrs : List Attr) (valid : AllByRecursion IsValidAttr attrs) (all_rul
     abbrev found_in : ℕ → Option CellValues
     found_in attr = find (λ (x : CellValues). nat_eq x.attr attr) cells
 
-    text_is : (side : Side) (attr : ℕ) → attr < length attrs → text_of (tuple_of side attrs cells truth) attr ≡ attr_text side cells truth attr (domain_at attrs attr) (found_in attr)
-    text_is side attr within = get_or-map-range_with_len (λ n. attr_text side cells truth n (domain_at attrs n) (found_in n)) 0 (length attrs) attr attr [] within (omega arith)
+    text_is : (which : Which) (attr : ℕ) → attr < length attrs → text_of (tuple_of which attrs cells truth) attr ≡ attr_text which cells truth attr (domain_at attrs attr) (found_in attr)
+    text_is which attr within = get_or-map-range_with_len (λ n. attr_text which cells truth n (domain_at attrs n) (found_in n)) 0 (length attrs) attr attr [] within (omega arith)
 
     attr_within : (c : CellValues) → Contains cells c → c.attr < length attrs
     attr_within c there =
@@ -200,10 +200,10 @@ module _ (attrs : List Attr) (valid : AllByRecursion IsValidAttr attrs) (all_rul
         let within = from.within in
         omega arith
 
-    pub value_is : (side : Side) (c : CellValues) → Contains cells c → text_of (tuple_of side attrs cells truth) c.attr ≡ value_text side cells truth c.attr c
-    value_is side c there = text_is side c.attr (attr_within c there) ∙ ap (attr_text side cells truth c.attr (domain_at attrs c.attr)) (find_at 0 cells c (rises attrs all_rules) there)
+    pub value_is : (which : Which) (c : CellValues) → Contains cells c → text_of (tuple_of which attrs cells truth) c.attr ≡ value_text which cells truth c.attr c
+    value_is which c there = text_is which c.attr (attr_within c there) ∙ ap (attr_text which cells truth c.attr (domain_at attrs c.attr)) (find_at 0 cells c (rises attrs all_rules) there)
 
-    new_for_absent : (side : Side) (c : CellValues) → AreValues c → ¬ Contains (take c.constants c.values) (new_for side cells truth c.attr c)
+    new_for_absent : (which : Which) (c : CellValues) → AreValues c → ¬ Contains (take c.constants c.values) (new_for which cells truth c.attr c)
     new_for_absent Only c good = new_absent c good
     new_for_absent First c good = new_absent c good
     new_for_absent Second c good = second_absent c good (truth (equal_var cells c.attr)) (constant_of truth (value_var First cells c.attr) c)
@@ -227,23 +227,23 @@ module _ (attrs : List Attr) (valid : AllByRecursion IsValidAttr attrs) (all_rul
     -- ---- domains
 
     module _ (count : TupleCount) (clauses : List (List Literal)) (allowed : IsAllowed (record { cells = var_cells count 0 (occurring attrs all_rules); clauses = clauses }) truth) where
-      pub one_at : (side : Side) → IsSideOf count side → (c : CellValues) → Contains cells c → HasOne truth (whole_cell (value_var side cells c.attr) c)
-      one_at side is c there v w v_in w_in v_true w_true =
+      pub one_at : (which : Which) → IsWhichOf count which → (c : CellValues) → Contains cells c → HasOne truth (whole_cell (value_var which cells c.attr) c)
+      one_at which is c there v w v_in w_in v_true w_true =
           let from = v_in.0 in
           let to = v_in.1 in
-          cell_at count (HasOne truth) 0 cells c (rises attrs all_rules) there allowed.at_most_one (omega arith) side is v w v_in w_in v_true w_true
+          cell_at count (HasOne truth) 0 cells c (rises attrs all_rules) there allowed.at_most_one (omega arith) which is v w v_in w_in v_true w_true
 
-      pub some_at : (side : Side) → IsSideOf count side → (c : CellValues) → Contains cells c → HasSome truth (whole_cell (value_var side cells c.attr) c)
-      some_at side is c there demanded = cell_at count (HasSome truth) 0 cells c (rises attrs all_rules) there allowed.one_demanded ((good_at c there).some demanded) side is demanded
+      pub some_at : (which : Which) → IsWhichOf count which → (c : CellValues) → Contains cells c → HasSome truth (whole_cell (value_var which cells c.attr) c)
+      some_at which is c there demanded = cell_at count (HasSome truth) 0 cells c (rises attrs all_rules) there allowed.one_demanded ((good_at c there).some demanded) which is demanded
 
       -- the variables say what the text is
-      pub agrees_read : (side : Side) → IsSideOf count side → (c : CellValues) → Contains cells c → Agrees truth (value_var side cells c.attr) c (text_of (tuple_of side attrs cells truth) c.attr)
-      agrees_read side is c there =
-          let first = value_var side cells c.attr in
+      pub agrees_read : (which : Which) → IsWhichOf count which → (c : CellValues) → Contains cells c → Agrees truth (value_var which cells c.attr) c (text_of (tuple_of which attrs cells truth) c.attr)
+      agrees_read which is c there =
+          let first = value_var which cells c.attr in
           let place = constant_of truth first c in
           let good = good_at c there in
-          subst (Agrees truth first c) (sym (value_is side c there))
-          (text_agrees truth c good first place (value_text side cells truth c.attr c) (one_at side is c there) (some_at side is c there) (chosen_is truth first c) (is_text c (new_for side cells truth c.attr c) place (new_for_absent side c good)))
+          subst (Agrees truth first c) (sym (value_is which c there))
+          (text_agrees truth c good first place (value_text which cells truth c.attr c) (one_at which is c there) (some_at which is c there) (chosen_is truth first c) (is_text c (new_for which cells truth c.attr c) place (new_for_absent which c good)))
 
       finite_text : (values : List (List ℕ)) (attr first : ℕ) (new : List ℕ) (place : Option ℕ) → IsChosen truth first (cell_values all_rules attr (Finite values)) place → HasSome truth (whole_cell first (cell_values all_rules attr (Finite values))) → Contains values (text_for (cell_values all_rules attr (Finite values)) new place)
       finite_text values attr first new (Some place) is some = Contains-get_or values place [] is.0
@@ -255,30 +255,30 @@ module _ (attrs : List Attr) (valid : AllByRecursion IsValidAttr attrs) (all_rul
           let v_is : v ≡ first + k = omega arith in
           absurd (false≢true (sym (is k (omega arith)) ∙ ap truth (sym v_is) ∙ v_true))
 
-      value_admitted : (side : Side) → IsSideOf count side → (attr : ℕ) (domain : Domain) → domain_at attrs attr ≡ domain → (c : CellValues) → Contains cells c → c.attr ≡ attr → cell_values all_rules attr (domain_at attrs attr) ≡ c → Admits domain (value_text side cells truth attr c)
-      value_admitted side is_side attr AnyText domain_is c there named is = tt
-      value_admitted side is_side attr (Finite values) domain_is c there named is =
+      value_admitted : (which : Which) → IsWhichOf count which → (attr : ℕ) (domain : Domain) → domain_at attrs attr ≡ domain → (c : CellValues) → Contains cells c → c.attr ≡ attr → cell_values all_rules attr (domain_at attrs attr) ≡ c → Admits domain (value_text which cells truth attr c)
+      value_admitted which is_which attr AnyText domain_is c there named is = tt
+      value_admitted which is_which attr (Finite values) domain_is c there named is =
           let own : cell_values all_rules attr (Finite values) ≡ c = ap (cell_values all_rules attr) (sym domain_is) ∙ is in
-          let first = value_var side cells attr in
+          let first = value_var which cells attr in
           let place = constant_of truth first c in
-          let new = new_for side cells truth attr c in
-          let some = subst (λ n. HasSome truth (whole_cell (value_var side cells n) c)) named (some_at side is_side c there) in
+          let new = new_for which cells truth attr c in
+          let some = subst (λ n. HasSome truth (whole_cell (value_var which cells n) c)) named (some_at which is_which c there) in
           subst (λ (x : CellValues). IsChosen truth first x place → HasSome truth (whole_cell first x) → Contains values (text_for x new place)) own (finite_text values attr first new place) (chosen_is truth first c) some
 
       plain_admitted : (domain : Domain) → IsValidDomain domain → Admits domain (plain_text domain)
       plain_admitted AnyText good = tt
       plain_admitted (Finite values) good = let some = good.some in Contains-get_or values 0 [] (omega arith)
 
-      text_admitted : (side : Side) → IsSideOf count side → (attr : ℕ) (found : Option CellValues) → found_in attr ≡ found → Admits (domain_at attrs attr) (attr_text side cells truth attr (domain_at attrs attr) found)
-      text_admitted side is_side attr None is = plain_admitted (domain_at attrs attr) (valid_domain_at attrs attr valid)
-      text_admitted side is_side attr (Some c) is =
+      text_admitted : (which : Which) → IsWhichOf count which → (attr : ℕ) (found : Option CellValues) → found_in attr ≡ found → Admits (domain_at attrs attr) (attr_text which cells truth attr (domain_at attrs attr) found)
+      text_admitted which is_which attr None is = plain_admitted (domain_at attrs attr) (valid_domain_at attrs attr valid)
+      text_admitted which is_which attr (Some c) is =
           let (named, there) = found_attr cells attr c is in
           let from = occurring_from attrs all_rules c there in
           let attr_is : from.attr ≡ attr = ap (λ (x : CellValues). x.attr) from.is ∙ named in
-          value_admitted side is_side attr (domain_at attrs attr) refl c there named (subst (λ n. cell_values all_rules n (domain_at attrs n) ≡ c) attr_is from.is)
+          value_admitted which is_which attr (domain_at attrs attr) refl c there named (subst (λ n. cell_values all_rules n (domain_at attrs n) ≡ c) attr_is from.is)
 
-      pub is_tuple : (side : Side) → IsSideOf count side → IsTupleOf attrs (tuple_of side attrs cells truth)
-      is_tuple side is = tuple_by attrs (λ n. attr_text side cells truth n (domain_at attrs n) (found_in n)) 0 (λ k within. let same : k ≡ 0 + k = omega arith in subst (λ n. Admits (domain_at attrs k) (attr_text side cells truth n (domain_at attrs n) (found_in n))) same (text_admitted side is k (found_in k) refl))
+      pub is_tuple : (which : Which) → IsWhichOf count which → IsTupleOf attrs (tuple_of which attrs cells truth)
+      is_tuple which is = tuple_by attrs (λ n. attr_text which cells truth n (domain_at attrs n) (found_in n)) 0 (λ k within. let same : k ≡ 0 + k = omega arith in subst (λ n. Admits (domain_at attrs k) (attr_text which cells truth n (domain_at attrs n) (found_in n))) same (text_admitted which is k (found_in k) refl))
 
     -- ---- short texts
 
@@ -305,19 +305,19 @@ module _ (attrs : List Attr) (valid : AllByRecursion IsValidAttr attrs) (all_rul
           row_short attr rule row (All-contains (IsValidRow attrs rule.x rule.a) rule.rows row (each_rule rule rule_there).rows row_there)))) there))
       constants_short attr (Finite values) good = λ k d within. (good.constants k d within).bound
 
-      new_for_short : (side : Side) (attr : ℕ) (c : CellValues) → Short 1025 c.values → length (new_for side cells truth attr c) ≤ 2052
+      new_for_short : (which : Which) (attr : ℕ) (c : CellValues) → Short 1025 c.values → length (new_for which cells truth attr c) ≤ 2052
       new_for_short Only attr c short = let bound = new_short c short in omega arith
       new_for_short First attr c short = let bound = new_short c short in omega arith
       new_for_short Second attr c short = second_short c (truth (equal_var cells attr)) (constant_of truth (value_var First cells attr) c) short
 
-      text_short : (side : Side) (attr : ℕ) (found : Option CellValues) → found_in attr ≡ found → length (attr_text side cells truth attr (domain_at attrs attr) found) ≤ 2052
-      text_short side attr None is = plain_short (domain_at attrs attr) (valid_domain_at attrs attr valid)
-      text_short side attr (Some c) is =
+      text_short : (which : Which) (attr : ℕ) (found : Option CellValues) → found_in attr ≡ found → length (attr_text which cells truth attr (domain_at attrs attr) found) ≤ 2052
+      text_short which attr None is = plain_short (domain_at attrs attr) (valid_domain_at attrs attr valid)
+      text_short which attr (Some c) is =
           let (named, there) = found_attr cells attr c is in
           let from = occurring_from attrs all_rules c there in
           let domain = domain_at attrs from.attr in
           let short : Short 1025 c.values = subst (λ (x : CellValues). Short 1025 x.values) from.is (other_short (has_other all_rules from.attr domain) (constants_at all_rules from.attr domain) (constants_short from.attr domain (valid_domain_at attrs from.attr valid))) in
-          for_short c (new_for side cells truth attr c) (constant_of truth (value_var side cells attr) c) short (new_for_short side attr c short)
+          for_short c (new_for which cells truth attr c) (constant_of truth (value_var which cells attr) c) short (new_for_short which attr c short)
 
-      pub is_short : (side : Side) → All (λ (text : List ℕ). length text ≤ answer_bytes) (tuple_of side attrs cells truth)
-      is_short side = all_map (λ (text : List ℕ). length text ≤ answer_bytes) (λ n. attr_text side cells truth n (domain_at attrs n) (found_in n)) (range_with_len 0 (length attrs)) (λ n there. let bound = text_short side n (found_in n) refl in omega arith)
+      pub is_short : (which : Which) → All (λ (text : List ℕ). length text ≤ answer_bytes) (tuple_of which attrs cells truth)
+      is_short which = all_map (λ (text : List ℕ). length text ≤ answer_bytes) (λ n. attr_text which cells truth n (domain_at attrs n) (found_in n)) (range_with_len 0 (length attrs)) (λ n there. let bound = text_short which n (found_in n) refl in omega arith)

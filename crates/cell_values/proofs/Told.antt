@@ -6,19 +6,19 @@ use Rattle.std.specs.Str.{bytes_eq}
 use Rattle.std.proofs.Math.Seq.{get_or-append_seam}
 use Rattle.std.proofs.lemmas.List.{get_or-append-add, get_or_append_left}
 use Rattle.std.proofs.lemmas.List.FromFn.{length-map-range_with_len, get_or-map-range_with_len}
-use Rattle.cell_values.specs.declared.side.Side.{Side}
-use Rattle.cell_values.specs.declared.side.Side.TheVariants.{Only, First, Second}
-use Rattle.cell_values.specs.declared.side.TupleCount.{TupleCount}
-use Rattle.cell_values.specs.declared.side.TupleCount.TheVariants.{One, Two}
+use Rattle.cell_values.specs.declared.which.Which.{Which}
+use Rattle.cell_values.specs.declared.which.Which.TheVariants.{Only, First, Second}
+use Rattle.cell_values.specs.declared.which.TupleCount.{TupleCount}
+use Rattle.cell_values.specs.declared.which.TupleCount.TheVariants.{One, Two}
 use Rattle.cell_values.specs.declared.values.CellValues.{CellValues}
 use Rattle.cell_values.specs.Layout.{attr_var, value_var, var_width}
 use Rattle.cell_values.specs.Standing.{counts_as, Agrees}
 use Rattle.cell_values.proofs.Truths.{text_of}
-use Rattle.cell_values.proofs.Order.{ArePair, IsSideOf, offset, Placed, placed_at, placed_by, RisesFrom, value_var_at}
+use Rattle.cell_values.proofs.Order.{ArePair, IsWhichOf, offset, Placed, placed_at, placed_by, RisesFrom, value_var_at}
 
 module _ (one other : List (List ℕ)) where
   -- a question about one tuple is about the first of these
-  abbrev pub tuple_at : Side → List (List ℕ)
+  abbrev pub tuple_at : Which → List (List ℕ)
   tuple_at Only = one
   tuple_at First = one
   tuple_at Second = other
@@ -37,7 +37,7 @@ module _ (one other : List (List ℕ)) where
   -- the variables of an attribute say what the tuples have there
   abbrev pub Tells : TupleCount → (ℕ → Bool) → ℕ → CellValues → Type 0
   Tells count truth first cell =
-      (ArePair count → truth first ≡ bytes_eq (text_of one cell.attr) (text_of other cell.attr)) × ((side : Side) → IsSideOf count side → Agrees truth (first + offset side cell) cell (text_of (tuple_at side) cell.attr))
+      (ArePair count → truth first ≡ bytes_eq (text_of one cell.attr) (text_of other cell.attr)) × ((which : Which) → IsWhichOf count which → Agrees truth (first + offset which cell) cell (text_of (tuple_at which) cell.attr))
 
   marks_count : (cell : CellValues) (tuple : List (List ℕ)) → length (marks cell tuple) ≡ length cell.values
   marks_count cell tuple = length-map-range_with_len (counts_as cell (text_of tuple cell.attr)) 0 (length cell.values)
@@ -52,7 +52,7 @@ module _ (one other : List (List ℕ)) where
       ∙ get_or-map-range_with_len (counts_as cell (text_of tuple cell.attr)) 0 (length cell.values) place place false within (omega arith)
 
   pair_tells : (before rest : List Bool) (equal : Bool) (cell : CellValues) (truth : ℕ → Bool) → ((v : ℕ) → truth v ≡ get_or (before ++ ((equal ∷ (marks cell one ++ marks cell other)) ++ rest)) v false)
-      → (truth (length before) ≡ equal) × ((side : Side) → IsSideOf Two side → Agrees truth (length before + offset side cell) cell (text_of (tuple_at side) cell.attr))
+      → (truth (length before) ≡ equal) × ((which : Which) → IsWhichOf Two which → Agrees truth (length before + offset which cell) cell (text_of (tuple_at which) cell.attr))
   pair_tells before rest equal cell truth is = (is (length before) ∙ get_or-append_seam before equal ((marks cell one ++ marks cell other) ++ rest) false, tells) where
     from_front : (v : ℕ) → truth v ≡ get_or ((before ++ equal ∷ []) ++ (marks cell one ++ (marks cell other ++ rest))) v false
     from_front v = is v ∙ ap (λ l. get_or (before ++ (equal ∷ l)) v false) (append_assoc (marks cell one) (marks cell other) rest) ∙ ap (λ l. get_or l v false) (sym (append_assoc before (equal ∷ []) (marks cell one ++ (marks cell other ++ rest))))
@@ -60,7 +60,7 @@ module _ (one other : List (List ℕ)) where
     from_both : (v : ℕ) → truth v ≡ get_or (((before ++ equal ∷ []) ++ marks cell one) ++ (marks cell other ++ rest)) v false
     from_both v = from_front v ∙ ap (λ l. get_or l v false) (sym (append_assoc (before ++ equal ∷ []) (marks cell one) (marks cell other ++ rest)))
 
-    tells : (side : Side) → IsSideOf Two side → Agrees truth (length before + offset side cell) cell (text_of (tuple_at side) cell.attr)
+    tells : (which : Which) → IsWhichOf Two which → Agrees truth (length before + offset which cell) cell (text_of (tuple_at which) cell.attr)
     tells Only none = absurd none
     tells First some = marks_agree (before ++ equal ∷ []) (marks cell other ++ rest) cell one truth (length before + 1) (omega (arith, length-append before (equal ∷ []))) from_front
     tells Second some =
@@ -68,7 +68,7 @@ module _ (one other : List (List ℕ)) where
         (omega (arith, length-append before (equal ∷ []), length-append (before ++ equal ∷ []) (marks cell one), marks_count cell one)) from_both
 
   one_tells : (before rest : List Bool) (cell : CellValues) (truth : ℕ → Bool) → ((v : ℕ) → truth v ≡ get_or (before ++ (marks cell one ++ rest)) v false)
-      → (side : Side) → IsSideOf One side → Agrees truth (length before + offset side cell) cell (text_of (tuple_at side) cell.attr)
+      → (which : Which) → IsWhichOf One which → Agrees truth (length before + offset which cell) cell (text_of (tuple_at which) cell.attr)
   one_tells before rest cell truth is Only some = marks_agree before rest cell one truth (length before + 0) (omega arith) is
   one_tells before rest cell truth is First none = absurd none
   one_tells before rest cell truth is Second none = absurd none
@@ -102,14 +102,14 @@ module _ (one other : List (List ℕ)) where
           let at : attr_var count cells c.attr ≡ 0 + attr_var count cells c.attr = omega arith in
           ap truth at ∙ (placed_at count (Tells count truth) 0 low cells c rises tells there).0 pair
 
-      pub agrees_told : Placed count (Tells count truth) 0 cells → (c : CellValues) → Contains cells c → (side : Side) → IsSideOf count side → Agrees truth (value_var side cells c.attr) c (text_of (tuple_at side) c.attr)
-      agrees_told tells c there side is =
-          let at : 0 + attr_var count cells c.attr + offset side c ≡ value_var side cells c.attr = omega (arith, value_var_at count side is low cells c rises there) in
-          subst (λ n. Agrees truth n c (text_of (tuple_at side) c.attr)) at ((placed_at count (Tells count truth) 0 low cells c rises tells there).1 side is)
+      pub agrees_told : Placed count (Tells count truth) 0 cells → (c : CellValues) → Contains cells c → (which : Which) → IsWhichOf count which → Agrees truth (value_var which cells c.attr) c (text_of (tuple_at which) c.attr)
+      agrees_told tells c there which is =
+          let at : 0 + attr_var count cells c.attr + offset which c ≡ value_var which cells c.attr = omega (arith, value_var_at count which is low cells c rises there) in
+          subst (λ n. Agrees truth n c (text_of (tuple_at which) c.attr)) at ((placed_at count (Tells count truth) 0 low cells c rises tells there).1 which is)
 
       pub tells_by : ((c : CellValues) → Contains cells c → ArePair count → truth (attr_var count cells c.attr) ≡ bytes_eq (text_of one c.attr) (text_of other c.attr))
-          → ((c : CellValues) → Contains cells c → (side : Side) → IsSideOf count side → Agrees truth (value_var side cells c.attr) c (text_of (tuple_at side) c.attr)) → Placed count (Tells count truth) 0 cells
+          → ((c : CellValues) → Contains cells c → (which : Which) → IsWhichOf count which → Agrees truth (value_var which cells c.attr) c (text_of (tuple_at which) c.attr)) → Placed count (Tells count truth) 0 cells
       tells_by equal agrees = placed_by count (Tells count truth) 0 low cells rises (λ c there. (
         λ pair. let at : 0 + attr_var count cells c.attr ≡ attr_var count cells c.attr = omega arith in ap truth at ∙ equal c there pair,
-        λ side is. let at : value_var side cells c.attr ≡ 0 + attr_var count cells c.attr + offset side c = omega (arith, value_var_at count side is low cells c rises there) in subst (λ n. Agrees truth n c (text_of (tuple_at side) c.attr)) at (agrees c there side is),
+        λ which is. let at : value_var which cells c.attr ≡ 0 + attr_var count cells c.attr + offset which c = omega (arith, value_var_at count which is low cells c rises there) in subst (λ n. Agrees truth n c (text_of (tuple_at which) c.attr)) at (agrees c there which is),
       ))

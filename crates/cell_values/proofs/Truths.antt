@@ -12,7 +12,7 @@ use Rattle.case_tree.specs.CaseTree.{IsTrueUnder}
 use Rattle.cfd_semantics.specs.declared.pattern.Pattern.{Pattern}
 use Rattle.cfd_semantics.specs.declared.dependency.TableauRow.{TableauRow}
 use Rattle.cfd_semantics.specs.Pattern.{matches, all_match}
-use Rattle.cell_values.specs.declared.side.Side.{Side}
+use Rattle.cell_values.specs.declared.which.Which.{Which}
 use Rattle.cell_values.specs.declared.values.CellValues.{CellValues}
 use Rattle.cell_values.specs.RowClauses.{meets_at, misses_at, misses_left, alone}
 use Rattle.cell_values.specs.TableRules.{Rule}
@@ -99,27 +99,27 @@ left_of tuple xs = map (text_of tuple) xs
 
 module _ (truth : ℕ → Bool) (cells : List CellValues) where
   -- the clause parts of a cell say whether the tuple matches it
-  abbrev pub Misses : Side → List (List ℕ) → ℕ × Pattern (List ℕ) → Type 0
-  Misses side tuple at = clause_true truth (misses_at cells side at) ≡ not (matches bytes_eq at.1 (text_of tuple at.0))
+  abbrev pub Misses : Which → List (List ℕ) → ℕ × Pattern (List ℕ) → Type 0
+  Misses which tuple at = clause_true truth (misses_at cells which at) ≡ not (matches bytes_eq at.1 (text_of tuple at.0))
 
-  abbrev pub Meets : Side → List (List ℕ) → ℕ × Pattern (List ℕ) → Type 0
-  Meets side tuple at = clause_true truth (meets_at cells side at) ≡ matches bytes_eq at.1 (text_of tuple at.0)
+  abbrev pub Meets : Which → List (List ℕ) → ℕ × Pattern (List ℕ) → Type 0
+  Meets which tuple at = clause_true truth (meets_at cells which at) ≡ matches bytes_eq at.1 (text_of tuple at.0)
 
-  pub misses_left_is : (side : Side) (tuple : List (List ℕ)) (xs : List ℕ) (ps : List (Pattern (List ℕ))) → length xs ≡ length ps → AllByRecursion (Misses side tuple) (zip xs ps)
-      → clause_true truth (flat_map (misses_at cells side) (zip xs ps)) ≡ not (all_match bytes_eq ps (left_of tuple xs))
-  misses_left_is side tuple [] [] same says = refl
-  misses_left_is side tuple [] (p ∷ ps) same says = absurd (omega arith)
-  misses_left_is side tuple (x ∷ xs) [] same says = absurd (omega arith)
-  misses_left_is side tuple (x ∷ xs) (p ∷ ps) same says =
-      let rest = flat_map (misses_at cells side) (zip xs ps) in
-      list_any-append (lit_true truth) (misses_at cells side (x, p)) rest
+  pub misses_left_is : (which : Which) (tuple : List (List ℕ)) (xs : List ℕ) (ps : List (Pattern (List ℕ))) → length xs ≡ length ps → AllByRecursion (Misses which tuple) (zip xs ps)
+      → clause_true truth (flat_map (misses_at cells which) (zip xs ps)) ≡ not (all_match bytes_eq ps (left_of tuple xs))
+  misses_left_is which tuple [] [] same says = refl
+  misses_left_is which tuple [] (p ∷ ps) same says = absurd (omega arith)
+  misses_left_is which tuple (x ∷ xs) [] same says = absurd (omega arith)
+  misses_left_is which tuple (x ∷ xs) (p ∷ ps) same says =
+      let rest = flat_map (misses_at cells which) (zip xs ps) in
+      list_any-append (lit_true truth) (misses_at cells which (x, p)) rest
       ∙ ap (λ b. b || clause_true truth rest) says.0
-      ∙ ap (λ b. not (matches bytes_eq p (text_of tuple x)) || b) (misses_left_is side tuple xs ps (omega arith) says.1)
+      ∙ ap (λ b. not (matches bytes_eq p (text_of tuple x)) || b) (misses_left_is which tuple xs ps (omega arith) says.1)
       ∙ sym (not_and (matches bytes_eq p (text_of tuple x)) (all_match bytes_eq ps (left_of tuple xs)))
 
-  pub alone_is : (side : Side) (tuple : List (List ℕ)) (rule : Rule) (row : TableauRow (List ℕ)) → length rule.x ≡ length row.x → AllByRecursion (Misses side tuple) (zip rule.x row.x) → Meets side tuple (rule.a, row.a)
-      → clause_true truth (alone cells side rule row) ≡ (not (all_match bytes_eq row.x (left_of tuple rule.x)) || matches bytes_eq row.a (text_of tuple rule.a))
-  alone_is side tuple rule row same left right =
-      list_any-append (lit_true truth) (misses_left cells side rule row) (meets_at cells side (rule.a, row.a))
-      ∙ ap (λ b. b || clause_true truth (meets_at cells side (rule.a, row.a))) (misses_left_is side tuple rule.x row.x same left)
+  pub alone_is : (which : Which) (tuple : List (List ℕ)) (rule : Rule) (row : TableauRow (List ℕ)) → length rule.x ≡ length row.x → AllByRecursion (Misses which tuple) (zip rule.x row.x) → Meets which tuple (rule.a, row.a)
+      → clause_true truth (alone cells which rule row) ≡ (not (all_match bytes_eq row.x (left_of tuple rule.x)) || matches bytes_eq row.a (text_of tuple rule.a))
+  alone_is which tuple rule row same left right =
+      list_any-append (lit_true truth) (misses_left cells which rule row) (meets_at cells which (rule.a, row.a))
+      ∙ ap (λ b. b || clause_true truth (meets_at cells which (rule.a, row.a))) (misses_left_is which tuple rule.x row.x same left)
       ∙ ap (λ b. not (all_match bytes_eq row.x (left_of tuple rule.x)) || b) right

@@ -4,15 +4,15 @@
 use Rattle.std.specs.Prelude.{ℕ, ◌+◌, ◌*◌, ◌==◌, false, if◌then◌else◌, List, [], ◌∷◌, ◌++◌, length}
 use Rattle.std.specs.List.{sum_by}
 use Rattle.case_tree.specs.declared.clauses.VarCell.{VarCell}
-use Rattle.cell_values.specs.declared.side.Side.{Side}
-use Rattle.cell_values.specs.declared.side.Side.TheVariants.{Only, First, Second}
-use Rattle.cell_values.specs.declared.side.TupleCount.{TupleCount}
-use Rattle.cell_values.specs.declared.side.TupleCount.TheVariants.{One, Two}
+use Rattle.cell_values.specs.declared.which.Which.{Which}
+use Rattle.cell_values.specs.declared.which.Which.TheVariants.{Only, First, Second}
+use Rattle.cell_values.specs.declared.which.TupleCount.{TupleCount}
+use Rattle.cell_values.specs.declared.which.TupleCount.TheVariants.{One, Two}
 use Rattle.cell_values.specs.declared.values.CellValues.{CellValues}
 use Rattle.cell_values.specs.Values.{attrs_before, values_before, values_for}
 
 -- how many tuples the question of a tuple is about
-abbrev pub count_of : Side → TupleCount
+abbrev pub count_of : Which → TupleCount
 count_of Only = One
 count_of First = Two
 count_of Second = Two
@@ -29,7 +29,7 @@ attr_var One cells attr = values_before cells attr
 attr_var Two cells attr = equal_var cells attr
 
 -- the variable of the first value that a tuple may have at an attribute
-abbrev pub value_var : Side → List CellValues → ℕ → ℕ
+abbrev pub value_var : Which → List CellValues → ℕ → ℕ
 value_var Only cells attr = values_before cells attr
 value_var First cells attr = equal_var cells attr + 1
 value_var Second cells attr = equal_var cells attr + 1 + length (values_for cells attr)

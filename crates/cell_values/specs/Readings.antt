@@ -6,8 +6,8 @@ use Rattle.schema_core.specs.Lookups.{domain_at}
 use Rattle.schema_core.specs.declared.schema.Attr.{Attr}
 use Rattle.schema_core.specs.declared.schema.Domain.{Domain}
 use Rattle.schema_core.specs.declared.schema.Domain.TheVariants.{AnyText, Finite}
-use Rattle.cell_values.specs.declared.side.Side.{Side}
-use Rattle.cell_values.specs.declared.side.Side.TheVariants.{Only, First, Second}
+use Rattle.cell_values.specs.declared.which.Which.{Which}
+use Rattle.cell_values.specs.declared.which.Which.TheVariants.{Only, First, Second}
 use Rattle.cell_values.specs.declared.values.CellValues.{CellValues}
 use Rattle.cell_values.specs.Fresh.{fresh_past}
 use Rattle.cell_values.specs.Layout.{equal_var, value_var}
@@ -42,18 +42,18 @@ second_new cell false (Some place) = new_text cell
 second_new cell false None = fresh_past (length (new_text cell)) cell.values
 
 -- the text that a tuple has where it has no constant
-abbrev pub new_for : Side → List CellValues → (ℕ → Bool) → ℕ → CellValues → List ℕ
+abbrev pub new_for : Which → List CellValues → (ℕ → Bool) → ℕ → CellValues → List ℕ
 new_for Only cells truth attr cell = new_text cell
 new_for First cells truth attr cell = new_text cell
 new_for Second cells truth attr cell = second_new cell (truth (equal_var cells attr)) (constant_of truth (value_var First cells attr) cell)
 
 -- the text of a tuple at an attribute that occurs
-abbrev pub value_text : Side → List CellValues → (ℕ → Bool) → ℕ → CellValues → List ℕ
-value_text side cells truth attr cell = text_for cell (new_for side cells truth attr cell) (constant_of truth (value_var side cells attr) cell)
+abbrev pub value_text : Which → List CellValues → (ℕ → Bool) → ℕ → CellValues → List ℕ
+value_text which cells truth attr cell = text_for cell (new_for which cells truth attr cell) (constant_of truth (value_var which cells attr) cell)
 
-abbrev pub attr_text : Side → List CellValues → (ℕ → Bool) → ℕ → Domain → Option CellValues → List ℕ
-attr_text side cells truth attr domain None = plain_text domain
-attr_text side cells truth attr domain (Some cell) = value_text side cells truth attr cell
+abbrev pub attr_text : Which → List CellValues → (ℕ → Bool) → ℕ → Domain → Option CellValues → List ℕ
+attr_text which cells truth attr domain None = plain_text domain
+attr_text which cells truth attr domain (Some cell) = value_text which cells truth attr cell
 
-abbrev pub tuple_of : Side → List Attr → List CellValues → (ℕ → Bool) → List (List ℕ)
-tuple_of side attrs cells truth = map (λ attr. attr_text side cells truth attr (domain_at attrs attr) (find (λ (cell : CellValues). cell.attr == attr) cells)) (range_with_len 0 (length attrs))
+abbrev pub tuple_of : Which → List Attr → List CellValues → (ℕ → Bool) → List (List ℕ)
+tuple_of which attrs cells truth = map (λ attr. attr_text which cells truth attr (domain_at attrs attr) (find (λ (cell : CellValues). cell.attr == attr) cells)) (range_with_len 0 (length attrs))

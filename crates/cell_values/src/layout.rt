@@ -4,8 +4,8 @@ ghost use Rattle.std.specs.Prelude.{◌≡◌, ◌≤◌, ◌<◌, ◌^◌, ◌+
 ghost use Rattle.cell_values.specs.Layout.{attr_cells, equal_var, value_cell, value_var, var_cells, var_width};
 ghost use Rattle.cell_values.specs.Values.{AreFew, values_for};
 
-use crate::side::{Side, TupleCount};
 use crate::values::{CellValues, attrs_before, cell_of, values_before};
+use crate::which::{TupleCount, Which};
 use case_tree::VarCell;
 use std::alloc::{AllocError, Global};
 
@@ -30,15 +30,15 @@ pub fn equal_var(cells: &[CellValues], attr: usize) -> usize
 
 /// The variable of the first value that a tuple may have at an attribute.
 #[tactic(auto, using(crate::proofs::Room::room_alone))]
-pub fn value_var(cells: &[CellValues], side: Side, attr: usize) -> usize
+pub fn value_var(cells: &[CellValues], which: Which, attr: usize) -> usize
     requires { AreFew cells.now }
-    ensures var { result ≡ value_var side cells.now attr }
+    ensures var { result ≡ value_var which cells.now attr }
     ensures room { result + length (values_for cells.now attr) < 2 ^ 64 }
 {
-    match side {
-        Side::Only => values_before(cells, attr),
-        Side::First => equal_var(cells, attr) + 1,
-        Side::Second => equal_var(cells, attr) + 1 + value_count(cells, attr),
+    match which {
+        Which::Only => values_before(cells, attr),
+        Which::First => equal_var(cells, attr) + 1,
+        Which::Second => equal_var(cells, attr) + 1 + value_count(cells, attr),
     }
 }
 

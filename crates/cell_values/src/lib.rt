@@ -4,20 +4,22 @@
 #![tactic(auto)]
 
 mod clause_list;
+mod encoding;
 mod fresh;
 mod layout;
 mod literals;
 mod readings;
 mod row_clauses;
-pub mod side;
 mod standing;
 mod table_rules;
 mod values;
+pub mod which;
 
 pub use clause_list::ClauseList;
+pub use encoding::Encoding;
 pub use layout::{equal_var, value_var, var_cells};
 pub use readings::tuple_of;
 pub use row_clauses::{alone, no, push_meets_at, push_misses_at, push_misses_left, yes};
-pub use side::{Side, TupleCount};
 pub use table_rules::{Rule, TableRules, attrs_at};
 pub use values::{CellValues, occurring};
+pub use which::{TupleCount, Which};

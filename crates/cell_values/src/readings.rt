@@ -8,9 +8,9 @@ ghost use Rattle.cell_values.specs.Values.{AreFew};
 
 use crate::fresh::fresh_past;
 use crate::layout::{equal_var, value_var};
-use crate::side::Side;
 use crate::standing::chosen;
 use crate::values::{CellValues, cell_of};
+use crate::which::Which;
 use schema_core::{Attr, Domain, List, Text, Texts};
 use std::alloc::{AllocError, Global};
 use value_pool::Pool;
@@ -78,33 +78,38 @@ fn is_equal(cells: &[CellValues], truth: &[bool], attr: usize) -> bool
 }
 
 /// The first constant of a tuple whose variable is true.
-fn constant_of(cells: &[CellValues], truth: &[bool], side: Side, cell: &CellValues) -> Option<usize>
+fn constant_of(
+    cells: &[CellValues],
+    truth: &[bool],
+    which: Which,
+    cell: &CellValues,
+) -> Option<usize>
     requires few { AreFew cells.now }
-    requires told { value_var side cells.now cell.now.attr + length cell.now.values ≤ length truth.now }
+    requires told { value_var which cells.now cell.now.attr + length cell.now.values ≤ length truth.now }
     requires bound { cell.now.constants ≤ length cell.now.values }
-    ensures constant { result ≡ constant_of (λ var. slice_index_or truth.now var false) (value_var side cells.now cell.now.attr) cell.now }
+    ensures constant { result ≡ constant_of (λ var. slice_index_or truth.now var false) (value_var which cells.now cell.now.attr) cell.now }
     ensures within { IfSome result (λ p. p < length cell.now.values) }
 {
-    chosen(truth, value_var(cells, side, cell.attr), cell.constants)
+    chosen(truth, value_var(cells, which, cell.attr), cell.constants)
 }
 
 /// The text that a tuple has where it has no constant.
 fn new_for(
     alloc: Global,
-    side: Side,
+    which: Which,
     cells: &[CellValues],
     truth: &[bool],
     cell: &CellValues,
 ) -> Result<Text, AllocError>
     requires few { AreFew cells.now }
     requires bound { cell.now.constants ≤ length cell.now.values }
-    requires told { attr_var (count_of side) cells.now cell.now.attr + var_width (count_of side) cell.now ≤ length truth.now }
-    ensures { IfOk result (λ text. text ≡ new_for side cells.now (λ var. slice_index_or truth.now var false) cell.now.attr cell.now) }
+    requires told { attr_var (count_of which) cells.now cell.now.attr + var_width (count_of which) cell.now ≤ length truth.now }
+    ensures { IfOk result (λ text. text ≡ new_for which cells.now (λ var. slice_index_or truth.now var false) cell.now.attr cell.now) }
 {
-    match side {
-        Side::Only | Side::First => new_text(alloc, cell),
-        Side::Second => {
-            let one = constant_of(cells, truth, Side::First, cell);
+    match which {
+        Which::Only | Which::First => new_text(alloc, cell),
+        Which::Second => {
+            let one = constant_of(cells, truth, Which::First, cell);
             second_new(alloc, cell, is_equal(cells, truth, cell.attr), one)
         }
     }
@@ -113,25 +118,25 @@ fn new_for(
 /// The text of a tuple at an attribute that occurs.
 fn value_text(
     alloc: Global,
-    side: Side,
+    which: Which,
     cells: &[CellValues],
     truth: &[bool],
     cell: &CellValues,
 ) -> Result<Text, AllocError>
     requires few { AreFew cells.now }
     requires bound { cell.now.constants ≤ length cell.now.values }
-    requires told { attr_var (count_of side) cells.now cell.now.attr + var_width (count_of side) cell.now ≤ length truth.now }
-    requires own { value_var side cells.now cell.now.attr + length cell.now.values ≤ length truth.now }
-    ensures { IfOk result (λ text. text ≡ value_text side cells.now (λ var. slice_index_or truth.now var false) cell.now.attr cell.now) }
+    requires told { attr_var (count_of which) cells.now cell.now.attr + var_width (count_of which) cell.now ≤ length truth.now }
+    requires own { value_var which cells.now cell.now.attr + length cell.now.values ≤ length truth.now }
+    ensures { IfOk result (λ text. text ≡ value_text which cells.now (λ var. slice_index_or truth.now var false) cell.now.attr cell.now) }
 {
-    let place = constant_of(cells, truth, side, cell);
-    let new = new_for(alloc, side, cells, truth, cell)?;
+    let place = constant_of(cells, truth, which, cell);
+    let new = new_for(alloc, which, cells, truth, cell)?;
     text_for(alloc, cell, new, place)
 }
 
 fn attr_text(
     alloc: Global,
-    side: Side,
+    which: Which,
     cells: &[CellValues],
     truth: &[bool],
     attr: usize,
@@ -140,11 +145,11 @@ fn attr_text(
     requires valid { IsValidDomain domain.now }
     requires few { AreFew cells.now }
     requires constants { All (λ cell. cell.constants ≤ length cell.values) cells.now }
-    requires told { var_total (count_of side) cells.now ≤ length truth.now }
-    ensures { IfOk result (λ text. text ≡ attr_text side cells.now (λ var. slice_index_or truth.now var false) attr domain.now (find (λ cell. cell.attr == attr) cells.now)) }
+    requires told { var_total (count_of which) cells.now ≤ length truth.now }
+    ensures { IfOk result (λ text. text ≡ attr_text which cells.now (λ var. slice_index_or truth.now var false) attr domain.now (find (λ cell. cell.attr == attr) cells.now)) }
 {
     match cell_of(cells, attr) {
-        Some(cell) => value_text(alloc, side, cells, truth, cell),
+        Some(cell) => value_text(alloc, which, cells, truth, cell),
         None => plain_text(alloc, domain),
     }
 }
@@ -152,7 +157,7 @@ fn attr_text(
 /// One of the tuples.
 pub fn tuple_of(
     alloc: Global,
-    side: Side,
+    which: Which,
     attrs: &[Attr],
     cells: &[CellValues],
     truth: &[bool],
@@ -160,12 +165,12 @@ pub fn tuple_of(
     requires valid { All IsValidAttr attrs.now }
     requires few { AreFew cells.now }
     requires constants { All (λ cell. cell.constants ≤ length cell.values) cells.now }
-    requires told { var_total (count_of side) cells.now ≤ length truth.now }
-    ensures { IfOk result (λ tuple. tuple ≡ tuple_of side attrs.now cells.now (λ var. slice_index_or truth.now var false)) }
+    requires told { var_total (count_of which) cells.now ≤ length truth.now }
+    ensures { IfOk result (λ tuple. tuple ≡ tuple_of which attrs.now cells.now (λ var. slice_index_or truth.now var false)) }
 {
     let mut tuple = List::new(alloc);
     for attr in 0..attrs.len() {
-        tuple.push(attr_text(alloc, side, cells, truth, attr, &attrs[attr].domain)?)?;
+        tuple.push(attr_text(alloc, which, cells, truth, attr, &attrs[attr].domain)?)?;
     }
     Ok(tuple)
 }

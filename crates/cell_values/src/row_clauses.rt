@@ -6,9 +6,9 @@ ghost use Rattle.cell_values.specs.Values.{AreFew};
 
 use crate::layout::value_var;
 use crate::literals::{push_meets, push_misses};
-use crate::side::Side;
 use crate::table_rules::Rule;
 use crate::values::{CellValues, cell_of};
+use crate::which::Which;
 use case_tree::Literal;
 use rule_model::{Cell, DepRow};
 use std::alloc::{AllocError, Global};
@@ -35,15 +35,15 @@ pub fn no(var: usize) -> Literal
 pub fn push_meets_at(
     clause: &mut Vec<Literal>,
     cells: &[CellValues],
-    side: Side,
+    which: Which,
     attr: usize,
     cell: &Cell,
 ) -> Result<(), AllocError>
     requires { AreFew cells.now }
-    ensures { OnOk result (clause.new.items ≡ clause.old.items ++ meets_at cells.now side (attr, cell.now)) }
+    ensures { OnOk result (clause.new.items ≡ clause.old.items ++ meets_at cells.now which (attr, cell.now)) }
 {
     match cell_of(cells, attr) {
-        Some(found) => push_meets(clause, value_var(cells, side, attr), &found.values, cell),
+        Some(found) => push_meets(clause, value_var(cells, which, attr), &found.values, cell),
         None => Ok(()),
     }
 }
@@ -52,15 +52,15 @@ pub fn push_meets_at(
 pub fn push_misses_at(
     clause: &mut Vec<Literal>,
     cells: &[CellValues],
-    side: Side,
+    which: Which,
     attr: usize,
     cell: &Cell,
 ) -> Result<(), AllocError>
     requires { AreFew cells.now }
-    ensures { OnOk result (clause.new.items ≡ clause.old.items ++ misses_at cells.now side (attr, cell.now)) }
+    ensures { OnOk result (clause.new.items ≡ clause.old.items ++ misses_at cells.now which (attr, cell.now)) }
 {
     match cell_of(cells, attr) {
-        Some(found) => push_misses(clause, value_var(cells, side, attr), &found.values, cell),
+        Some(found) => push_misses(clause, value_var(cells, which, attr), &found.values, cell),
         None => Ok(()),
     }
 }
@@ -69,15 +69,15 @@ pub fn push_misses_at(
 pub fn push_misses_left(
     clause: &mut Vec<Literal>,
     cells: &[CellValues],
-    side: Side,
+    which: Which,
     rule: &Rule,
     row: &DepRow,
 ) -> Result<(), AllocError>
     requires { AreFew cells.now }
-    ensures { OnOk result (clause.new.items ≡ clause.old.items ++ misses_left cells.now side rule.now row.now) }
+    ensures { OnOk result (clause.new.items ≡ clause.old.items ++ misses_left cells.now which rule.now row.now) }
 {
     for (attr, cell) in rule.x.as_slice().iter().zip(row.x.as_slice()) {
-        push_misses_at(clause, cells, side, *attr, cell)?;
+        push_misses_at(clause, cells, which, *attr, cell)?;
     }
     Ok(())
 }
@@ -86,15 +86,15 @@ pub fn push_misses_left(
 pub fn alone(
     alloc: Global,
     cells: &[CellValues],
-    side: Side,
+    which: Which,
     rule: &Rule,
     row: &DepRow,
 ) -> Result<Vec<Literal>, AllocError>
     requires { AreFew cells.now }
-    ensures { IfOk result (λ clause. clause.items ≡ alone cells.now side rule.now row.now) }
+    ensures { IfOk result (λ clause. clause.items ≡ alone cells.now which rule.now row.now) }
 {
     let mut clause = Vec::new(alloc);
-    push_misses_left(&mut clause, cells, side, rule, row)?;
-    push_meets_at(&mut clause, cells, side, rule.a, &row.a)?;
+    push_misses_left(&mut clause, cells, which, rule, row)?;
+    push_meets_at(&mut clause, cells, which, rule.a, &row.a)?;
     Ok(clause)
 }

@@ -6,15 +6,15 @@ use Rattle.schema_core.specs.declared.schema.Attr.{Attr}
 use Rattle.rule_parser.specs.RuleText.{attr_name}
 use Rattle.case_tree.specs.declared.clauses.VarCell.{VarCell}
 use Rattle.cell_values.specs.declared.values.CellValues.{CellValues}
-use Rattle.cell_values.specs.declared.side.TupleCount.{TupleCount}
-use Rattle.cell_values.specs.declared.side.TupleCount.TheVariants.{One, Two}
+use Rattle.cell_values.specs.declared.which.TupleCount.{TupleCount}
+use Rattle.cell_values.specs.declared.which.TupleCount.TheVariants.{One, Two}
 use Rattle.cell_values.specs.Layout as layout
 use Rattle.cell_values.specs.Layout.{var_total, var_width}
 use Rattle.cell_values.proofs.Bounds.{total_cons}
 use Rattle.cert_text.specs.declared.answers.Kind.{Kind}
 use Rattle.cert_text.specs.declared.answers.Kind.TheVariants.{Consistency, Implication}
-use Rattle.cert_text.specs.declared.names.Which.{Which}
-use Rattle.cert_text.specs.declared.names.Which.TheVariants.{Only, First, Second}
+use Rattle.cell_values.specs.declared.which.Which.{Which}
+use Rattle.cell_values.specs.declared.which.Which.TheVariants.{Only, First, Second}
 use Rattle.cert_text.specs.declared.names.CellName.{CellName}
 use Rattle.cert_check.specs.Names.{names_of, cell_name, attr_vars, value_cells, attr_cells}
 use Rattle.cert_check.proofs.NamePlaces.{value_vars_count, pair_count}

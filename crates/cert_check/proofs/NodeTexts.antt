@@ -5,7 +5,7 @@ use Rattle.std.specs.Option.{option_map, option_map_or}
 use Rattle.std.specs.List.{AllByRecursion}
 use Rattle.std.proofs.lemmas.Grind.{flat_map-append}
 use Rattle.std.specs.declared.alloc.AllocError.{AllocError}
-use Rattle.std.proofs.lemmas.List.{append-nil, map-append, take_more}
+use Rattle.std.proofs.lemmas.List.{take_more}
 use Rattle.std.proofs.lemmas.List.Elements.{All-push, All-from_recursion, recursion_from_All}
 use Rattle.case_tree.specs.CaseTree.{IsOneTree}
 use Rattle.case_tree.specs.declared.tree.Node.{Node}
@@ -88,14 +88,6 @@ with_next nodes i node within there = take_more nodes i node within ∙ ap (λ (
 
 pub all_next : (Fits : Node → Type 0) (nodes : List Node) (i : ℕ) (node : Node) → i < length nodes → node ≡ get_or nodes i node → All Fits (take i nodes) → Fits node → All Fits (take (i + 1) nodes)
 all_next Fits nodes i node within there fit is = subst (All Fits) (sym (with_next nodes i node within there)) (All-push Fits (take i nodes) node fit is)
-
-pub lines_next : (parts : Node → List Part) (nodes : List Node) (i : ℕ) (node : Node) → i < length nodes → node ≡ get_or nodes i node
-    → file_text (map parts (take (i + 1) nodes)) ≡ file_text (map parts (take i nodes)) ++ (line_text (parts node) ++ 10 ∷ [])
-lines_next parts nodes i node within there =
-    ap (λ (ns : List Node). file_text (map parts ns)) (with_next nodes i node within there)
-    ∙ ap file_text (map-append parts (take i nodes) (node ∷ []))
-    ∙ flat_map-append (λ (line : List Part). line_text line ++ 10 ∷ []) (map parts (take i nodes)) (parts node ∷ [])
-    ∙ ap (λ (t : List ℕ). file_text (map parts (take i nodes)) ++ t) (append-nil (line_text (parts node) ++ 10 ∷ []))
 
 -- ---- whole trees
 

@@ -141,12 +141,9 @@ pub record IsSomeText (IsOne : CertParts → Type 0) (text : List ℕ) : Type 0 
   pub is : IsOne cert
   pub spelled : IsCertText cert text
 
--- the text of some right certificate
-pub record IsRightText (rules : Book) (IsOne : CertParts → Type 0) (text : List ℕ) : Type 0 where
-  pub cert : CertParts
-  pub is : IsOne cert
-  pub right : IsRightCert rules cert
-  pub spelled : IsCertText cert text
+-- and of one that is right
+abbrev pub IsRightText : Book → (CertParts → Type 0) → List ℕ → Type 0
+IsRightText rules IsOne text = IsSomeText (λ cert. IsOne cert × IsRightCert rules cert) text
 
 -- ---- right answers
 
@@ -155,10 +152,10 @@ pub record IsFound (rules : Book) (table : ℕ) (given : Consistency) : Type 0 w
   pub budget : ℕ
   pub some : 1 ≤ budget
   pub within : budget ≤ 1000000
-  pub answer : consistency.IsAnswer rules budget table given
+  pub answer : consistency.IsConsistencyAnswer rules budget table given
 
 pub record IsFoundOfDep (rules : Book) (dep : Dep) (given : Implication) : Type 0 where
   pub budget : ℕ
   pub some : 1 ≤ budget
   pub within : budget ≤ 1000000
-  pub answer : implication.IsAnswer rules.schema (book_deps rules) dep budget given
+  pub answer : implication.IsImplicationAnswer rules.schema (book_deps rules) dep budget given

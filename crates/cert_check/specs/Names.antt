@@ -8,8 +8,8 @@ use Rattle.rule_parser.specs.RuleText.{attr_name}
 use Rattle.cell_values.specs.declared.values.CellValues.{CellValues}
 use Rattle.cert_text.specs.declared.answers.Kind.{Kind}
 use Rattle.cert_text.specs.declared.answers.Kind.TheVariants.{Consistency, Implication}
-use Rattle.cert_text.specs.declared.names.Which.{Which}
-use Rattle.cert_text.specs.declared.names.Which.TheVariants.{Only, First, Second}
+use Rattle.cell_values.specs.declared.which.Which.{Which}
+use Rattle.cell_values.specs.declared.which.Which.TheVariants.{Only, First, Second}
 use Rattle.cert_text.specs.declared.names.CellName.{CellName}
 use Rattle.cert_text.specs.declared.names.VarName.{VarName}
 use Rattle.cert_text.specs.declared.names.VarName.TheVariants.{Value, Equal}

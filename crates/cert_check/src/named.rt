@@ -9,8 +9,9 @@ ghost use Rattle.cert_text.specs.Written.{IsOfKind, IsCellOf, IsVarOf};
 ghost use Rattle.cert_check.specs.Names.{attr_cells, attr_vars, named_cell, value_vars};
 ghost use Rattle.cert_text.specs.declared.answers.Kind.TheVariants.{Implication};
 
+use cell_values::Which;
 use cert_text::answers::Kind;
-use cert_text::{Which, push_cell, push_equality, push_value};
+use cert_text::{push_cell, push_equality, push_value};
 use schema_core::Text;
 use std::alloc::AllocError;
 use value_pool::Pool;

@@ -5,10 +5,11 @@ ghost use Rattle.std.specs.List.{position_or_len};
 ghost use Rattle.std.specs.Str.{bytes_eq};
 ghost use Rattle.cert_check.specs.Names.{cell_name, value_vars, attr_vars, value_cells, attr_cells, same_tuple, same_cell, same_var, is_cell};
 ghost use Rattle.cert_text.specs.declared.answers.Kind.TheVariants.{Implication};
-ghost use Rattle.cert_text.specs.declared.names.Which.{Which as AnyTuple};
+ghost use Rattle.cell_values.specs.declared.which.Which.{Which as AnyTuple};
 
+use cell_values::Which;
 use cert_text::answers::Kind;
-use cert_text::{CellName, VarName, Which};
+use cert_text::{CellName, VarName};
 use schema_core::Text;
 use value_pool::Pool;
 

@@ -1,7 +1,8 @@
 -- The texts of certificates of given parts.
-use Rattle.std.proofs.Common.{◌≡◌, ℕ, ◌+◌, List, [], ◌∷◌, ◌++◌, Ok, refl, sym, ap, ◌∙◌, subst}
+use Rattle.std.proofs.Common.{◌≡◌, ℕ, ◌+◌, ◌<◌, List, [], ◌∷◌, ◌++◌, length, get_or, take, Ok, refl, sym, ap, ◌∙◌, subst}
 use Rattle.std.specs.Prelude.{map, All, Option, IfSome}
 use Rattle.std.proofs.lemmas.Grind.{flat_map-append}
+use Rattle.std.proofs.lemmas.List.{append-nil, map-append, take_more}
 use Rattle.case_tree.specs.CaseTree.{IsOneTree}
 use Rattle.text_lists.specs.Names.{IsName}
 use Rattle.line_grammar.specs.Spelling.{line_text, file_text}
@@ -17,6 +18,15 @@ use Rattle.cert_text.specs.CertText.{IsCertText, cert_text, node_line, node_part
 use Rattle.cert_text.specs.Written.{AreTexts, IsBudget, IsNodeOf, IsQuestion, IsWrittenCert, shape_of}
 use Rattle.cert_text.proofs.CertsAgain.{reads_cert-cert_text}
 use Rattle.cert_text.proofs.NodeLines.{All-node_lines, misses_none, names-node_lines, shapes-node_lines}
+
+-- the lines of one more
+pub lines_next : {X : Type 0} (parts : X → List Part) (nodes : List X) (i : ℕ) (node : X) → i < length nodes → node ≡ get_or nodes i node
+    → file_text (map parts (take (i + 1) nodes)) ≡ file_text (map parts (take i nodes)) ++ (line_text (parts node) ++ 10 ∷ [])
+lines_next {X} parts nodes i node within there =
+    ap (λ (ns : List X). file_text (map parts ns)) (take_more nodes i node within ∙ ap (λ (n : X). take i nodes ++ n ∷ []) (sym there))
+    ∙ ap file_text (map-append parts (take i nodes) (node ∷ []))
+    ∙ flat_map-append (λ (line : List Part). line_text line ++ 10 ∷ []) (map parts (take i nodes)) (parts node ∷ [])
+    ∙ ap (λ (t : List ℕ). file_text (map parts (take i nodes)) ++ t) (append-nil (line_text (parts node) ++ 10 ∷ []))
 
 -- the text of a certificate whose lines are those of that text
 again : (cert : CertParts) (bytes : List ℕ) → IsWrittenCert cert → with_canonical_lines cert ≡ cert → bytes ≡ cert_text cert → IsCertText cert bytes

@@ -10,8 +10,8 @@ use Rattle.line_grammar.specs.Spelling.{tokens_in, AreApart, IsReadable, name, t
 use Rattle.line_grammar.proofs.PartLemmas.{tokens_then, AreGood, AreGood-append, AreApart-append, IsLoose-space}
 use Rattle.cert_text.specs.declared.answers.Kind.{Kind}
 use Rattle.cert_text.specs.declared.answers.Kind.TheVariants.{Consistency, Implication}
-use Rattle.cert_text.specs.declared.names.Which.{Which}
-use Rattle.cert_text.specs.declared.names.Which.TheVariants.{Only, First, Second}
+use Rattle.cell_values.specs.declared.which.Which.{Which}
+use Rattle.cell_values.specs.declared.which.Which.TheVariants.{Only, First, Second}
 use Rattle.cert_text.specs.declared.names.VarName.{VarName}
 use Rattle.cert_text.specs.declared.names.VarName.TheVariants.{Value, Equal}
 use Rattle.cert_text.specs.declared.names.ReasonName.{ReasonName}

@@ -17,8 +17,8 @@ use Rattle.cert_text.specs.declared.cert.NodeLine.{NodeLine}
 use Rattle.cert_text.specs.declared.cert.Answer.{Answer}
 use Rattle.cert_text.specs.declared.cert.Answer.TheVariants.{Witness, Counter, Tree}
 use Rattle.cert_text.specs.declared.cert.CertParts.{CertParts}
-use Rattle.cert_text.specs.declared.names.Which.{Which}
-use Rattle.cert_text.specs.declared.names.Which.TheVariants.{Only, First, Second}
+use Rattle.cell_values.specs.declared.which.Which.{Which}
+use Rattle.cell_values.specs.declared.which.Which.TheVariants.{Only, First, Second}
 use Rattle.cert_text.specs.declared.names.CellName.{CellName}
 use Rattle.cert_text.specs.declared.names.VarName.{VarName}
 use Rattle.cert_text.specs.declared.names.VarName.TheVariants.{Value, Equal}

@@ -16,9 +16,10 @@ mod variables;
 
 pub use cert::{Answer, Asked, Cert, CertParts, NodeLine, Question, TreeLines, TupleLine};
 pub use fault::{CertCause, CertFault};
-pub use names::{CellName, NodeName, ReasonName, VarName, Which};
+pub use names::{CellName, NodeName, ReasonName, VarName};
 pub use parse::parse_cert;
 pub use print::{
-    counter_text, push_cell, push_equality, push_texts, push_value, tree_head, witness_text,
+    counter_text, print_cert, push_cell, push_equality, push_texts, push_value, tree_head,
+    witness_text,
 };
 pub use tree_nodes::{NodePlace, TreeNodes};

@@ -1,15 +1,7 @@
 //! The parts of a tree of cases by their names.
 
+use cell_values::Which;
 use text_lists::Text;
-
-/// Whose value: that of the one tuple which a question of consistency is about, or of one of the two tuples which a
-/// question of implication is about.
-#[derive(Clone, Copy, Debug, PartialEq, Eq)]
-pub enum Which {
-    Only,
-    First,
-    Second,
-}
 
 /// The values of an attribute in a tuple.
 #[derive(Debug, Drop)]

@@ -1,20 +1,24 @@
 //! The canonical text of certificates.
 
-ghost use Rattle.std.specs.Prelude.{◌≡◌, ◌≤◌, ◌++◌, ◌∷◌, [], length, All, OnOk, IfOk, decimal};
+ghost use Rattle.std.specs.Prelude.{◌≡◌, ◌≤◌, ◌++◌, ◌∷◌, [], length, map, All, OnOk, IfOk, Ok, decimal};
 ghost use Rattle.std.specs.List.{flat_map};
 ghost use Rattle.std.specs.Str.{IsUtf8};
 ghost use Rattle.text_lists.specs.Names.{IsName};
 ghost use Rattle.line_grammar.specs.Spelling.{line_text, file_text};
 ghost use Rattle.rule_parser.specs.ReadRules.{IsDepDecl};
-ghost use Rattle.cert_text.specs.Canonical.{witness_cert, counter_cert};
-ghost use Rattle.cert_text.specs.CertText.{IsCertText, tuple_parts, cell_name_parts, var_parts, row_parts, dep_parts, question_line, texts_line, tree_line, tree_head, cert_text};
+ghost use Rattle.cert_text.specs.Canonical.{with_canonical_lines, witness_cert, counter_cert};
+ghost use Rattle.cert_text.specs.CertFiles.{reads_cert};
+ghost use Rattle.cert_text.specs.CertText.{IsCertText, tuple_parts, cell_name_parts, var_parts, reason_parts, node_parts, node_line, row_parts, dep_parts, question_line, texts_line, tree_line, tree_head, answer_lines, cert_text};
+ghost use Rattle.cert_text.specs.Written.{IsWrittenCert};
 ghost use Rattle.cert_text.specs.declared.names.VarName.TheVariants.{Value, Equal};
 
 use crate::answers::Kind;
-use crate::cert::Question;
-use crate::names::Which;
+use crate::cert::{Answer, Cert, Question};
+use crate::names::{CellName, NodeName, ReasonName, VarName};
 use crate::parse::kind_of;
 use crate::questions::closed_word;
+use crate::tree_nodes::TreeNodes;
+use cell_values::Which;
 use line_grammar::{push_number, push_quoted, push_spaced_list};
 use rule_model::{Cell, CfdDecl, CfdRow};
 use rule_parser::{Cells, Values, push_row, push_sides};
@@ -70,6 +74,71 @@ pub fn push_equality(out: &mut Vec<u8>, attr: &Text) -> Result<(), AllocError>
 {
     out.push(b'=')?;
     out.extend_from_slice(attr.as_str().as_bytes())
+}
+
+// ---- nodes
+
+fn push_cell_name(out: &mut Vec<u8>, cell: &CellName) -> Result<(), AllocError>
+    ensures { OnOk result (out.new.items ≡ out.old.items ++ line_text (cell_name_parts cell.now)) }
+{
+    push_cell(out, cell.tuple, &cell.attr)
+}
+
+fn push_var(out: &mut Vec<u8>, var: &VarName) -> Result<(), AllocError>
+    ensures { OnOk result (out.new.items ≡ out.old.items ++ line_text (var_parts var.now)) }
+{
+    match var {
+        VarName::Value(cell, value) => push_value(out, cell.tuple, &cell.attr, value.as_str()),
+        VarName::Equal(attr) => push_equality(out, attr),
+    }
+}
+
+fn push_reason(out: &mut Vec<u8>, reason: &ReasonName) -> Result<(), AllocError>
+    ensures { OnOk result (out.new.items ≡ out.old.items ++ line_text (reason_parts reason.now)) }
+{
+    match reason {
+        ReasonName::Clause(number) => {
+            out.extend_from_slice(b"clause ")?;
+            push_number(out, *number)
+        }
+        ReasonName::Two(one, other) => {
+            out.extend_from_slice(b"two ")?;
+            push_var(out, one)?;
+            out.push(b' ')?;
+            push_var(out, other)
+        }
+        ReasonName::NoneOf(cell) => {
+            out.extend_from_slice(b"none ")?;
+            push_cell_name(out, cell)
+        }
+    }
+}
+
+fn push_node(out: &mut Vec<u8>, node: &NodeName) -> Result<(), AllocError>
+    ensures { OnOk result (out.new.items ≡ out.old.items ++ line_text (node_parts node.now)) }
+{
+    match node {
+        NodeName::Split(var) => {
+            out.extend_from_slice(b"split ")?;
+            push_var(out, var)
+        }
+        NodeName::Leaf(reason) => {
+            out.extend_from_slice(b"leaf ")?;
+            push_reason(out, reason)
+        }
+        NodeName::Open => out.extend_from_slice(b"open"),
+    }
+}
+
+/// The nodes, one on a line.
+fn push_nodes(out: &mut Vec<u8>, nodes: &TreeNodes) -> Result<(), AllocError>
+    ensures { OnOk result (out.new.items ≡ out.old.items ++ file_text (map node_line nodes.now)) }
+{
+    for place in 0..nodes.len() {
+        push_node(out, nodes.node_at(place))?;
+        out.push(b'\n')?;
+    }
+    Ok(())
 }
 
 // ---- questions
@@ -167,7 +236,45 @@ fn push_counter(
     push_texts(out, "and", other)
 }
 
+fn push_answer(out: &mut Vec<u8>, kind: Kind, answer: &Answer) -> Result<(), AllocError>
+    ensures { OnOk result (out.new.items ≡ out.old.items ++ file_text (answer_lines kind answer.now)) }
+{
+    match answer {
+        Answer::Witness(one) => push_texts(out, "witness", one.values.as_slice()),
+        Answer::Counter(one, other) => {
+            push_texts(out, "counter", one.values.as_slice())?;
+            push_texts(out, "and", other.values.as_slice())
+        }
+        Answer::Tree(tree) => {
+            push_tree_line(out, kind, tree.budget)?;
+            push_nodes(out, &tree.nodes)
+        }
+    }
+}
+
+#[tactic(auto, unfolding(crate::specs::CertText::cert_text))]
+fn push_cert(out: &mut Vec<u8>, cert: &Cert) -> Result<(), AllocError>
+    ensures text { OnOk result (out.new.items ≡ out.old.items ++ cert_text cert.now) }
+    ensures written { IsWrittenCert cert.now }
+{
+    let parts = cert.parts();
+    push_question(out, &parts.asked.question)?;
+    out.push(b'\n')?;
+    push_answer(out, kind_of(&parts.asked.question), &parts.answer)
+}
+
 // ---- certificates
+
+/// The canonical text of a certificate, which is the same for all certificates that differ in the numbers of their lines
+/// alone.
+pub fn print_cert(alloc: Global, cert: &Cert) -> Result<Vec<u8>, AllocError>
+    ensures text { IfOk result (λ text. text.items ≡ cert_text cert.now) }
+    ensures read_again { IfOk result (λ text. reads_cert text.items ≡ Ok (with_canonical_lines cert.now)) }
+{
+    let mut out = Vec::new(alloc);
+    push_cert(&mut out, cert)?;
+    Ok(out)
+}
 
 /// The texts are what they were made of.
 fn see_texts(texts: &[Text])

@@ -6,7 +6,8 @@ ghost use Rattle.cert_text.specs.CertLines.{tuple_of, cell_at, value_at, var_at}
 ghost use Rattle.cert_text.specs.Written.{IsCellOf, IsVarOf};
 
 use crate::answers::Kind;
-use crate::names::{CellName, VarName, Which};
+use crate::names::{CellName, VarName};
+use cell_values::Which;
 use line_grammar::{Mark, Tokens, Unread};
 
 fn tuple_of(number: u64) -> Option<Which>

@@ -17,9 +17,9 @@ use Rattle.schema_core.specs.Schemas.{IsValidAttr}
 use Rattle.schema_core.specs.declared.schema.Attr.{Attr}
 use Rattle.case_tree.specs.declared.clauses.Literal.{Literal}
 use Rattle.case_tree.specs.CaseTree.{IsAllowed, IsTrueUnder}
-use Rattle.cell_values.specs.declared.side.Side.{Side}
-use Rattle.cell_values.specs.declared.side.Side.TheVariants.{Only, First, Second}
-use Rattle.cell_values.specs.declared.side.TupleCount.TheVariants.{One}
+use Rattle.cell_values.specs.declared.which.Which.{Which}
+use Rattle.cell_values.specs.declared.which.Which.TheVariants.{Only, First, Second}
+use Rattle.cell_values.specs.declared.which.TupleCount.TheVariants.{One}
 use Rattle.cell_values.specs.declared.values.CellValues.{CellValues}
 use Rattle.cell_values.specs.Layout.{value_var}
 use Rattle.cell_values.specs.Readings.{tuple_of}
@@ -34,7 +34,7 @@ use Rattle.cell_values.proofs.Lists.{all_flat_map, all_map}
 use Rattle.cell_values.proofs.Meaning.{IsCovered}
 use Rattle.cell_values.proofs.Occurs.{occurring_has, rises}
 use Rattle.cell_values.proofs.OneTuple.{IsRuleOf, left_said, MeetsCell, right_said, wide_here}
-use Rattle.cell_values.proofs.Order.{IsSideOf, Placed}
+use Rattle.cell_values.proofs.Order.{IsWhichOf, Placed}
 use Rattle.cell_values.proofs.Satisfied.{has_sides, Holds, holds_if_satisfied, implied, implies, one_satisfies}
 use Rattle.cell_values.proofs.Texts.{agrees_read, covered_at, good_at, is_tuple}
 use Rattle.cell_values.proofs.Told.{agrees_told, Tells, told, truth_of, tuple_at}
@@ -107,7 +107,7 @@ module _ (attrs : List Attr) (valid : AllByRecursion IsValidAttr attrs) (rules :
     unfolding truth_by
     told_by = told tuple tuple One cells
 
-    covered : (c : CellValues) → Contains cells c → (side : Side) → IsSideOf One side → IsCovered c (text_of (tuple_at tuple tuple side) c.attr)
+    covered : (c : CellValues) → Contains cells c → (which : Which) → IsWhichOf One which → IsCovered c (text_of (tuple_at tuple tuple which) c.attr)
     covered c there Only is = covered_at attrs valid rules tuple typed c there
     covered c there First is = absurd is
     covered c there Second is = absurd is

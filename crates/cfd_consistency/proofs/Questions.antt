@@ -15,8 +15,8 @@ use Rattle.case_tree.specs.CaseTree.{IsAllowed, IsWellFormed, Refutes, var_count
 use Rattle.case_tree.specs.declared.tree.Node.{Node}
 use Rattle.case_tree.proofs.Soundness.{sound}
 use Rattle.case_search.specs.Answer.{HasOneFree}
-use Rattle.cell_values.specs.declared.side.Side.TheVariants.{Only}
-use Rattle.cell_values.specs.declared.side.TupleCount.TheVariants.{One}
+use Rattle.cell_values.specs.declared.which.Which.TheVariants.{Only}
+use Rattle.cell_values.specs.declared.which.TupleCount.TheVariants.{One}
 use Rattle.cell_values.specs.declared.values.CellValues.{CellValues}
 use Rattle.cell_values.specs.Layout.{var_total}
 use Rattle.cell_values.specs.Readings.{HasAllowed}

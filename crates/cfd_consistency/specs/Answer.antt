@@ -19,11 +19,11 @@ pub record HasLaw (rules : Book) (table : ℕ) : Type 0 where
 
 -- A tuple that shows it, of texts that aren't long. A tree that refutes the question, and then there is no such tuple. A
 -- tree as far as it goes, with as many leaves as the budget, which is less than enough.
-abbrev pub IsAnswer : Book → ℕ → ℕ → Consistency → Type 0
-IsAnswer rules budget table (Witness tuple) = IsWitness rules table tuple × All (λ (text : List ℕ). length text ≤ answer_bytes) tuple
-IsAnswer rules budget table (Never tree) = Refutes (question rules table) tree × (leaf_count tree ≤ budget) × ¬ IsConsistent rules table
-IsAnswer rules budget table (Spent tree) = IsPartial (question rules table) tree × (leaf_count tree ≡ budget) × (budget < enough_of (question rules table).cells)
+abbrev pub IsConsistencyAnswer : Book → ℕ → ℕ → Consistency → Type 0
+IsConsistencyAnswer rules budget table (Witness tuple) = IsWitness rules table tuple × All (λ (text : List ℕ). length text ≤ answer_bytes) tuple
+IsConsistencyAnswer rules budget table (Never tree) = Refutes (question rules table) tree × (leaf_count tree ≤ budget) × ¬ IsConsistent rules table
+IsConsistencyAnswer rules budget table (Spent tree) = IsPartial (question rules table) tree × (leaf_count tree ≡ budget) × (budget < enough_of (question rules table).cells)
 
 -- the answer is one for the table of that name
-abbrev pub IsAnswerFor : Book → List ℕ → ℕ → Consistency → Type 0
-IsAnswerFor rules name budget answer = IfSome (table_place rules.schema name) (λ table. IsAnswer rules budget table answer)
+abbrev pub IsConsistencyAnswerFor : Book → List ℕ → ℕ → Consistency → Type 0
+IsConsistencyAnswerFor rules name budget answer = IfSome (table_place rules.schema name) (λ table. IsConsistencyAnswer rules budget table answer)

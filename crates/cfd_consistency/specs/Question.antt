@@ -9,8 +9,8 @@ use Rattle.schema_core.specs.declared.schema.Attr.{Attr}
 use Rattle.rule_model.specs.Books.{Book, book_deps}
 use Rattle.case_tree.specs.declared.clauses.Literal.{Literal}
 use Rattle.case_tree.specs.CaseTree.{ClauseSet}
-use Rattle.cell_values.specs.declared.side.Side.TheVariants.{Only}
-use Rattle.cell_values.specs.declared.side.TupleCount.TheVariants.{One}
+use Rattle.cell_values.specs.declared.which.Which.TheVariants.{Only}
+use Rattle.cell_values.specs.declared.which.TupleCount.TheVariants.{One}
 use Rattle.cell_values.specs.declared.values.CellValues.{CellValues}
 use Rattle.cell_values.specs.Layout.{var_cells}
 use Rattle.cell_values.specs.Readings.{tuple_of}

@@ -8,7 +8,7 @@ ghost use Rattle.cell_values.specs.Values.{AreFew};
 ghost use Rattle.cfd_consistency.specs.Question.{asks, rule_clauses};
 
 use case_tree::Literal;
-use cell_values::{CellValues, ClauseList, Rule, Side, TableRules, alone};
+use cell_values::{CellValues, ClauseList, Rule, TableRules, Which, alone};
 use cfd_semantics::Pattern;
 use rule_model::{Cell, DepRow};
 use std::alloc::{AllocError, Global};
@@ -52,10 +52,10 @@ fn push_row(
     clauses: &mut ClauseList,
 ) -> Result<(), AllocError>
     requires { AreFew values.now }
-    ensures { OnOk result (clauses.new ≡ clauses.old ++ (if asks row.now.a then alone values.now Side.Only rule.now row.now ∷ [] else [])) }
+    ensures { OnOk result (clauses.new ≡ clauses.old ++ (if asks row.now.a then alone values.now Which.Only rule.now row.now ∷ [] else [])) }
 {
     if asks(&row.a) {
-        clauses.push(alone(alloc, values, Side::Only, rule, row)?)?;
+        clauses.push(alone(alloc, values, Which::Only, rule, row)?)?;
     }
     Ok(())
 }

@@ -2,12 +2,12 @@
 
 ghost use Rattle.std.specs.Prelude.{◌≡◌, ◌≤◌, ◌↔◌, ◌<◌, None, Err, length, IfOk, IfSome};
 ghost use Rattle.schema_core.specs.Schemas.{table_place};
-ghost use Rattle.cfd_consistency.specs.Answer.{HasLaw, IsAnswer, IsAnswerFor};
+ghost use Rattle.cfd_consistency.specs.Answer.{HasLaw, IsConsistencyAnswer, IsConsistencyAnswerFor};
 
-use crate::question::Question;
+use crate::encoding::encoding;
 use case_search::{Found, decide};
 use case_tree::Tree;
-use cell_values::{Side, attrs_at, tuple_of};
+use cell_values::{Which, attrs_at, tuple_of};
 use rule_model::RuleBook;
 use schema_core::Texts;
 use std::alloc::{AllocError, Global};
@@ -50,7 +50,7 @@ pub fn consistent(
 ) -> Result<Consistency, DecideFault>
     requires some { 1 ≤ budget }
     requires within { budget ≤ 1000000 }
-    ensures answer { IfOk result (IsAnswerFor rules.now table.now budget) }
+    ensures answer { IfOk result (IsConsistencyAnswerFor rules.now table.now budget) }
     ensures law { IfSome (table_place rules.now.schema table.now) (HasLaw rules.now) }
     ensures unknown { (result ≡ Err DecideFault.UnknownTable) ↔ (table_place rules.now.schema table.now ≡ None) }
 {
@@ -69,14 +69,14 @@ fn decide_table(
     requires there { table < length rules.now.schema.tables }
     requires some { 1 ≤ budget }
     requires within { budget ≤ 1000000 }
-    ensures { IfOk result (IsAnswer rules.now budget table) }
+    ensures { IfOk result (IsConsistencyAnswer rules.now budget table) }
 {
-    let question = Question::new(alloc, rules, table)?;
-    match decide(alloc, &question.clauses, budget)? {
+    let encoding = encoding(alloc, rules, table)?;
+    match decide(alloc, &encoding.clauses, budget)? {
         Found::Model(truth) => {
             let attrs = attrs_at(rules.schema(), table);
-            let values = question.values.as_slice();
-            let tuple = tuple_of(alloc, Side::Only, attrs, values, &truth)?;
+            let values = encoding.values.as_slice();
+            let tuple = tuple_of(alloc, Which::Only, attrs, values, &truth)?;
             Ok(Consistency::Witness(tuple))
         }
         Found::Refuted(tree) => Ok(Consistency::Never(tree)),

@@ -5,7 +5,7 @@
 
 mod clauses;
 mod decider;
-mod question;
+mod encoding;
 
 pub use decider::{Consistency, DecideFault, consistent};
-pub use question::consistency_clauses;
+pub use encoding::consistency_clauses;

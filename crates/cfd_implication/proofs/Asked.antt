@@ -11,7 +11,7 @@ use Rattle.cfd_semantics.specs.Pattern.{matches, all_match}
 use Rattle.cfd_semantics.specs.Tuple.{same_values}
 use Rattle.cell_values.specs.declared.values.CellValues.{CellValues}
 use Rattle.cell_values.specs.TableRules.{Rule}
-use Rattle.cell_values.specs.declared.side.Side.TheVariants.{First}
+use Rattle.cell_values.specs.declared.which.Which.TheVariants.{First}
 use Rattle.cell_values.specs.Layout.{equal_var}
 use Rattle.cell_values.specs.RowClauses.{meets_at, misses_at}
 use Rattle.cell_values.proofs.OneTuple.{MeetsCell}

@@ -6,8 +6,8 @@ use Rattle.cfd_semantics.specs.declared.dependency.TableauRow.{TableauRow}
 use Rattle.schema_core.specs.Lookups.{domain_at}
 use Rattle.schema_core.specs.Schemas.{IsValidAttr}
 use Rattle.schema_core.specs.declared.schema.Attr.{Attr}
-use Rattle.cell_values.specs.declared.side.Side.TheVariants.{First, Second}
-use Rattle.cell_values.specs.declared.side.TupleCount.TheVariants.{Two}
+use Rattle.cell_values.specs.declared.which.Which.TheVariants.{First, Second}
+use Rattle.cell_values.specs.declared.which.TupleCount.TheVariants.{Two}
 use Rattle.cell_values.specs.Layout.{value_var}
 use Rattle.cell_values.specs.Standing.{Agrees}
 use Rattle.cell_values.specs.TableRules.{Rule, occurs}

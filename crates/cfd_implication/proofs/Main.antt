@@ -16,8 +16,8 @@ use Rattle.cfd_semantics.specs.Satisfaction.{Satisfies}
 use Rattle.case_tree.specs.CaseTree.{ClauseSet}
 use Rattle.schema_core.specs.Schemas.{IsValidAttr}
 use Rattle.schema_core.specs.declared.schema.Attr.{Attr}
-use Rattle.cell_values.specs.declared.side.Side.TheVariants.{First, Second}
-use Rattle.cell_values.specs.declared.side.TupleCount.TheVariants.{Two}
+use Rattle.cell_values.specs.declared.which.Which.TheVariants.{First, Second}
+use Rattle.cell_values.specs.declared.which.TupleCount.TheVariants.{Two}
 use Rattle.cell_values.specs.declared.values.CellValues.{CellValues}
 use Rattle.cell_values.specs.Layout.{equal_var, value_var, var_cells}
 use Rattle.cell_values.specs.Standing.{counts_as}

@@ -13,8 +13,8 @@ use Rattle.cell_values.specs.declared.values.CellValues.{CellValues}
 use Rattle.cell_values.specs.TableRules.{table_rules, rules_with}
 use Rattle.cell_values.specs.Tuples.{IsTupleOf}
 use Rattle.cell_values.specs.Values.{AreFew, occurring, values_for}
-use Rattle.cell_values.specs.declared.side.Side.TheVariants.{First, Second}
-use Rattle.cell_values.specs.declared.side.TupleCount.TheVariants.{Two}
+use Rattle.cell_values.specs.declared.which.Which.TheVariants.{First, Second}
+use Rattle.cell_values.specs.declared.which.TupleCount.TheVariants.{Two}
 use Rattle.cell_values.specs.Layout.{var_total}
 use Rattle.cell_values.proofs.Bounds.{cells_count}
 use Rattle.cell_values.proofs.Free.{all_one_free, well_formed}

@@ -22,9 +22,9 @@ use Rattle.schema_core.specs.declared.schema.Schema.{Schema}
 use Rattle.rule_model.specs.declared.dep.Dep.{Dep}
 use Rattle.rule_model.specs.Rules.{IsValidDep}
 use Rattle.rule_model.specs.Satisfied.{SatisfyDep}
-use Rattle.cell_values.specs.declared.side.Side.{Side}
-use Rattle.cell_values.specs.declared.side.Side.TheVariants.{Only, First, Second}
-use Rattle.cell_values.specs.declared.side.TupleCount.TheVariants.{Two}
+use Rattle.cell_values.specs.declared.which.Which.{Which}
+use Rattle.cell_values.specs.declared.which.Which.TheVariants.{Only, First, Second}
+use Rattle.cell_values.specs.declared.which.TupleCount.TheVariants.{Two}
 use Rattle.cell_values.specs.declared.values.CellValues.{CellValues}
 use Rattle.cell_values.specs.Layout.{equal_var, value_var}
 use Rattle.cell_values.specs.Readings.{constant_of, HasAllowed, tuple_of}
@@ -37,7 +37,7 @@ use Rattle.cell_values.proofs.Chosen.{Matched, equal_texts}
 use Rattle.cell_values.proofs.Meaning.{is_constant, IsCovered}
 use Rattle.cell_values.proofs.Occurs.{rises}
 use Rattle.cell_values.proofs.OneTuple.{IsRuleOf}
-use Rattle.cell_values.proofs.Order.{ArePair, IsSideOf, Placed}
+use Rattle.cell_values.proofs.Order.{ArePair, IsWhichOf, Placed}
 use Rattle.cell_values.proofs.Satisfied.{has_sides, list_same, same_list, same_text, sides_are, sides_in, text_same}
 use Rattle.cell_values.proofs.Tables.{from_table, rule_of_dep}
 use Rattle.cell_values.proofs.Texts.{agrees_read, chosen_is, covered_at, good_at, is_tuple, one_at, texts_fit}
@@ -84,7 +84,7 @@ module _ (attrs : List Attr) (valid : AllByRecursion IsValidAttr attrs) (rules :
   ]
   only_row (r ∷ s ∷ rows) row other one there other_there = absurd (omega arith)
 
-  covered_side : (one other : List (List ℕ)) → IsTupleOf attrs one → IsTupleOf attrs other → (c : CellValues) → Contains cells c → (side : Side) → IsSideOf Two side → IsCovered c (text_of (tuple_at one other side) c.attr)
+  covered_side : (one other : List (List ℕ)) → IsTupleOf attrs one → IsTupleOf attrs other → (c : CellValues) → Contains cells c → (which : Which) → IsWhichOf Two which → IsCovered c (text_of (tuple_at one other which) c.attr)
   covered_side one other one_tuple other_tuple c there Only is = absurd is
   covered_side one other one_tuple other_tuple c there First is = covered_at attrs valid (rules ++ asked ∷ []) one one_tuple c there
   covered_side one other one_tuple other_tuple c there Second is = covered_at attrs valid (rules ++ asked ∷ []) other other_tuple c there
@@ -227,7 +227,7 @@ module _ (attrs : List Attr) (valid : AllByRecursion IsValidAttr attrs) (rules :
         equal_texts truth c (good_at attrs valid (rules ++ asked ∷ []) c there) (equal_var cells c.attr) first second (constant_of truth first c) (constant_of truth second c) (text_of one c.attr) (text_of other c.attr) (matched c there)
         (one_at attrs valid (rules ++ asked ∷ []) truth Two all_clauses allowed Second tt c there) (chosen_is truth first c) (chosen_is truth second c) (texts_fit attrs valid (rules ++ asked ∷ []) truth c there)
 
-    agrees_side : (c : CellValues) → Contains cells c → (side : Side) → IsSideOf Two side → Agrees truth (value_var side cells c.attr) c (text_of (tuple_at one other side) c.attr)
+    agrees_side : (c : CellValues) → Contains cells c → (which : Which) → IsWhichOf Two which → Agrees truth (value_var which cells c.attr) c (text_of (tuple_at one other which) c.attr)
     agrees_side c there Only is = absurd is
     agrees_side c there First is = agrees_read attrs valid (rules ++ asked ∷ []) truth Two all_clauses allowed First tt c there
     agrees_side c there Second is = agrees_read attrs valid (rules ++ asked ∷ []) truth Two all_clauses allowed Second tt c there

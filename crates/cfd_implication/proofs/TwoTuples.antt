@@ -13,7 +13,7 @@ use Rattle.cfd_semantics.specs.Tuple.{same_values}
 use Rattle.cfd_semantics.specs.Violation.{Sides, sides_of}
 use Rattle.cfd_semantics.specs.Satisfaction.{Satisfies}
 use Rattle.cfd_semantics.proofs.Members.{contains_cases, contains_nothing}
-use Rattle.cell_values.specs.declared.side.Side.TheVariants.{First, Second}
+use Rattle.cell_values.specs.declared.which.Which.TheVariants.{First, Second}
 use Rattle.cell_values.specs.declared.values.CellValues.{CellValues}
 use Rattle.cell_values.specs.Layout.{equal_var}
 use Rattle.cell_values.specs.RowClauses.{alone, misses_left, yes}

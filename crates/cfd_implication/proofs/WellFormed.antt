@@ -11,8 +11,8 @@ use Rattle.cfd_semantics.specs.declared.dependency.TableauRow.{TableauRow}
 use Rattle.case_tree.specs.declared.clauses.Literal.{Literal}
 use Rattle.schema_core.specs.Schemas.{IsValidAttr}
 use Rattle.schema_core.specs.declared.schema.Attr.{Attr}
-use Rattle.cell_values.specs.declared.side.Side.TheVariants.{First, Second}
-use Rattle.cell_values.specs.declared.side.TupleCount.TheVariants.{Two}
+use Rattle.cell_values.specs.declared.which.Which.TheVariants.{First, Second}
+use Rattle.cell_values.specs.declared.which.TupleCount.TheVariants.{Two}
 use Rattle.cell_values.specs.declared.values.CellValues.{CellValues}
 use Rattle.cell_values.specs.Layout.{equal_var, value_var, var_total}
 use Rattle.cell_values.specs.RowClauses.{alone, meets_at, misses_at, misses_left, no, yes}

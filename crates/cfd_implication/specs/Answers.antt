@@ -5,7 +5,7 @@ use Rattle.case_tree.specs.CaseTree.{IsAllowed, IsPartial, Refutes, leaf_count}
 use Rattle.case_search.specs.Enough.{enough_of}
 use Rattle.rule_model.specs.declared.dep.Dep.{Dep}
 use Rattle.cell_values.specs.Readings.{HasAllowed}
-use Rattle.cell_values.specs.declared.side.Side.TheVariants.{First, Second}
+use Rattle.cell_values.specs.declared.which.Which.TheVariants.{First, Second}
 use Rattle.cfd_implication.specs.Implied.{IsCounter, IsImplied, IsNotImplied}
 use Rattle.cfd_implication.specs.Question.{question, stands_for}
 use Rattle.cfd_implication.specs.declared.answer.Implication.{Implication}
@@ -19,8 +19,8 @@ pub record HasLaw (schema : Schema) (deps : List Dep) (dep : Dep) : Type 0 where
 
 -- Two tuples that show that it isn't implied; a tree that refutes the question, and it is implied; or a tree that is right
 -- as far as it goes, with as many leaves as the budget, which is less than enough.
-abbrev pub IsAnswer : Schema → List Dep → Dep → ℕ → Implication → Type 0
-IsAnswer schema deps dep budget (Counter one other) = IsCounter schema deps dep one other
-IsAnswer schema deps dep budget (Implied tree) = Refutes (question schema deps dep) tree × (leaf_count tree ≤ budget) × IsImplied schema deps dep
-IsAnswer schema deps dep budget (Spent tree) =
+abbrev pub IsImplicationAnswer : Schema → List Dep → Dep → ℕ → Implication → Type 0
+IsImplicationAnswer schema deps dep budget (Counter one other) = IsCounter schema deps dep one other
+IsImplicationAnswer schema deps dep budget (Implied tree) = Refutes (question schema deps dep) tree × (leaf_count tree ≤ budget) × IsImplied schema deps dep
+IsImplicationAnswer schema deps dep budget (Spent tree) =
     IsPartial (question schema deps dep) tree × (leaf_count tree ≡ budget) × (budget < enough_of (question schema deps dep).cells)

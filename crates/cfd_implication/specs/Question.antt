@@ -9,9 +9,9 @@ use Rattle.cfd_semantics.specs.declared.dependency.TableauRow.{TableauRow}
 use Rattle.case_tree.specs.declared.clauses.Literal.{Literal}
 use Rattle.case_tree.specs.CaseTree.{ClauseSet}
 use Rattle.rule_model.specs.declared.dep.Dep.{Dep}
-use Rattle.cell_values.specs.declared.side.Side.{Side}
-use Rattle.cell_values.specs.declared.side.Side.TheVariants.{First, Second}
-use Rattle.cell_values.specs.declared.side.TupleCount.TheVariants.{Two}
+use Rattle.cell_values.specs.declared.which.Which.{Which}
+use Rattle.cell_values.specs.declared.which.Which.TheVariants.{First, Second}
+use Rattle.cell_values.specs.declared.which.TupleCount.TheVariants.{Two}
 use Rattle.cell_values.specs.declared.values.CellValues.{CellValues}
 use Rattle.cell_values.specs.Layout.{equal_var, value_var, var_cells}
 use Rattle.cell_values.specs.Readings.{tuple_of}
@@ -82,7 +82,7 @@ question schema deps dep =
     record { cells = var_cells Two 0 cells; clauses = clauses_of cells (table_rules dep.table deps) dep.rule }
 
 -- the tuples that an assignment of its variables stands for
-abbrev pub stands_for : Side → Schema → List Dep → Dep → (ℕ → Bool) → List (List ℕ)
-stands_for side schema deps dep truth =
+abbrev pub stands_for : Which → Schema → List Dep → Dep → (ℕ → Bool) → List (List ℕ)
+stands_for which schema deps dep truth =
     let attrs = attrs_at schema dep.table in
-    tuple_of side attrs (occurring attrs (rules_with dep.table deps (dep ∷ []))) truth
+    tuple_of which attrs (occurring attrs (rules_with dep.table deps (dep ∷ []))) truth

@@ -4,12 +4,12 @@ ghost use Rattle.std.specs.Prelude.{◌≡◌, ◌≤◌, length, All, IfOk};
 ghost use Rattle.schema_core.specs.Schemas.{IsValidSchema};
 ghost use Rattle.rule_model.specs.Books.{book_deps};
 ghost use Rattle.rule_model.specs.Rules.{IsValidDep};
-ghost use Rattle.cfd_implication.specs.Answers.{HasLaw, IsAnswer};
+ghost use Rattle.cfd_implication.specs.Answers.{HasLaw, IsImplicationAnswer};
 
 use crate::answer::Implication;
-use crate::question::Question;
+use crate::encoding::encoding;
 use case_search::{Found, decide};
-use cell_values::{Side, attrs_at, tuple_of};
+use cell_values::{Which, attrs_at, tuple_of};
 use rule_model::{Dep, RuleBook};
 use schema_core::{List, Schema};
 use std::alloc::{AllocError, Global};
@@ -29,7 +29,7 @@ pub fn implies_from(
     requires row { length dep.now.rule.rows ≡ 1 }
     requires some { 1 ≤ budget }
     requires within { budget ≤ 1000000 }
-    ensures answer { IfOk result (IsAnswer schema.now deps.now dep.now budget) }
+    ensures answer { IfOk result (IsImplicationAnswer schema.now deps.now dep.now budget) }
     ensures law { HasLaw schema.now deps.now dep.now }
 {
     let answer = decide_dep(alloc, schema, deps, dep, budget)?;
@@ -49,15 +49,15 @@ fn decide_dep(
     requires row { length dep.now.rule.rows ≡ 1 }
     requires some { 1 ≤ budget }
     requires within { budget ≤ 1000000 }
-    ensures { IfOk result (IsAnswer schema.now deps.now dep.now budget) }
+    ensures { IfOk result (IsImplicationAnswer schema.now deps.now dep.now budget) }
 {
-    let question = Question::new(alloc, schema, deps.as_slice(), dep)?;
-    match decide(alloc, &question.clauses, budget)? {
+    let encoding = encoding(alloc, schema, deps.as_slice(), dep)?;
+    match decide(alloc, &encoding.clauses, budget)? {
         Found::Model(truth) => {
             let attrs = attrs_at(schema, dep.table);
-            let cells = question.cells.as_slice();
-            let one = tuple_of(alloc, Side::First, attrs, cells, &truth)?;
-            let other = tuple_of(alloc, Side::Second, attrs, cells, &truth)?;
+            let values = encoding.values.as_slice();
+            let one = tuple_of(alloc, Which::First, attrs, values, &truth)?;
+            let other = tuple_of(alloc, Which::Second, attrs, values, &truth)?;
             Ok(Implication::Counter(one, other))
         }
         Found::Refuted(tree) => Ok(Implication::Implied(tree)),
@@ -76,7 +76,7 @@ pub fn implies(
     requires row { length dep.now.rule.rows ≡ 1 }
     requires some { 1 ≤ budget }
     requires within { budget ≤ 1000000 }
-    ensures answer { IfOk result (IsAnswer rules.now.schema (book_deps rules.now) dep.now budget) }
+    ensures answer { IfOk result (IsImplicationAnswer rules.now.schema (book_deps rules.now) dep.now budget) }
     ensures law { HasLaw rules.now.schema (book_deps rules.now) dep.now }
 {
     implies_from(alloc, rules.schema(), rules.deps(), dep, budget)

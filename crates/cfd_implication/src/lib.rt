@@ -4,10 +4,10 @@
 
 pub mod answer;
 mod decider;
+mod encoding;
 mod literals;
-mod question;
 mod rows;
 
 pub use answer::Implication;
 pub use decider::{implies, implies_from};
-pub use question::{clauses_from, implication_clauses};
+pub use encoding::{clauses_from, implication_clauses};

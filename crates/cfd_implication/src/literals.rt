@@ -5,7 +5,7 @@ ghost use Rattle.cell_values.specs.Values.{AreFew};
 ghost use Rattle.cfd_implication.specs.Question.{differ_on, together, breaks};
 
 use case_tree::Literal;
-use cell_values::{CellValues, Rule, Side, equal_var, no, push_misses_at, push_misses_left, yes};
+use cell_values::{CellValues, Rule, Which, equal_var, no, push_misses_at, push_misses_left, yes};
 use cfd_semantics::Pattern;
 use rule_model::{Cell, DepRow};
 use std::alloc::{AllocError, Global};
@@ -37,7 +37,7 @@ pub fn together(
 {
     let mut clause = Vec::new(alloc);
     push_differ_on(&mut clause, cells, rule.x.as_slice())?;
-    push_misses_left(&mut clause, cells, Side::First, rule, row)?;
+    push_misses_left(&mut clause, cells, Which::First, rule, row)?;
     clause.push(yes(equal_var(cells, rule.a)))?;
     Ok(clause)
 }
@@ -55,10 +55,10 @@ pub fn breaks(
     let mut clause = Vec::new(alloc);
     match cell {
         Pattern::Any => clause.push(no(equal_var(cells, attr)))?,
-        Pattern::Is(_) => push_misses_at(&mut clause, cells, Side::First, attr, cell)?,
+        Pattern::Is(_) => push_misses_at(&mut clause, cells, Which::First, attr, cell)?,
         Pattern::In(_) | Pattern::NotIn(_) => {
             clause.push(no(equal_var(cells, attr)))?;
-            push_misses_at(&mut clause, cells, Side::First, attr, cell)?;
+            push_misses_at(&mut clause, cells, Which::First, attr, cell)?;
         }
     }
     Ok(clause)

@@ -8,8 +8,8 @@ ghost use Rattle.cfd_implication.specs.Question.{constant_clauses, agreeing_at, 
 use crate::literals::{breaks, together};
 use case_tree::Literal;
 use cell_values::{
-    CellValues, ClauseList, Rule, Side, TableRules, alone, equal_var, no, push_meets_at, value_var,
-    yes,
+    CellValues, ClauseList, Rule, TableRules, Which, alone, equal_var, no, push_meets_at,
+    value_var, yes,
 };
 use cfd_semantics::Pattern;
 use rule_model::{Cell, DepRow};
@@ -29,12 +29,12 @@ pub fn push_row(
     match &row.a {
         Pattern::Any => out.push(together(alloc, cells, rule, row)?),
         Pattern::Is(_) => {
-            out.push(alone(alloc, cells, Side::First, rule, row)?)?;
-            out.push(alone(alloc, cells, Side::Second, rule, row)?)
+            out.push(alone(alloc, cells, Which::First, rule, row)?)?;
+            out.push(alone(alloc, cells, Which::Second, rule, row)?)
         }
         Pattern::In(_) | Pattern::NotIn(_) => {
-            out.push(alone(alloc, cells, Side::First, rule, row)?)?;
-            out.push(alone(alloc, cells, Side::Second, rule, row)?)?;
+            out.push(alone(alloc, cells, Which::First, rule, row)?)?;
+            out.push(alone(alloc, cells, Which::Second, rule, row)?)?;
             out.push(together(alloc, cells, rule, row)?)
         }
     }
@@ -100,8 +100,8 @@ fn push_constant(
     ensures { OnOk result (out.new ≡ out.old ++ constant_clauses cells.now attr place) }
 {
     let equal = equal_var(cells, attr);
-    let one = value_var(cells, Side::First, attr) + place;
-    let other = value_var(cells, Side::Second, attr) + place;
+    let one = value_var(cells, Which::First, attr) + place;
+    let other = value_var(cells, Which::Second, attr) + place;
     out.push(three(alloc, no(equal), no(one), yes(other))?)?;
     out.push(three(alloc, no(equal), no(other), yes(one))?)?;
     out.push(three(alloc, no(one), no(other), yes(equal))?)
@@ -157,7 +157,7 @@ fn push_asked_cell(
         Pattern::Any => Ok(()),
         Pattern::Is(_) | Pattern::In(_) | Pattern::NotIn(_) => {
             let mut clause = Vec::new(alloc);
-            push_meets_at(&mut clause, cells, Side::First, attr, cell)?;
+            push_meets_at(&mut clause, cells, Which::First, attr, cell)?;
             out.push(clause)
         }
     }

@@ -12,7 +12,7 @@ use Rattle.desk_entries.specs.Entries.{Entry, entry_at, is_overtaken, last_live,
 use Rattle.desk_events.specs.declared.event.Act.{Act}
 use Rattle.desk_events.specs.declared.event.Act.TheVariants as act
 use Rattle.desk_events.specs.declared.event.Event.{Event}
-use Rattle.desk_state.specs.Desk.{Answer, DeskModel, IsAnswer, act_answer, edit_answer, edit_seen, look_answer, made, opposite, row_named, take_back}
+use Rattle.desk_state.specs.Desk.{Answer, DeskModel, IsDeskAnswer, act_answer, edit_answer, edit_seen, look_answer, made, opposite, row_named, take_back}
 use Rattle.desk_state.specs.declared.reply.Reply.{Reply}
 use Rattle.desk_state.specs.declared.reply.Reply.TheVariants as reply
 use Rattle.desk.specs.OneHistory.{AreOneHistory, Lead}
@@ -78,5 +78,5 @@ acted desk editor act.TakeBack = let number = last_live desk.entries editor in t
 acted desk editor (act.Look table row) = looked desk row (row_named desk.rules desk.history.present table row)
 acted desk editor act.List = none_made desk
 
-pub answer_made : (desk : DeskModel) (event : Event) (told : Reply) (after : DeskModel) → IsAnswer desk event told after → AreOneHistory desk after
+pub answer_made : (desk : DeskModel) (event : Event) (told : Reply) (after : DeskModel) → IsDeskAnswer desk event told after → AreOneHistory desk after
 answer_made desk event told after is = subst (λ (answer : Answer). AreOneHistory desk answer.1) is (acted desk event.editor event.act)

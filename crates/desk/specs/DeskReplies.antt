@@ -9,7 +9,7 @@ use Rattle.session.specs.Replies.{fault_text, lines_text, refused_text}
 use Rattle.desk_events.specs.declared.event.Act.{Act}
 use Rattle.desk_events.specs.declared.event.Act.TheVariants as act
 use Rattle.desk_events.specs.declared.event.Event.{Event}
-use Rattle.desk_state.specs.Desk.{DeskModel, IsAnswer}
+use Rattle.desk_state.specs.Desk.{DeskModel, IsDeskAnswer}
 use Rattle.desk_state.specs.Probes.{IsWithin}
 use Rattle.desk_state.specs.declared.reply.Reply.{Reply}
 use Rattle.desk_state.specs.declared.reply.Reply.TheVariants as reply
@@ -54,7 +54,7 @@ reply_text rules asked reply.EditsSpent = refused_text (codes "EditsSpent")
 
 -- these bytes are written for the event at the desk before it, and this is the desk after it
 abbrev pub IsReply : Replies DeskModel Event
-IsReply before event bytes after = (told : Reply) × IsAnswer before event told after × (bytes ≡ reply_text before.rules event.act told)
+IsReply before event bytes after = (told : Reply) × IsDeskAnswer before event told after × (bytes ≡ reply_text before.rules event.act told)
 
 -- a desk with the count of probes so far
 abbrev pub Counted : Type 0

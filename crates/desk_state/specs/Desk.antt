@@ -153,8 +153,8 @@ abbrev pub answered : DeskModel → Event → Answer
 answered desk event = act_answer desk event.editor event.act
 
 -- this is the reply to the event, and the desk after it
-abbrev pub IsAnswer : DeskModel → Event → Reply → DeskModel → Type 0
-IsAnswer desk event reply after = answered desk event ≡ (reply, after)
+abbrev pub IsDeskAnswer : DeskModel → Event → Reply → DeskModel → Type 0
+IsDeskAnswer desk event reply after = answered desk event ≡ (reply, after)
 
 -- ---- what each reply is
 

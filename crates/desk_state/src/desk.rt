@@ -5,7 +5,7 @@ ghost use Rattle.bench_core.specs.Bench.{IsHistory};
 ghost use Rattle.bench_core.specs.Indexed.{edit_probes};
 ghost use Rattle.desk_entries.specs.Entries.{entry_at, last_live};
 ghost use Rattle.desk_entries.specs.Kept.{MayTake};
-ghost use Rattle.desk_state.specs.Desk.{AreTold, IsAnswer, act_answer, edit_answer, edit_seen, look_answer, row_named, take_last_back};
+ghost use Rattle.desk_state.specs.Desk.{AreTold, IsDeskAnswer, act_answer, edit_answer, edit_seen, look_answer, row_named, take_last_back};
 ghost use Rattle.desk_state.specs.LeftTexts.{AreAsLeft, IsReached};
 ghost use Rattle.desk_state.specs.Probes.{IsWithin, back_probes};
 
@@ -70,7 +70,7 @@ impl Desk {
         event: &Event,
         steps: &mut Steps<L>,
     ) -> Result<Reply, AllocError>
-        ensures ok { IfOk result (λ reply. IsAnswer self.old event.now reply self.new) }
+        ensures ok { IfOk result (λ reply. IsDeskAnswer self.old event.now reply self.new) }
         ensures memory { OnErr result (self.new ≡ self.old) }
         ensures made_with { (self.new.rules ≡ self.old.rules) × (self.new.limits ≡ self.old.limits) × (self.new.last ≡ self.old.last) }
         ensures valid { IsHistory self.new.rules self.new.limits self.new.history }

@@ -1,6 +1,6 @@
-//! The two real devices: files in a folder, and standard output.
+//! The two real devices, files in a folder and standard output, and the two in memory that never fail.
 
-use shelf_io::{FetchFault, FolderShelf, Shelf, StdSink, write_out};
+use shelf_io::{FetchFault, FolderShelf, Shelf, StdSink, SteadyShelf, SteadySink, write_out};
 use std::test::Fail;
 use std::{env, fs};
 
@@ -40,5 +40,20 @@ fn the_folder_is_read(rt: HostRuntime) -> Result<(), Fail> {
 fn standard_output_is_written(rt: HostRuntime) -> Result<(), Fail> {
     let mut sink = StdSink::new(rt.clone()?);
     assert_eq!(rt; write_out(&mut sink, b"written by a test\n"), Ok(()));
+    Ok(())
+}
+
+#[test]
+fn steady_devices_never_fail(rt: HostRuntime) -> Result<(), Fail> {
+    let alloc = rt.alloc();
+    let mut shelf = SteadyShelf::new(alloc);
+    shelf.hold("greeting", b"good day\n")?;
+    assert_eq!(rt; shelf.fetch("parting", 9).err(), Some(FetchFault::Absent));
+    let mut sink = SteadySink::new();
+    for most in [5, 9] {
+        let text = shelf.fetch("greeting", most)?;
+        assert_eq!(rt; write_out(&mut sink, &text), Ok(()));
+    }
+    assert_eq!(rt; sink.taken(), 14);
     Ok(())
 }

@@ -6,7 +6,7 @@ use Rattle.std.proofs.lemmas.List.{append-nil, drop_all, drop_at, drop_more, get
 use Rattle.std.proofs.lemmas.List.Elements.{All-append, All-cons, All-head, All-nil, All-tail}
 use Rattle.schema_core.specs.declared.schema.Schema.{Schema}
 use Rattle.rule_model.specs.declared.dep.Dep.{Dep}
-use Rattle.cfd_implication.specs.Answers.{IsAnswer}
+use Rattle.cfd_implication.specs.Answers.{IsImplicationAnswer}
 use Rattle.rule_cover.specs.declared.fates.Fate.{Fate}
 use Rattle.rule_cover.specs.declared.fates.Piece.{Piece}
 use Rattle.rule_cover.specs.CoverText.{AreFateTexts, IsFateText}
@@ -65,7 +65,7 @@ found_none schema budget pieces numbers long all = record {
 pub found_more : (schema : Schema) (budget : ℕ) (pieces : List Dep) (numbers : List Piece) (index : ℕ) (asked : AskedPiece) (fates : List (Piece × Fate)) (number : Piece) (fate : Fate)
     → index < length numbers → number ≡ get_or numbers index number
     → HasFound schema budget pieces numbers index (record { before = asked.before; after = asked.piece ∷ asked.after }) fates
-    → IsAnswer schema (asked.before ++ asked.after) asked.piece budget (answer_of fate)
+    → IsImplicationAnswer schema (asked.before ++ asked.after) asked.piece budget (answer_of fate)
     → HasFound schema budget pieces numbers (index + 1) (record { before = asked.before ++ again_if (stays fate) asked.piece; after = asked.after }) (fates ++ (number, fate) ∷ [])
 found_more schema budget pieces numbers index asked fates number fate lt is found answer = record {
   numbered = map_push (λ (f : Piece × Fate). f.0) fates (number, fate) ∙ ap (λ (ns : List Piece). ns ++ number ∷ []) found.numbered ∙ ap (λ (n : Piece). take index numbers ++ n ∷ []) is ∙ sym (take_more numbers index number lt);
@@ -78,7 +78,7 @@ found_more schema budget pieces numbers index asked fates number fate lt is foun
 pub found_pushed : (schema : Schema) (budget : ℕ) (pieces : List Dep) (numbers : List Piece) (index : ℕ) (asked : AskedPiece) (fates longer : List (Piece × Fate)) (number : Piece) (fate : Fate)
     → index < length numbers → longer ≡ fates ++ (number, fate) ∷ [] → number ≡ get_or numbers index number
     → HasFound schema budget pieces numbers index (round_of asked) fates
-    → IsAnswer schema (asked.before ++ asked.after) asked.piece budget (answer_of fate)
+    → IsImplicationAnswer schema (asked.before ++ asked.after) asked.piece budget (answer_of fate)
     → HasFound schema budget pieces numbers (index + 1) (next_round asked (stays fate)) longer
 found_pushed schema budget pieces numbers index asked fates longer number fate lt pushed is found answer =
     subst (λ (all : List (Piece × Fate)). HasFound schema budget pieces numbers (index + 1) (next_round asked (stays fate)) all) (sym pushed) (found_more schema budget pieces numbers index asked fates number fate lt is found answer)

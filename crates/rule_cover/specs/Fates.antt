@@ -2,7 +2,7 @@
 use Rattle.std.specs.Prelude.{◌≡◌, ℕ, Bool, true, false, List, [], ◌∷◌, ◌++◌, map}
 use Rattle.schema_core.specs.declared.schema.Schema.{Schema}
 use Rattle.rule_model.specs.declared.dep.Dep.{Dep}
-use Rattle.cfd_implication.specs.Answers.{IsAnswer}
+use Rattle.cfd_implication.specs.Answers.{IsImplicationAnswer}
 use Rattle.cfd_implication.specs.declared.answer.Implication.{Implication}
 use Rattle.cfd_implication.specs.declared.answer.Implication.TheVariants as answers
 use Rattle.rule_cover.specs.declared.fates.Fate.{Fate}
@@ -46,7 +46,7 @@ AreRight schema budget before [] [] = Unit {0}
 AreRight schema budget before [] (fate ∷ fates) = ⊥
 AreRight schema budget before (piece ∷ after) [] = ⊥
 AreRight schema budget before (piece ∷ after) (fate ∷ fates) =
-    IsAnswer schema (before ++ after) piece budget (answer_of fate.1) × AreRight schema budget (before ++ kept_piece piece fate) after fates
+    IsImplicationAnswer schema (before ++ after) piece budget (answer_of fate.1) × AreRight schema budget (before ++ kept_piece piece fate) after fates
 
 abbrev pub numbers_of : List (Piece × Fate) → List Piece
 numbers_of fates = map (λ (fate : Piece × Fate). fate.0) fates
@@ -67,7 +67,7 @@ AreSomeFates schema deps fates = (table : ℕ) × (budget : ℕ) × AreFates sch
 -- ---- whatever the budget
 
 abbrev pub IsSomeAnswer : Schema → List Dep → Dep → Fate → Type 0
-IsSomeAnswer schema others piece fate = (budget : ℕ) × IsAnswer schema others piece budget (answer_of fate)
+IsSomeAnswer schema others piece fate = (budget : ℕ) × IsImplicationAnswer schema others piece budget (answer_of fate)
 
 abbrev pub AreSomeRight : Schema → List Dep → List Dep → List (Piece × Fate) → Type 0
 AreSomeRight schema before after fates = (budget : ℕ) × AreRight schema budget before after fates

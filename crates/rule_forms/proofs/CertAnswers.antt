@@ -34,7 +34,7 @@ told_written outputs text bytes own status sink sink_after same is ends =
 -- ---- a table
 
 -- what is answered about the table of a name was found
-pub right_answer : (rules : Book) (budget : ℕ) (answer : Consistency) (place : Option ℕ) → 1 ≤ budget → budget ≤ 1000000 → IsSome place → IfSome place (λ table. consistency.IsAnswer rules budget table answer) → IsSomeAnd place (λ table. IsFound rules table answer)
+pub right_answer : (rules : Book) (budget : ℕ) (answer : Consistency) (place : Option ℕ) → 1 ≤ budget → budget ≤ 1000000 → IsSome place → IfSome place (λ table. consistency.IsConsistencyAnswer rules budget table answer) → IsSomeAnd place (λ table. IsFound rules table answer)
 right_answer rules budget answer None some within there right = absurd (cc)
 right_answer rules budget answer (Some table) some within there right = record { budget = budget; some = some; within = within; answer = right }
 
@@ -44,7 +44,7 @@ unspent cert budget enough none = subst (λ o. IfSome o (λ named. (named ≡ bu
 is_spent : (cert : CertParts) (leaves budget enough : ℕ) → spent_budget cert.answer ≡ Some leaves → leaves ≡ budget → budget < enough → IfSome (spent_budget cert.answer) (λ named. (named ≡ budget) × (budget < enough))
 is_spent cert leaves budget enough some same below = subst (λ o. IfSome o (λ named. (named ≡ budget) × (budget < enough))) (sym some) (same, below)
 
-of_table : (rules : Book) (name : List ℕ) (table budget : ℕ) (answer : Consistency) (cert : CertParts) → consistency.IsAnswer rules budget table answer → IsCertOf rules name table answer cert → IsRightCert rules cert
+of_table : (rules : Book) (name : List ℕ) (table budget : ℕ) (answer : Consistency) (cert : CertParts) → consistency.IsConsistencyAnswer rules budget table answer → IsCertOf rules name table answer cert → IsRightCert rules cert
     → Answers rules (Consistent name) budget (enough_of (consistency_question.question rules table).cells) cert
 of_table rules name table budget (found.Witness tuple) cert right is shown = record {
   asks = ap (λ (c : CertParts). c.asked.question) is;
@@ -68,17 +68,17 @@ status_of_table rules name table (found.Never tree) cert is = ap cert_status (sy
 status_of_table rules name table (found.Spent tree) cert is = ap cert_status (sym is.whole)
 
 -- the text of the certificate of what was answered about the table of a name answers its question
-pub table_told : (rules : Book) (name : List ℕ) (budget : ℕ) (answer : Consistency) (text : List ℕ) (place : Option ℕ) → IsSome place → IfSome place (λ table. consistency.IsAnswer rules budget table answer)
+pub table_told : (rules : Book) (name : List ℕ) (budget : ℕ) (answer : Consistency) (text : List ℕ) (place : Option ℕ) → IsSome place → IfSome place (λ table. consistency.IsConsistencyAnswer rules budget table answer)
     → IsRightText rules (λ cert. IfSome place (λ table. IsCertOf rules name table answer cert)) text
     → certificates (Answers rules (Consistent name) budget (enough_of (consistency_question.question rules (unwrap_or place 0)).cells)) text (consistency_status answer)
 table_told rules name budget answer text None there right right_text = absurd (cc)
 table_told rules name budget answer text (Some table) there right right_text =
-    (right_text.cert, of_table rules name table budget answer right_text.cert right right_text.is right_text.right, right_text.spelled, status_of_table rules name table answer right_text.cert right_text.is)
+    (right_text.cert, of_table rules name table budget answer right_text.cert right right_text.is.0 right_text.is.1, right_text.spelled, status_of_table rules name table answer right_text.cert right_text.is.0)
 
 -- ---- a dependency
 
 -- the certificate of what was answered about a dependency answers its question
-dep_answer : (rules : Book) (dep : Dep) (budget : ℕ) (answer : Implication) (cert : CertParts) → implication.IsAnswer rules.schema (book_deps rules) dep budget answer → IsCertOfDep rules dep answer cert → IsRightCert rules cert
+dep_answer : (rules : Book) (dep : Dep) (budget : ℕ) (answer : Implication) (cert : CertParts) → implication.IsImplicationAnswer rules.schema (book_deps rules) dep budget answer → IsCertOfDep rules dep answer cert → IsRightCert rules cert
     → Answers rules (Implies (decl_of rules.schema dep)) budget (enough_of (implication_question.question rules.schema (book_deps rules) dep).cells) cert
 dep_answer rules dep budget (told.Counter one other) cert right is shown = record {
   asks = ap (λ (c : CertParts). c.asked.question) is;
@@ -102,7 +102,7 @@ status_of_dep rules dep (told.Implied tree) cert is = ap cert_status (sym is.who
 status_of_dep rules dep (told.Spent tree) cert is = ap cert_status (sym is.whole)
 
 -- and so does its text
-pub dep_told : (rules : Book) (dep : Dep) (budget : ℕ) (answer : Implication) (text : List ℕ) → implication.IsAnswer rules.schema (book_deps rules) dep budget answer → IsRightText rules (IsCertOfDep rules dep answer) text
+pub dep_told : (rules : Book) (dep : Dep) (budget : ℕ) (answer : Implication) (text : List ℕ) → implication.IsImplicationAnswer rules.schema (book_deps rules) dep budget answer → IsRightText rules (IsCertOfDep rules dep answer) text
     → certificates (Answers rules (Implies (decl_of rules.schema dep)) budget (enough_of (implication_question.question rules.schema (book_deps rules) dep).cells)) text (implication_status answer)
 dep_told rules dep budget answer text right right_text =
-    (right_text.cert, dep_answer rules dep budget answer right_text.cert right right_text.is right_text.right, right_text.spelled, status_of_dep rules dep answer right_text.cert right_text.is)
+    (right_text.cert, dep_answer rules dep budget answer right_text.cert right right_text.is.0 right_text.is.1, right_text.spelled, status_of_dep rules dep answer right_text.cert right_text.is.0)

@@ -42,7 +42,7 @@ fn all_groups<L: Ledger>(
     ensures { IfOk result (AllZip (λ dep groups. AreGroups (dep_listed bench.now.history.present dep) groups) (book_deps bench.now.rules)) }
 {
     let mut all = List::new(alloc);
-    for number in 0..dep_count(bench) {
+    for number in 0..bench.queries().dep_count() {
         let groups = groups_at(alloc, bench, number, steps)?;
         all.push(groups)?;
     }
@@ -73,7 +73,7 @@ fn all_missing<L: Ledger>(
     ensures { IfOk result (AllZip (λ cind missing. AreMissing (cind_listed bench.now.history.present cind) missing) (book_cinds bench.now.rules)) }
 {
     let mut all = List::new(alloc);
-    for number in 0..cind_count(bench) {
+    for number in 0..bench.queries().cind_count() {
         let missing = missing_at(alloc, bench, number, steps)?;
         all.push(missing)?;
     }
@@ -94,16 +94,4 @@ fn missing_at<L: Ledger>(
     let cind = &bench.rules().cinds().as_slice()[number];
     let rows = listed_orphans(alloc, bench, cind, found.as_slice())?;
     missing_of(alloc, bench.pool(), rows)
-}
-
-fn dep_count(bench: &Bench) -> usize
-    ensures { result ≡ length (book_deps bench.now.rules) }
-{
-    bench.rules().deps().as_slice().len()
-}
-
-fn cind_count(bench: &Bench) -> usize
-    ensures { result ≡ length (book_cinds bench.now.rules) }
-{
-    bench.rules().cinds().as_slice().len()
 }

@@ -18,7 +18,7 @@ pub value_text-requires-clause-told : goal.value_text-requires-clause-told
 value_text-requires-clause-told c =
     let cells = c.args.cells.now in
     let cell = c.in-Some.cell.now in
-    let count = count_of c.args.side in
+    let count = count_of c.args.which in
     let found : find (λ (x : CellValues). nat_eq x.attr c.args.attr) cells ≡ Some cell = sym c.in-Some.ensures in
     let within = found_within count cells c.args.attr cell found in
     subst (λ (n : ℕ). attr_var count cells n + var_width count cell ≤ length c.args.truth.now) (sym (found_attr cells c.args.attr cell found).0) (omega (arith, within, c.requires.told))
@@ -27,9 +27,9 @@ pub value_text-requires-clause-own : goal.value_text-requires-clause-own
 value_text-requires-clause-own c =
     let cells = c.args.cells.now in
     let cell = c.in-Some.cell.now in
-    let side = c.args.side in
+    let which = c.args.which in
     let found : find (λ (x : CellValues). nat_eq x.attr c.args.attr) cells ≡ Some cell = sym c.in-Some.ensures in
-    subst (λ (n : ℕ). value_var side cells n + length cell.values ≤ length c.args.truth.now) (sym (found_attr cells c.args.attr cell found).0) (omega (arith, value_within side cells c.args.attr cell found, c.requires.told))
+    subst (λ (n : ℕ). value_var which cells n + length cell.values ≤ length c.args.truth.now) (sym (found_attr cells c.args.attr cell found).0) (omega (arith, value_within which cells c.args.attr cell found, c.requires.told))
 
 pub returns-in-Some : goal.returns-in-Some
 returns-in-Some c =
@@ -38,5 +38,5 @@ returns-in-Some c =
     let truth : ℕ → Bool = λ var. slice_index_or c.args.truth.now var false in
     let found : find (λ (x : CellValues). nat_eq x.attr c.args.attr) cells ≡ Some cell = sym c.in-Some.ensures in
     let named = (found_attr cells c.args.attr cell found).0 in
-    subst (λ (o : Option CellValues). IfOk c.value_text.result (λ text. text ≡ attr_text c.args.side cells truth c.args.attr c.args.domain.now o)) (sym found)
-    (subst (λ (n : ℕ). IfOk c.value_text.result (λ text. text ≡ value_text c.args.side cells truth n cell)) named c.value_text.ensures)
+    subst (λ (o : Option CellValues). IfOk c.value_text.result (λ text. text ≡ attr_text c.args.which cells truth c.args.attr c.args.domain.now o)) (sym found)
+    (subst (λ (n : ℕ). IfOk c.value_text.result (λ text. text ≡ value_text c.args.which cells truth n cell)) named c.value_text.ensures)

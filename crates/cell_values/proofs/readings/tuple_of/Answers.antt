@@ -19,10 +19,10 @@ loop-attr-preserved c =
     let attr = c.loop-attr.attr in
     let truth : ℕ → Bool = λ var. slice_index_or c.args.truth.now var false in
     let found : ℕ → Option CellValues = λ at. find (λ (cell : CellValues). cell.attr == at) cells in
-    let made : ℕ → List ℕ = λ at. attr_text c.args.side cells truth at (domain_at attrs at) (found at) in
+    let made : ℕ → List ℕ = λ at. attr_text c.args.which cells truth at (domain_at attrs at) (found at) in
     let item : Attr = c.index-attrs-attr.result in
     let domain-is : (get_or attrs attr item).domain ≡ domain_at attrs attr = sym (ap (λ (o : Option Attr). option_map_or (λ (a : Attr). a.domain) o AnyText) (slice_get-get_or attrs attr item c.loop-attr-test.true)) in
-    let text : c.in_ok-attr_text.field-0 ≡ made attr = c.in_ok-attr_text.ensures ∙ ap (λ (domain : Domain). attr_text c.args.side cells truth attr domain (found attr)) domain-is in
+    let text : c.in_ok-attr_text.field-0 ≡ made attr = c.in_ok-attr_text.ensures ∙ ap (λ (domain : Domain). attr_text c.args.which cells truth attr domain (found attr)) domain-is in
     c.in_ok-push.ensures.ok
     ∙ ap (λ (tuple : List (List ℕ)). tuple ++ c.in_ok-attr_text.field-0 ∷ []) c.loop-attr.invariant
     ∙ ap (λ (t : List ℕ). map made (range_with_len 0 attr) ++ t ∷ []) text

@@ -7,4 +7,4 @@ use Rattle.cell_values.proofs.readings.tuple_of.Given as goal
 
 -- the texts so far
 abbrev pub invariant-loop-attr : goal.invariant-loop-attr
-invariant-loop-attr l = l.tuple ≡ map (λ attr. attr_text l.side l.cells (λ var. slice_index_or l.truth var false) attr (domain_at l.attrs attr) (find (λ cell. cell.attr == attr) l.cells)) (range_with_len 0 l.attr)
+invariant-loop-attr l = l.tuple ≡ map (λ attr. attr_text l.which l.cells (λ var. slice_index_or l.truth var false) attr (domain_at l.attrs attr) (find (λ cell. cell.attr == attr) l.cells)) (range_with_len 0 l.attr)

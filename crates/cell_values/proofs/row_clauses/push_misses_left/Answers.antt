@@ -10,6 +10,6 @@ pub returns : goal.returns
 returns c =
     let left = c.loop-attr.attr-iterator.a.rest.now in
     let right = c.loop-attr.attr-iterator.b.rest.now in
-    let f = misses_at c.args.cells.now c.args.side in
+    let f = misses_at c.args.cells.now c.args.which in
     let ended : zip left right ≡ [] = elim c.in-None.ensures.steps [ inl p ↦ zip_left_ended left right p.1.0 | inr p ↦ zip_right_ended left right p.1.0 ] in
-    nothing_left c.loop-attr.clause.items (flat_map f (zip left right)) (c.args.clause.now.items ++ misses_left c.args.cells.now c.args.side c.args.rule.now c.args.row.now) (ap (flat_map f) ended) c.loop-attr.invariant
+    nothing_left c.loop-attr.clause.items (flat_map f (zip left right)) (c.args.clause.now.items ++ misses_left c.args.cells.now c.args.which c.args.rule.now c.args.row.now) (ap (flat_map f) ended) c.loop-attr.invariant

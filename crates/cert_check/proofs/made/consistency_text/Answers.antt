@@ -27,7 +27,7 @@ returns c =
     let made = subst (λ (name : List ℕ). IsCertOf rules name number answer told.cert) c.in_ok-new.ensures told.is in
     record {
       cert = told.cert;
-      is = subst (λ (found : Option ℕ). IfSome found (λ t. IsCertOf rules table t answer told.cert)) (sym place) made;
-      right = answer_right rules c.schema.ensures.valid number within table place answer told.cert found made;
+      is =
+          (subst (λ (found : Option ℕ). IfSome found (λ t. IsCertOf rules table t answer told.cert)) (sym place) made, answer_right rules c.schema.ensures.valid number within table place answer told.cert found made);
       spelled = told.spelled;
     }

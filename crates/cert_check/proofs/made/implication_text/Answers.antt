@@ -18,7 +18,6 @@ returns-clause-text c =
     let told = c.in_ok-text.ensures in
     record {
       cert = told.cert;
-      is = told.is;
-      right = told_right c.args.rules.now c.schema-schema.ensures.valid c.args.dep.now c.requires.dep c.requires.row c.args.answer.now told.cert c.requires.answer told.is;
+      is = (told.is, told_right c.args.rules.now c.schema-schema.ensures.valid c.args.dep.now c.requires.dep c.requires.row c.args.answer.now told.cert c.requires.answer told.is);
       spelled = told.spelled;
     }

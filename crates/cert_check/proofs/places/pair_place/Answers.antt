@@ -1,7 +1,7 @@
 use Rattle.std.proofs.Common.{◌≡◌, ◌+◌, ◌<◌, ◌≤◌, false, length, ◌∙◌, sym, ap, arith}
 use Rattle.std.specs.List.{position_or_len}
 use Rattle.cert_text.specs.declared.names.VarName.TheVariants.{Equal}
-use Rattle.cert_text.specs.declared.names.Which.TheVariants.{First, Second}
+use Rattle.cell_values.specs.declared.which.Which.TheVariants.{First, Second}
 use Rattle.cert_check.specs.Names.{same_var, value_vars}
 use Rattle.cert_check.proofs.NamePlaces.{pair_first, pair_second, value_vars_count}
 use Rattle.cert_check.proofs.Positions.{place_within}

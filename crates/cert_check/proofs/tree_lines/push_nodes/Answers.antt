@@ -5,7 +5,8 @@ use Rattle.case_tree.specs.declared.tree.Node.{Node}
 use Rattle.case_tree.specs.declared.tree.Node.TheVariants.{Unclosed}
 use Rattle.line_grammar.specs.Spelling.{file_text, line_text}
 use Rattle.cert_check.specs.Made.{IsFitNode, named_parts}
-use Rattle.cert_check.proofs.NodeTexts.{all_next, lines_next}
+use Rattle.cert_text.proofs.CertTexts.{lines_next}
+use Rattle.cert_check.proofs.NodeTexts.{all_next}
 use Rattle.cert_check.proofs.tree_lines.push_nodes.Goals as goal
 
 pub loop-node-preserved : goal.loop-node-preserved

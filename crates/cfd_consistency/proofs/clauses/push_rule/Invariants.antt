@@ -1,7 +1,7 @@
 use Rattle.std.proofs.Common.{◌≡◌, ◌++◌, take}
 use Rattle.std.specs.Prelude.{filter, map}
 use Rattle.cell_values.specs.RowClauses.{alone}
-use Rattle.cell_values.specs.declared.side.Side.TheVariants.{Only}
+use Rattle.cell_values.specs.declared.which.Which.TheVariants.{Only}
 use Rattle.cfd_consistency.specs.Question.{asks}
 use Rattle.cfd_consistency.proofs.clauses.push_rule.Given as goal
 

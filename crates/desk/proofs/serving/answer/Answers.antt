@@ -4,14 +4,14 @@ use Rattle.shelf_io.proofs.Transcripts.{front-not_begun, front-not_written}
 use Rattle.desk.specs.DeskReplies.{IsReply, reply_text}
 use Rattle.rule_model.specs.Books.{Book}
 use Rattle.desk_events.specs.declared.event.Event.{Event}
-use Rattle.desk_state.specs.Desk.{DeskModel, IsAnswer}
+use Rattle.desk_state.specs.Desk.{DeskModel, IsDeskAnswer}
 use Rattle.desk_state.specs.declared.reply.Reply.{Reply}
 use Rattle.desk.specs.OneHistory.{AreOneHistory}
 use Rattle.desk.proofs.OneHistory.{answer_made, none_made}
 use Rattle.desk.proofs.serving.answer.Goals as goal
 
 -- where the text of what was told is appended to an empty buffer, it is the reply
-reply-made : {X E : Type 0} (start end : DeskModel) (event : Event) (told : Reply) (rules : Book) (before after : List ℕ) (pushed : Result X E) → IsAnswer start event told end → before ≡ [] → rules ≡ start.rules
+reply-made : {X E : Type 0} (start end : DeskModel) (event : Event) (told : Reply) (rules : Book) (before after : List ℕ) (pushed : Result X E) → IsDeskAnswer start event told end → before ≡ [] → rules ≡ start.rules
     → OnOk pushed (after ≡ before ++ reply_text rules event.act told) → OnOk pushed (IsReply start event after end)
 reply-made start end event told rules before after (Ok done) is none same made =
     (told, is, made ∙ ap (λ (bytes : List ℕ). bytes ++ reply_text rules event.act told) none ∙ ap (λ (r : Book). reply_text r event.act told) same)

@@ -4,7 +4,7 @@ use Rattle.std.proofs.lemmas.List.{get_or_default}
 use Rattle.std.proofs.lemmas.List.Elements.{All-head, All-weaker}
 use Rattle.rule_model.specs.Rules.{IsValidDep}
 use Rattle.rule_model.specs.declared.dep.Dep.{Dep}
-use Rattle.cfd_implication.specs.Answers.{IsAnswer}
+use Rattle.cfd_implication.specs.Answers.{IsImplicationAnswer}
 use Rattle.cfd_implication.specs.declared.answer.Implication.{Implication}
 use Rattle.rule_cover.specs.declared.fates.Fate.{Fate}
 use Rattle.rule_cover.specs.declared.fates.Piece.{Piece}
@@ -57,9 +57,9 @@ loop-number-preserved c =
     let asked = c.ask-asked.result in
     let fate = c.fate_of-fate.result in
     let found = subst (λ (round : Halves). HasFound schema budget pieces numbers index round c.loop-number.fates) c.ask-asked.ensures c.loop-number.invariant in
-    let of_piece = subst (λ (d : Dep). IsAnswer schema c.others.result.now d budget c.in_ok-answer.answer) c.piece.ensures c.in_ok-answer.ensures.answer in
-    let of_others = subst (λ (ds : List Dep). IsAnswer schema ds asked.piece budget c.in_ok-answer.answer) c.others.ensures of_piece in
-    let answer = subst (λ (a : Implication). IsAnswer schema (asked.before ++ asked.after) asked.piece budget a) (sym c.fate_of-fate.ensures) of_others in
+    let of_piece = subst (λ (d : Dep). IsImplicationAnswer schema c.others.result.now d budget c.in_ok-answer.answer) c.piece.ensures c.in_ok-answer.ensures.answer in
+    let of_others = subst (λ (ds : List Dep). IsImplicationAnswer schema ds asked.piece budget c.in_ok-answer.answer) c.others.ensures of_piece in
+    let answer = subst (λ (a : Implication). IsImplicationAnswer schema (asked.before ++ asked.after) asked.piece budget a) (sym c.fate_of-fate.ensures) of_others in
     let lt = c.loop-number-test.true in
     let more = found_pushed schema budget pieces numbers index asked c.loop-number.fates c.push.new.self _ fate lt c.in_ok-push.ensures.ok (get_or_default numbers index _ _ lt) found answer in
     subst (λ (round : Halves). HasFound schema budget pieces numbers (index + 1) round c.push.new.self) (sym (c.in_ok-round.ensures ∙ ap (λ (b : Bool). next_round asked b) c.stays.ensures)) more

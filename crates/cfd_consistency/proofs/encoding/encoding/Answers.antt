@@ -10,14 +10,14 @@ use Rattle.rule_model.specs.Books.{Book, book_deps}
 use Rattle.case_tree.specs.CaseTree.{IsWellFormed, clause_set, literals_of}
 use Rattle.case_tree.specs.declared.clauses.Literal.{Literal}
 use Rattle.case_tree.specs.declared.clauses.VarCell.{VarCell}
-use Rattle.cell_values.specs.declared.side.TupleCount.TheVariants.{One}
+use Rattle.cell_values.specs.declared.which.TupleCount.TheVariants.{One}
 use Rattle.cell_values.specs.declared.values.CellValues.{CellValues}
 use Rattle.cell_values.specs.Layout.{var_cells}
 use Rattle.cell_values.specs.TableRules.{Rule, rules_with}
 use Rattle.cell_values.specs.Values.{AreFew, occurring}
 use Rattle.cfd_consistency.specs.Question.{question, question_of, rule_clauses}
 use Rattle.cfd_consistency.proofs.Questions.{question_well_formed}
-use Rattle.cfd_consistency.proofs.question.Question.new.Goals as goal
+use Rattle.cfd_consistency.proofs.encoding.encoding.Goals as goal
 
 -- the values that were gathered are those of the table
 values-are : (book : Book) (table : ℕ) (attrs : List Attr) (rules : List Rule) (values : List CellValues) → values ≡ occurring attrs rules → attrs ≡ attrs_at book.schema table → rules ≡ rules_with table (book_deps book) [] → values ≡ occurring (attrs_at book.schema table) (rules_with table (book_deps book) [])

@@ -9,7 +9,7 @@ pub enum TupleCount {
 
 /// The only tuple of a question about one, or the first or the second of two.
 #[derive(Clone, Copy, Debug, PartialEq, Eq)]
-pub enum Side {
+pub enum Which {
     Only,
     First,
     Second,

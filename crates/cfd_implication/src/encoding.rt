@@ -14,7 +14,9 @@ ghost use Rattle.cfd_implication.specs.Question.{agreeing_at, asked_clauses, cla
 
 use crate::rows::{push_agreeing, push_asked, push_rules};
 use case_tree::{Clauses, Literal};
-use cell_values::{CellValues, ClauseList, TableRules, TupleCount, attrs_at, occurring, var_cells};
+use cell_values::{
+    CellValues, ClauseList, Encoding, TableRules, TupleCount, attrs_at, occurring, var_cells,
+};
 use rule_model::{Dep, RuleBook};
 use schema_core::{List, Schema};
 use std::alloc::{AllocError, Global};
@@ -70,37 +72,29 @@ fn clauses_of(
     Ok(out.into_vec())
 }
 
-/// The values of the attributes that occur, and the clauses over their variables.
-#[derive(Drop)]
-pub struct Question {
-    pub cells: List<CellValues>,
-    pub clauses: Clauses,
-}
-
-impl Question {
-    pub fn new(
-        alloc: Global,
-        schema: &Schema,
-        deps: &[Dep],
-        dep: &Dep,
-    ) -> Result<Question, AllocError>
-        requires schema { IsValidSchema schema.now }
-        requires deps { All (IsValidDep schema.now) deps.now }
-        requires dep { IsValidDep schema.now dep.now }
-        ensures cells { IfOk result (λ q. q.cells ≡ occurring (attrs_at schema.now dep.now.table) (rules_with dep.now.table deps.now (dep.now ∷ []))) }
-        ensures few { IfOk result (λ q. AreFew q.cells) }
-        ensures clauses { IfOk result (λ q. q.clauses ≡ question schema.now deps.now dep.now) }
-    {
-        let attrs = attrs_at(schema, dep.table);
-        let all = TableRules::new(alloc, dep.table, deps, slice::from_ref(dep))?;
-        let cells = occurring(alloc, attrs, &all)?;
-        let vars = var_cells(alloc, TupleCount::Two, cells.as_slice())?;
-        let clauses = clauses_of(alloc, cells.as_slice(), deps, dep)?;
-        Ok(Question {
-            clauses: Clauses::new(vars, clauses),
-            cells,
-        })
-    }
+/// The question as clauses.
+pub(crate) fn encoding(
+    alloc: Global,
+    schema: &Schema,
+    deps: &[Dep],
+    dep: &Dep,
+) -> Result<Encoding, AllocError>
+    requires schema { IsValidSchema schema.now }
+    requires deps { All (IsValidDep schema.now) deps.now }
+    requires dep { IsValidDep schema.now dep.now }
+    ensures values { IfOk result (λ q. q.values ≡ occurring (attrs_at schema.now dep.now.table) (rules_with dep.now.table deps.now (dep.now ∷ []))) }
+    ensures few { IfOk result (λ q. AreFew q.values) }
+    ensures clauses { IfOk result (λ q. q.clauses ≡ question schema.now deps.now dep.now) }
+{
+    let attrs = attrs_at(schema, dep.table);
+    let all = TableRules::new(alloc, dep.table, deps, slice::from_ref(dep))?;
+    let values = occurring(alloc, attrs, &all)?;
+    let vars = var_cells(alloc, TupleCount::Two, values.as_slice())?;
+    let clauses = clauses_of(alloc, values.as_slice(), deps, dep)?;
+    Ok(Encoding {
+        clauses: Clauses::new(vars, clauses),
+        values,
+    })
 }
 
 /// The clauses of the question whether dependencies of a table imply one more over it. Those of other tables are passed
@@ -117,7 +111,7 @@ pub fn clauses_from(
     ensures clauses { IfOk result (λ clauses. clauses ≡ question schema.now deps.now dep.now) }
     ensures law { length dep.now.rule.rows ≡ 1 → HasLaw schema.now deps.now dep.now }
 {
-    Ok(Question::new(alloc, schema, deps.as_slice(), dep)?.clauses)
+    Ok(encoding(alloc, schema, deps.as_slice(), dep)?.clauses)
 }
 
 /// The same over the dependencies of a book.
