@@ -14,7 +14,7 @@ use std::alloc::{AllocError, Global};
 const FIRST_RESTART: u64 = 100;
 
 // How many literals of learned clauses are kept at most, when a restart comes.
-const MOST_LITERALS: usize = 1_000_000;
+const MOST_LITERALS: usize = 200_000;
 
 #[derive(Debug, Drop)]
 struct Learner {

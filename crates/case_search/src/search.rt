@@ -26,9 +26,12 @@ pub enum Found {
 // What is settled within so many leaves is settled by the search in the order of places.
 const FIRST_LEAVES: u64 = 1000;
 
+// Of the leaves beyond these, how many there are for each conflict of the search by learning: one takes longer than a leaf.
+const LEAVES_A_CONFLICT: u64 = 10;
+
 /// Searches in the order of places for the first 1,000 leaves. Where the question is open then and the budget is
-/// greater, it looks for a model by learning, with as many conflicts as the budget has leaves, and then searches again
-/// from the root, the variables of the latest conflict first, and prunes the tree that it comes to.
+/// greater, it looks for a model by learning, with at most 1,000 conflicts and one more for each ten leaves beyond, and
+/// then searches again from the root, the variables of the latest conflict first, and prunes the tree that it comes to.
 pub fn decide(alloc: Global, clauses: &Clauses, budget: u64) -> Result<Found, AllocError>
     requires one_free { All (HasOneFree clauses.now) clauses.now.clauses }
     requires some { 1 ≤ budget }
@@ -52,7 +55,7 @@ fn go_on(alloc: Global, clauses: &Clauses, budget: u64) -> Result<Found, AllocEr
     requires within { budget ≤ 1000000 }
     ensures { IfOk result (IsDecision clauses.now budget) }
 {
-    if let Some(values) = find_model(alloc, clauses, budget)? {
+    if let Some(values) = find_model(alloc, clauses, conflicts_for(budget))? {
         return Ok(Found::Model(values));
     }
     match walk(alloc, clauses, Order::ByConflicts, budget)? {
@@ -60,6 +63,11 @@ fn go_on(alloc: Global, clauses: &Clauses, budget: u64) -> Result<Found, AllocEr
         Found::Refuted(tree) => Ok(Found::Refuted(shorter(alloc, clauses, tree, budget)?)),
         Found::Spent(tree) => Ok(Found::Spent(tree)),
     }
+}
+
+// How many conflicts the search by learning may come to.
+fn conflicts_for(budget: u64) -> u64 {
+    FIRST_LEAVES.saturating_add(budget.saturating_sub(FIRST_LEAVES) / LEAVES_A_CONFLICT)
 }
 
 // The tree without the splits that it doesn't need, where that refutes the clauses too.
