@@ -4,7 +4,6 @@
 #![tactic(auto)]
 
 mod clause_list;
-mod encoding;
 mod fresh;
 mod layout;
 mod literals;
@@ -16,7 +15,6 @@ mod values;
 pub mod which;
 
 pub use clause_list::ClauseList;
-pub use encoding::Encoding;
 pub use layout::{equal_var, value_var, var_cells};
 pub use readings::tuple_of;
 pub use row_clauses::{alone, no, push_meets_at, push_misses_at, push_misses_left, yes};
