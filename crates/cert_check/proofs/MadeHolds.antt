@@ -25,7 +25,7 @@ use Rattle.schema_core.specs.declared.schema.Attr.{Attr}
 use Rattle.schema_core.specs.declared.schema.Schema.{Schema}
 use Rattle.case_tree.specs.CaseTree.{leaf_count}
 use Rattle.cfd_semantics.specs.declared.dependency.TableauRow.{TableauRow}
-use Rattle.rule_model.specs.Books.{Book, IsBook}
+use Rattle.rule_model.specs.Books.{Book, IsBook, book_deps}
 use Rattle.rule_model.specs.Judged.{judged_dep}
 use Rattle.rule_model.specs.Rules.{IsCellOf, IsConstantOf, IsValidDep, IsValidRow}
 use Rattle.rule_model.specs.declared.dep.Dep.{Dep}
@@ -41,10 +41,10 @@ use Rattle.cert_text.specs.declared.cert.Answer.{Answer}
 use Rattle.cert_text.specs.declared.cert.Answer.TheVariants.{Witness, Counter, Tree}
 use Rattle.cert_text.specs.declared.cert.CertParts.{CertParts}
 use Rattle.cert_text.specs.declared.cert.NodeLine.{NodeLine}
-use Rattle.cert_check.specs.Made.{IsCertOf, IsCertOfDep, IsFound, IsFoundOfDep, IsWrittenAnswer, IsWrittenDepAnswer, decl_of, decl_row}
-use Rattle.cfd_implication.specs.Question.{question}
-use Rattle.cert_check.specs.Shown.{Asks, DepShows, IsShortTuple, IsRightCert, TableShows, TreeShows, accepted, asks_consistency, asks_implication, nodes_of}
-use Rattle.cert_check.proofs.QuestionNames.{names_of_one, names_of_two}
+use Rattle.cert_check.specs.Made.{IsCertOfDep, IsFound, IsFoundOfDep, IsNamedCert, IsRightText, IsSomeText, IsWrittenAnswer, IsWrittenDepAnswer, decl_of, decl_row}
+use Rattle.cfd_implication.specs.Question.{AskedDep, asked_of, question}
+use Rattle.cert_check.specs.Shown.{Asks, DepShows, IsShortTuple, IsRightCert, TableShows, TreeShows, accepted, asks_consistency, asks_from, asks_implication, nodes_of}
+use Rattle.cert_check.proofs.QuestionNames.{names_from, names_of_one, names_of_two}
 use Rattle.cert_check.proofs.NodesBack.{shown_by, tree_named}
 
 short_by : (attrs : List Attr) (tuple : List (List ℕ)) → IsTupleOf attrs tuple → AllByRecursion (λ (text : List ℕ). length text ≤ answer_bytes) tuple → IsShortTuple attrs tuple
@@ -74,14 +74,14 @@ some_texts attrs tuple some typed = omega (arith, AllZip-long (λ (attr : Attr) 
 
 module _ (rules : Book) (good : IsBook rules) (table : ℕ) (within : table < length rules.schema.tables) where
   -- of a right answer each node has a name
-  pub found_named : (answer : Consistency) → IsFound rules table answer → IsWrittenAnswer (asks_consistency rules table).names answer
+  pub found_named : (answer : Consistency) → IsFound (record { rules = rules; table = table }) answer → IsWrittenAnswer (asks_consistency rules table).names answer
   found_named (found.Witness tuple) is = some_texts (attrs_at rules.schema table) tuple (some_attrs rules.schema table good.schema within) is.answer.0.typed
   found_named (found.Never tree) is = let refutes = is.answer.0 in tree_named (asks_consistency rules table).set (asks_consistency rules table).names (names_of_one rules good table within) refutes.tree tree refutes.listed refutes.right
   found_named (found.Spent tree) is =
       let partial = is.answer.0 in
       (tree_named (asks_consistency rules table).set (asks_consistency rules table).names (names_of_one rules good table within) partial.tree tree partial.listed partial.right, budget_of (leaf_count tree) is.budget is.answer.1 is.some is.within)
 
-  pub answer_right : (name : List ℕ) → table_place rules.schema name ≡ Some table → (answer : Consistency) (cert : CertParts) → IsFound rules table answer → IsCertOf rules name table answer cert → IsRightCert rules cert
+  pub answer_right : (name : List ℕ) → table_place rules.schema name ≡ Some table → (answer : Consistency) (cert : CertParts) → IsFound (record { rules = rules; table = table }) answer → IsNamedCert (asks_consistency rules table).names name answer cert → IsRightCert rules cert
   answer_right name is (found.Witness tuple) cert found made =
       let shows : TableShows rules (Witness (tuple_line 2 tuple)) table = (short_tuple (attrs_at rules.schema table) tuple found.answer.0.typed found.answer.1, found.answer.0.satisfies) in
       subst (IsRightCert rules) (sym made) (subst (λ (o : Option ℕ). IsSomeAnd o (TableShows rules (Witness (tuple_line 2 tuple)))) (sym is) shows)
@@ -107,26 +107,27 @@ accepted_by schema dep (row ∷ other ∷ rows) valid dep_valid are one = absurd
 accepted_by schema dep (row ∷ []) valid dep_valid are one =
     ap (λ (rs : List (TableauRow (List ℕ))). judged_dep schema (record (decl_of schema dep) { rows = map decl_row rs })) are ∙ judged_again schema dep row valid dep_valid are
 
-module _ (rules : Book) (good : IsBook rules) (dep : Dep) (valid : IsValidDep rules.schema dep) (one : length dep.rule.rows ≡ 1) where
-  pub told_named : (answer : Implication) → IsFoundOfDep rules dep answer → IsWrittenDepAnswer (asks_implication rules dep).names answer
+module _ (schema : Schema) (deps : List Dep) (dep : Dep) (valid : IsValidSchema schema) (dep_valid : IsValidDep schema dep) where
+  pub told_named : (answer : Implication) → IsFoundOfDep (record { schema = schema; deps = deps; dep = dep }) answer → IsWrittenDepAnswer (asks_from schema deps dep).names answer
   told_named (told.Counter left right) is =
-      let some = some_attrs rules.schema dep.table good.schema valid.table in
-      (some_texts (attrs_at rules.schema dep.table) left some is.answer.one_tuple, some_texts (attrs_at rules.schema dep.table) right some is.answer.other_tuple)
-  told_named (told.Implied tree) is = let refutes = is.answer.0 in tree_named (asks_implication rules dep).set (asks_implication rules dep).names (names_of_two rules good dep valid) refutes.tree tree refutes.listed refutes.right
+      let some = some_attrs schema dep.table valid dep_valid.table in
+      (some_texts (attrs_at schema dep.table) left some is.answer.one_tuple, some_texts (attrs_at schema dep.table) right some is.answer.other_tuple)
+  told_named (told.Implied tree) is = let refutes = is.answer.0 in tree_named (asks_from schema deps dep).set (asks_from schema deps dep).names (names_from schema deps dep valid dep_valid) refutes.tree tree refutes.listed refutes.right
   told_named (told.Spent tree) is =
       let partial = is.answer.0 in
-      (tree_named (asks_implication rules dep).set (asks_implication rules dep).names (names_of_two rules good dep valid) partial.tree tree partial.listed partial.right, budget_of (leaf_count tree) is.budget is.answer.1 is.some is.within)
+      (tree_named (asks_from schema deps dep).set (asks_from schema deps dep).names (names_from schema deps dep valid dep_valid) partial.tree tree partial.listed partial.right, budget_of (leaf_count tree) is.budget is.answer.1 is.some is.within)
 
+  pub judged_decl : length dep.rule.rows ≡ 1 → judged_dep schema (decl_of schema dep) ≡ Ok (nameless dep)
+  judged_decl one = accepted_by schema dep dep.rule.rows valid dep_valid refl one
+
+module _ (rules : Book) (good : IsBook rules) (dep : Dep) (valid : IsValidDep rules.schema dep) (one : length dep.rule.rows ≡ 1) where
   -- the question of the dependency without its name is the same
   same_asks : asks_implication rules (nameless dep) ≡ asks_implication rules dep
   unfolding question
   same_asks = refl
 
-  pub judged_decl : judged_dep rules.schema (decl_of rules.schema dep) ≡ Ok (nameless dep)
-  judged_decl = accepted_by rules.schema dep dep.rule.rows good.schema valid refl one
-
   asked : accepted (judged_dep rules.schema (decl_of rules.schema dep)) ≡ Some (nameless dep)
-  asked = ap accepted judged_decl
+  asked = ap accepted (judged_decl rules.schema (book_deps rules) dep good.schema valid one)
 
   at_answer : (answer : Answer) → DepShows rules answer (nameless dep) → IsSomeAnd (accepted (judged_dep rules.schema (decl_of rules.schema dep))) (DepShows rules answer)
   at_answer answer shows = subst (λ (o : Option Dep). IsSomeAnd o (DepShows rules answer)) (sym asked) shows
@@ -134,7 +135,7 @@ module _ (rules : Book) (good : IsBook rules) (dep : Dep) (valid : IsValidDep ru
   at_tree : (budget : Option ℕ) (nodes : List NodeLine) → TreeShows (asks_implication rules dep).set budget (nodes_of (asks_implication rules dep).names nodes) → TreeShows (asks_implication rules (nameless dep)).set budget (nodes_of (asks_implication rules (nameless dep)).names nodes)
   at_tree budget nodes shows = subst (λ (a : Asks). TreeShows a.set budget (nodes_of a.names nodes)) (sym same_asks) shows
 
-  pub told_right : (answer : Implication) (cert : CertParts) → IsFoundOfDep rules dep answer → IsCertOfDep rules dep answer cert → IsRightCert rules cert
+  pub told_right : (answer : Implication) (cert : CertParts) → IsFoundOfDep (asked_of rules dep) answer → IsCertOfDep (asked_of rules dep) answer cert → IsRightCert rules cert
   told_right (told.Counter left right) cert found made =
       let attrs = attrs_at rules.schema dep.table in
       let counter = found.answer in
@@ -149,6 +150,20 @@ module _ (rules : Book) (good : IsBook rules) (dep : Dep) (valid : IsValidDep ru
       let budget = Some (leaf_count tree) in
       let shows = shown_by asks.set asks.names (names_of_two rules good dep valid) budget tree made.named made.nodes (found.answer.0, refl) in
       subst (IsRightCert rules) (sym made.whole) (at_answer (Tree (tree_lines budget made.named)) (at_tree budget (node_lines 3 made.named) shows))
+
+-- over the book that the question was made of
+pub right_over : (asked : AskedDep) (answer : Implication) (text : List ℕ) → IsValidDep asked.schema asked.dep → length asked.dep.rule.rows ≡ 1 → IsFoundOfDep asked answer → IsSomeText (IsCertOfDep asked answer) text
+    → (rules : Book) (dep : Dep) → IsBook rules → asked ≡ asked_of rules dep → IsRightText rules (IsCertOfDep (asked_of rules dep) answer) text
+right_over asked answer text valid one found told rules dep good is =
+    let valid-dep : IsValidDep rules.schema dep = subst (λ (a : AskedDep). IsValidDep a.schema a.dep) is valid in
+    let one-row : length dep.rule.rows ≡ 1 = subst (λ (a : AskedDep). length a.dep.rule.rows ≡ 1) is one in
+    let found-is = subst (λ (a : AskedDep). IsFoundOfDep a answer) is found in
+    let cert-is = subst (λ (a : AskedDep). IsCertOfDep a answer told.cert) is told.is in
+    record {
+      cert = told.cert;
+      is = (cert-is, told_right rules good dep valid-dep one-row answer told.cert found-is cert-is);
+      spelled = told.spelled;
+    }
 
 -- ---- the declaration can be written
 

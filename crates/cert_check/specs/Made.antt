@@ -3,7 +3,6 @@ use Rattle.std.specs.Prelude.{◌≡◌, ℕ, ◌+◌, ◌≤◌, List, [], ◌�
 use Rattle.std.specs.List.{AllZip}
 use Rattle.std.specs.Option.{option_map, option_map_or}
 use Rattle.schema_core.specs.Lookups.{attrs_at}
-use Rattle.schema_core.specs.Schemas.{table_place}
 use Rattle.schema_core.specs.declared.schema.Schema.{Schema}
 use Rattle.case_tree.specs.CaseTree.{CaseTree, ClauseSet, IsRightAt, leaf_count, places, preorder}
 use Rattle.case_tree.specs.declared.tree.Node.{Node}
@@ -11,15 +10,17 @@ use Rattle.case_tree.specs.declared.tree.Node.TheVariants as nodes
 use Rattle.case_tree.specs.declared.tree.Reason.{Reason}
 use Rattle.case_tree.specs.declared.tree.Reason.TheVariants as reasons
 use Rattle.cfd_semantics.specs.declared.dependency.TableauRow.{TableauRow}
-use Rattle.rule_model.specs.Books.{Book, book_deps}
+use Rattle.rule_model.specs.Books.{Book}
 use Rattle.rule_model.specs.declared.decl.CfdDecl.{CfdDecl}
 use Rattle.rule_model.specs.declared.decl.CfdRow.{CfdRow}
 use Rattle.rule_model.specs.declared.dep.Dep.{Dep}
 use Rattle.rule_parser.specs.RuleText.{table_name, attr_name}
 use Rattle.cfd_consistency.specs.Answer as consistency
+use Rattle.cfd_consistency.specs.Question.{AskedTable}
 use Rattle.cfd_consistency.specs.declared.decider.Consistency.{Consistency}
 use Rattle.cfd_consistency.specs.declared.decider.Consistency.TheVariants as found
 use Rattle.cfd_implication.specs.Answers as implication
+use Rattle.cfd_implication.specs.Question.{AskedDep}
 use Rattle.cfd_implication.specs.declared.answer.Implication.{Implication}
 use Rattle.cfd_implication.specs.declared.answer.Implication.TheVariants as told
 use Rattle.cert_text.specs.Written.{IsBudget, IsNodeOf}
@@ -35,7 +36,7 @@ use Rattle.cert_text.specs.declared.names.ReasonName.TheVariants.{Clause, Two, N
 use Rattle.cert_text.specs.declared.names.NodeName.{NodeName}
 use Rattle.cert_text.specs.declared.names.NodeName.TheVariants.{Split, Leaf, Open}
 use Rattle.cert_check.specs.Names.{Names, named_cell}
-use Rattle.cert_check.specs.Shown.{IsRightCert, asks_consistency, asks_implication}
+use Rattle.cert_check.specs.Shown.{IsRightCert, asks_consistency, asks_from}
 
 -- ---- nodes by names
 
@@ -97,6 +98,16 @@ pub record IsTreeText (names : Names) (tree : List Node) (text : List ℕ) : Typ
 
 -- ---- questions by names
 
+abbrev pub names_asked : AskedTable → Names
+names_asked asked = (asks_consistency asked.rules asked.table).names
+
+abbrev pub names_asked_of : AskedDep → Names
+names_asked_of asked = (asks_from asked.schema asked.deps asked.dep).names
+
+-- the name of the table that is asked about
+abbrev pub name_of : AskedTable → List ℕ
+name_of asked = table_name asked.rules.schema asked.table
+
 abbrev pub decl_row : TableauRow (List ℕ) → CfdRow
 decl_row row = record { x = row.x; y = row.a ∷ [] }
 
@@ -120,20 +131,24 @@ pub record IsTreeCert (names : Names) (question : Question) (budget : Option ℕ
   pub nodes : AreNamed names tree named
   pub whole : cert ≡ case_cert question budget named
 
--- the lines are those of the canonical text, and the parts those of the answer
-abbrev pub IsCertOf : Book → List ℕ → ℕ → Consistency → CertParts → Type 0
-IsCertOf rules name table (found.Witness tuple) cert = cert ≡ witness_cert name tuple
-IsCertOf rules name table (found.Never tree) cert = IsTreeCert (asks_consistency rules table).names (Consistent name) None tree cert
-IsCertOf rules name table (found.Spent tree) cert = IsTreeCert (asks_consistency rules table).names (Consistent name) (Some (leaf_count tree)) tree cert
+-- the canonical certificate of an answer about a table of that name
+abbrev pub IsNamedCert : Names → List ℕ → Consistency → CertParts → Type 0
+IsNamedCert names name (found.Witness tuple) cert = cert ≡ witness_cert name tuple
+IsNamedCert names name (found.Never tree) cert = IsTreeCert names (Consistent name) None tree cert
+IsNamedCert names name (found.Spent tree) cert = IsTreeCert names (Consistent name) (Some (leaf_count tree)) tree cert
 
-abbrev pub IsCertOfDep : Book → Dep → Implication → CertParts → Type 0
-IsCertOfDep rules dep (told.Counter one other) cert = cert ≡ counter_cert (decl_of rules.schema dep) one other
-IsCertOfDep rules dep (told.Implied tree) cert = IsTreeCert (asks_implication rules dep).names (Implies (decl_of rules.schema dep)) None tree cert
-IsCertOfDep rules dep (told.Spent tree) cert = IsTreeCert (asks_implication rules dep).names (Implies (decl_of rules.schema dep)) (Some (leaf_count tree)) tree cert
+-- and about a dependency that is declared so
+abbrev pub IsDeclaredCert : Names → CfdDecl → Implication → CertParts → Type 0
+IsDeclaredCert names decl (told.Counter one other) cert = cert ≡ counter_cert decl one other
+IsDeclaredCert names decl (told.Implied tree) cert = IsTreeCert names (Implies decl) None tree cert
+IsDeclaredCert names decl (told.Spent tree) cert = IsTreeCert names (Implies decl) (Some (leaf_count tree)) tree cert
 
--- of the table of a name
-abbrev pub IsCertOfTable : Book → List ℕ → Consistency → CertParts → Type 0
-IsCertOfTable rules name answer cert = IfSome (table_place rules.schema name) (λ table. IsCertOf rules name table answer cert)
+-- of what was answered to a question: about the table by its name, and about the dependency by its declaration
+abbrev pub IsCertOf : AskedTable → Consistency → CertParts → Type 0
+IsCertOf asked answer cert = IsNamedCert (names_asked asked) (name_of asked) answer cert
+
+abbrev pub IsCertOfDep : AskedDep → Implication → CertParts → Type 0
+IsCertOfDep asked answer cert = IsDeclaredCert (names_asked_of asked) (decl_of asked.schema asked.dep) answer cert
 
 -- the text of some certificate
 pub record IsSomeText (IsOne : CertParts → Type 0) (text : List ℕ) : Type 0 where
@@ -148,14 +163,14 @@ IsRightText rules IsOne text = IsSomeText (λ cert. IsOne cert × IsRightCert ru
 -- ---- right answers
 
 -- the answer of a decider within some budget
-pub record IsFound (rules : Book) (table : ℕ) (given : Consistency) : Type 0 where
+pub record IsFound (asked : AskedTable) (given : Consistency) : Type 0 where
   pub budget : ℕ
   pub some : 1 ≤ budget
   pub within : budget ≤ 1000000
-  pub answer : consistency.IsConsistencyAnswer rules budget table given
+  pub answer : consistency.IsConsistencyAnswer asked.rules budget asked.table given
 
-pub record IsFoundOfDep (rules : Book) (dep : Dep) (given : Implication) : Type 0 where
+pub record IsFoundOfDep (asked : AskedDep) (given : Implication) : Type 0 where
   pub budget : ℕ
   pub some : 1 ≤ budget
   pub within : budget ≤ 1000000
-  pub answer : implication.IsImplicationAnswer rules.schema (book_deps rules) dep budget given
+  pub answer : implication.IsImplicationAnswer asked.schema asked.deps asked.dep budget given

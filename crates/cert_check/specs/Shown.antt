@@ -12,9 +12,7 @@ use Rattle.rule_model.specs.Judged.{judged_dep}
 use Rattle.rule_model.specs.Satisfied.{SatisfyDep}
 use Rattle.rule_model.specs.declared.dep.Dep.{Dep}
 use Rattle.rule_model.specs.declared.fault.RuleFault.{RuleFault}
-use Rattle.cell_values.specs.TableRules.{rules_with}
 use Rattle.cell_values.specs.Tuples.{answer_bytes}
-use Rattle.cell_values.specs.Values.{occurring}
 use Rattle.cfd_consistency.specs.Question as consistency
 use Rattle.cfd_implication.specs.Implied.{SatisfyTable}
 use Rattle.cfd_implication.specs.Question as implication
@@ -52,20 +50,16 @@ pub record Asks : Type 0 where
   pub names : Names
 
 abbrev pub asks_consistency : Book → ℕ → Asks
-asks_consistency rules table =
-    let attrs = attrs_at rules.schema table in
-    record {
-      set = consistency.question rules table;
-      names = names_of Consistency attrs (occurring attrs (rules_with table (book_deps rules) []));
-    }
+asks_consistency rules table = record {
+  set = consistency.question rules table;
+  names = names_of Consistency (attrs_at rules.schema table) (consistency.table_values rules table);
+}
 
 abbrev pub asks_from : Schema → List Dep → Dep → Asks
-asks_from schema deps dep =
-    let attrs = attrs_at schema dep.table in
-    record {
-      set = implication.question schema deps dep;
-      names = names_of Implication attrs (occurring attrs (rules_with dep.table deps (dep ∷ [])));
-    }
+asks_from schema deps dep = record {
+  set = implication.question schema deps dep;
+  names = names_of Implication (attrs_at schema dep.table) (implication.asked_values schema deps dep);
+}
 
 abbrev pub asks_implication : Book → Dep → Asks
 asks_implication rules dep = asks_from rules.schema (book_deps rules) dep

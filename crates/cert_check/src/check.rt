@@ -2,7 +2,6 @@
 
 ghost use Rattle.std.specs.Prelude.{◌≡◌, ◌↔◌, ◌<◌, ◌∷◌, [], length, IfOk, IfSome, IsTrue};
 ghost use Rattle.schema_core.specs.Lookups.{attrs_at};
-ghost use Rattle.schema_core.specs.Schemas.{IsValidSchema};
 ghost use Rattle.case_tree.specs.CaseTree.{IsOneTree};
 ghost use Rattle.rule_model.specs.Books.{IsBook, book_deps};
 ghost use Rattle.rule_model.specs.Judged.{judged_dep};
@@ -13,7 +12,7 @@ ghost use Rattle.cert_text.specs.Written.{IsAnswerTo, IsWrittenCert, shapes};
 ghost use Rattle.cert_text.specs.declared.answers.Kind.TheVariants.{Consistency, Implication};
 ghost use Rattle.cert_check.specs.Right.{IsRight};
 ghost use Rattle.cert_check.specs.declared.verdict.CertVerdict.{CertVerdict as AnyVerdict};
-ghost use Rattle.cert_check.specs.Shown.{IsRightCert, IsShortTuple, Refute, accepted, asks_consistency, asks_from, asks_implication};
+ghost use Rattle.cert_check.specs.Shown.{IsRightCert, IsShortTuple, Refute, accepted, asks_consistency, asks_implication};
 ghost use Rattle.cert_check.specs.Verdict.{ConsistencyLines, CounterLines, ImplicationLines, IsCertVerdict, LineOf, TreePasses, WitnessLines};
 
 use crate::copies::copy_decl;
@@ -21,15 +20,13 @@ use crate::names::Naming;
 use crate::trees::check_tree;
 use crate::tuples::{is_short_tuple, one_row, satisfy, satisfy_table, two_rows};
 use crate::verdict::CertVerdict;
-use cell_values::{TableRules, attrs_at};
-use cert_text::answers::Kind;
+use cell_values::attrs_at;
 use cert_text::{Answer, Cert, CertParts, Question, TreeLines, TupleLine};
-use cfd_consistency::consistency_clauses;
-use cfd_implication::implication_clauses;
+use cfd_consistency::TableQuestion;
+use cfd_implication::DepQuestion;
 use rule_model::{AddFault, CfdDecl, Dep, RuleBook, judge_dep};
 use schema_core::{Schema, Texts};
 use std::alloc::{AllocError, Global};
-use std::slice;
 
 /// Whether the texts are a tuple of a table, none too long.
 fn is_tuple_of(rules: &RuleBook, table: usize, tuple: &Texts) -> bool
@@ -51,51 +48,6 @@ fn satisfies(
     let rows = one_row(alloc, tuple)?;
     let yes = satisfy_table(alloc, table, rules.deps().as_slice(), rows.as_slice())?;
     Ok(yes)
-}
-
-/// The names of the question of a table.
-pub fn naming_of_table(
-    alloc: Global,
-    rules: &RuleBook,
-    table: usize,
-) -> Result<Naming<'_>, AllocError>
-    requires { table < length rules.now.schema.tables }
-    ensures { IfOk result (λ names. names ≡ (asks_consistency rules.now table).names) }
-{
-    let attrs = attrs_at(rules.schema(), table);
-    let of_table = TableRules::new(alloc, table, rules.deps().as_slice(), &[])?;
-    let names = Naming::new(alloc, Kind::Consistency, attrs, &of_table)?;
-    Ok(names)
-}
-
-/// The names of the question whether dependencies imply one more.
-pub fn naming_from<'a>(
-    alloc: Global,
-    schema: &'a Schema,
-    deps: &[Dep],
-    dep: &Dep,
-) -> Result<Naming<'a>, AllocError>
-    requires schema { IsValidSchema schema.now }
-    requires dep { IsValidDep schema.now dep.now }
-    ensures { IfOk result (λ names. names ≡ (asks_from schema.now deps.now dep.now).names) }
-{
-    let attrs = attrs_at(schema, dep.table);
-    let with_asked = TableRules::new(alloc, dep.table, deps, slice::from_ref(dep))?;
-    let names = Naming::new(alloc, Kind::Implication, attrs, &with_asked)?;
-    Ok(names)
-}
-
-/// The same over the dependencies of a book.
-pub fn naming_of_dep<'a>(
-    alloc: Global,
-    rules: &'a RuleBook,
-    dep: &Dep,
-) -> Result<Naming<'a>, AllocError>
-    requires { IsValidDep rules.now.schema dep.now }
-    ensures { IfOk result (λ names. names ≡ (asks_implication rules.now dep.now).names) }
-{
-    let names = naming_from(alloc, rules.schema(), rules.deps().as_slice(), dep)?;
-    Ok(names)
 }
 
 fn check_witness(
@@ -128,9 +80,9 @@ fn check_consistency_tree(
     requires tree { IsOneTree (shapes lines.now.nodes) }
     ensures { IfOk result (TreePasses (asks_consistency rules.now table) lines.now) }
 {
-    let names = naming_of_table(alloc, rules, table)?;
-    let clauses = consistency_clauses(alloc, rules, table)?;
-    let verdict = check_tree(alloc, &clauses, &names, lines)?;
+    let asked = TableQuestion::new(alloc, rules, table)?;
+    let names = Naming::of_table(&asked);
+    let verdict = check_tree(alloc, asked.clauses(), &names, lines)?;
     Ok(verdict)
 }
 
@@ -205,9 +157,9 @@ fn check_implication_tree(
     requires tree { IsOneTree (shapes lines.now.nodes) }
     ensures { IfOk result (TreePasses (asks_implication rules.now dep.now) lines.now) }
 {
-    let names = naming_of_dep(alloc, rules, dep)?;
-    let clauses = implication_clauses(alloc, rules, dep)?;
-    let verdict = check_tree(alloc, &clauses, &names, lines)?;
+    let asked = DepQuestion::of_book(alloc, rules, dep)?;
+    let names = Naming::of_dep(&asked);
+    let verdict = check_tree(alloc, asked.clauses(), &names, lines)?;
     Ok(verdict)
 }
 

@@ -1,31 +1,28 @@
 //! The texts of the certificates of the deciders' answers.
 
-ghost use Rattle.std.specs.Prelude.{◌≡◌, ◌+◌, ◌<◌, ◌≤◌, Ok, [], length, map, IfOk, IfSome, IsSomeAnd};
-ghost use Rattle.schema_core.specs.Lookups.{attrs_at};
+ghost use Rattle.std.specs.Prelude.{◌≡◌, ◌<◌, Ok, [], length, map, IfOk, IfSome};
 ghost use Rattle.text_lists.specs.Names.{IsName};
-ghost use Rattle.schema_core.specs.Schemas.{table_place};
 ghost use Rattle.case_tree.specs.CaseTree.{leaf_count};
+ghost use Rattle.rule_model.specs.Books.{Book, IsBook};
 ghost use Rattle.rule_model.specs.Judged.{judged_dep};
 ghost use Rattle.rule_model.specs.Rules.{AreAttrsOf, IsValidDep};
+ghost use Rattle.rule_model.specs.declared.dep.Dep.{Dep as AnyDep};
 ghost use Rattle.rule_parser.specs.RuleText.{attr_name, table_name};
-ghost use Rattle.cert_text.specs.Canonical.{counter_cert};
+ghost use Rattle.cfd_implication.specs.Question.{asked_of};
 ghost use Rattle.cert_text.specs.CertFiles.{kind_of};
-ghost use Rattle.cert_text.specs.CertText.{IsCertText};
 ghost use Rattle.rule_parser.specs.ReadRules.{IsDepDecl};
 ghost use Rattle.cert_text.specs.Written.{IsBudget, IsQuestion};
-ghost use Rattle.cert_check.specs.Made.{HaveNames, IsCertOf, IsCertOfDep, IsCertOfTable, IsFound, IsFoundOfDep, IsRightText, IsSomeText, IsTreeCert, IsWrittenAnswer, IsWrittenDepAnswer, decl_of, decl_row};
-ghost use Rattle.cert_check.specs.Shown.{asks_consistency, asks_implication};
+ghost use Rattle.cert_check.specs.Made.{HaveNames, IsCertOf, IsCertOfDep, IsDeclaredCert, IsFound, IsFoundOfDep, IsNamedCert, IsRightText, IsSomeText, IsTreeCert, IsWrittenAnswer, IsWrittenDepAnswer, decl_of, decl_row, name_of, names_asked, names_asked_of};
 
-use crate::check::{naming_of_dep, naming_of_table};
 use crate::copies::{copy_cell, copy_cells};
 use crate::names::{Naming, attr_name};
 use crate::tree_lines::push_nodes;
 use case_tree::{Node, Tree};
 use cell_values::attrs_at;
 use cert_text::{Question, counter_text, tree_head, witness_text};
-use cfd_consistency::Consistency;
-use cfd_implication::Implication;
-use rule_model::{CfdDecl, CfdRow, Dep, DepRow, RuleBook};
+use cfd_consistency::{Consistency, TableQuestion};
+use cfd_implication::{DepQuestion, Implication};
+use rule_model::{CfdDecl, CfdRow, Dep, DepRow};
 use schema_core::{Attr, List, Schema, Text, Texts};
 use std::alloc::{AllocError, Global};
 use std::slice;
@@ -64,63 +61,73 @@ fn tree_cert_text(
 
 // ---- consistency
 
-/// The text of a certificate with a tree about a table, by its number and its name.
+fn table_name(schema: &Schema, number: usize) -> &Text
+    requires { number < length schema.now.tables }
+    ensures { result.now ≡ table_name schema.now number }
+{
+    &schema.tables.as_slice()[number].name
+}
+
+/// The name of the table that is asked about.
+fn name_of<'a>(asked: &'a TableQuestion<'_>) -> &'a Text
+    ensures name { result.now ≡ name_of asked.now }
+    ensures spelled { IsName result.now }
+    ensures book { IsBook asked.now.rules }
+    ensures there { asked.now.table < length asked.now.rules.schema.tables }
+{
+    table_name(asked.rules().schema(), asked.table())
+}
+
+/// The text of a certificate with a tree about a table of that name.
 fn table_tree_text(
     alloc: Global,
-    rules: &RuleBook,
-    number: usize,
-    name: Text,
+    asked: &TableQuestion<'_>,
+    name: &Text,
     budget: Option<u64>,
     tree: &Tree,
 ) -> Result<Vec<u8>, AllocError>
-    requires there { number < length rules.now.schema.tables }
-    requires name { IsName name }
+    requires name { IsName name.now }
     requires budget { IfSome budget IsBudget }
-    requires named { HaveNames (asks_consistency rules.now number).names tree.now }
-    ensures { IfOk result (λ text. IsSomeText (IsTreeCert (asks_consistency rules.now number).names (Question.Consistent name) budget tree.now) text.items) }
+    requires named { HaveNames (names_asked asked.now) tree.now }
+    ensures { IfOk result (λ text. IsSomeText (IsTreeCert (names_asked asked.now) (Question.Consistent name.now) budget tree.now) text.items) }
 {
-    let names = naming_of_table(alloc, rules, number)?;
-    let text = tree_cert_text(alloc, &names, &Question::Consistent(name), budget, tree)?;
+    let question = Question::Consistent(name.clone()?);
+    let names = Naming::of_table(asked);
+    let text = tree_cert_text(alloc, &names, &question, budget, tree)?;
     Ok(text)
 }
 
-/// The text of the certificate of an answer about a table, by its number and its name.
+/// The text of the certificate of an answer about a table of that name.
 fn table_text(
     alloc: Global,
-    rules: &RuleBook,
-    number: usize,
-    name: Text,
+    asked: &TableQuestion<'_>,
+    name: &Text,
     answer: &Consistency,
 ) -> Result<Vec<u8>, AllocError>
-    requires there { number < length rules.now.schema.tables }
-    requires name { IsName name }
-    requires answer { IsWrittenAnswer (asks_consistency rules.now number).names answer.now }
-    ensures { IfOk result (λ text. IsSomeText (IsCertOf rules.now name number answer.now) text.items) }
+    requires name { IsName name.now }
+    requires answer { IsWrittenAnswer (names_asked asked.now) answer.now }
+    ensures { IfOk result (λ text. IsSomeText (IsNamedCert (names_asked asked.now) name.now answer.now) text.items) }
 {
     match answer {
-        Consistency::Witness(tuple) => witness_text(alloc, &name, tuple.as_slice()),
-        Consistency::Never(tree) => table_tree_text(alloc, rules, number, name, None, tree),
+        Consistency::Witness(tuple) => witness_text(alloc, name, tuple.as_slice()),
+        Consistency::Never(tree) => table_tree_text(alloc, asked, name, None, tree),
         Consistency::Spent(tree) => {
             let budget = leaf_count(tree.nodes());
-            table_tree_text(alloc, rules, number, name, Some(budget), tree)
+            table_tree_text(alloc, asked, name, Some(budget), tree)
         }
     }
 }
 
-/// The text of the certificate of what the decider of consistency answered.
+/// The text of the certificate of what was answered to a question about a table.
 pub fn consistency_text(
     alloc: Global,
-    rules: &RuleBook,
-    table: &str,
+    asked: &TableQuestion<'_>,
     answer: &Consistency,
 ) -> Result<Vec<u8>, AllocError>
-    requires { IsSomeAnd (table_place rules.now.schema table.now) (λ number. IsFound rules.now number answer.now) }
-    ensures { IfOk result (λ text. IsRightText rules.now (IsCertOfTable rules.now table.now answer.now) text.items) }
+    requires { IsFound asked.now answer.now }
+    ensures { IfOk result (λ text. IsRightText asked.now.rules (IsCertOf asked.now answer.now) text.items) }
 {
-    let Some(number) = rules.schema().table_named(table) else {
-        unreachable!();
-    };
-    let text = table_text(alloc, rules, number, Text::new(alloc, table)?, answer)?;
+    let text = table_text(alloc, asked, name_of(asked), answer)?;
     Ok(text)
 }
 
@@ -158,13 +165,6 @@ fn decl_rows(alloc: Global, rows: &[DepRow]) -> Result<List<CfdRow>, AllocError>
     Ok(made)
 }
 
-fn table_name(schema: &Schema, number: usize) -> &Text
-    requires { number < length schema.now.tables }
-    ensures { result.now ≡ table_name schema.now number }
-{
-    &schema.tables.as_slice()[number].name
-}
-
 /// A dependency by names.
 fn decl_of(alloc: Global, schema: &Schema, dep: &Dep) -> Result<CfdDecl, AllocError>
     requires { IsValidDep schema.now dep.now }
@@ -180,82 +180,63 @@ fn decl_of(alloc: Global, schema: &Schema, dep: &Dep) -> Result<CfdDecl, AllocEr
     })
 }
 
-/// The text of a certificate with two tuples.
-fn dep_counter_text(
-    alloc: Global,
-    rules: &RuleBook,
-    dep: &Dep,
-    one: &Texts,
-    other: &Texts,
-) -> Result<Vec<u8>, AllocError>
-    requires dep { IsValidDep rules.now.schema dep.now }
-    requires decl { IsDepDecl (decl_of rules.now.schema dep.now) }
-    requires one { 1 ≤ length one.now }
-    requires other { 1 ≤ length other.now }
-    ensures { IfOk result (λ text. IsCertText (counter_cert (decl_of rules.now.schema dep.now) one.now other.now) text.items) }
-{
-    let decl = decl_of(alloc, rules.schema(), dep)?;
-    counter_text(alloc, &decl, one.as_slice(), other.as_slice())
-}
-
-/// The text of a certificate with a tree about a dependency.
+/// The text of a certificate with a tree about a dependency that is declared so.
 fn dep_tree_text(
     alloc: Global,
-    rules: &RuleBook,
-    dep: &Dep,
+    asked: &DepQuestion<'_>,
+    decl: CfdDecl,
     budget: Option<u64>,
     tree: &Tree,
 ) -> Result<Vec<u8>, AllocError>
-    requires dep { IsValidDep rules.now.schema dep.now }
-    requires decl { IsDepDecl (decl_of rules.now.schema dep.now) }
+    requires decl { IsDepDecl decl }
     requires budget { IfSome budget IsBudget }
-    requires named { HaveNames (asks_implication rules.now dep.now).names tree.now }
-    ensures { IfOk result (λ text. IsSomeText (IsTreeCert (asks_implication rules.now dep.now).names (Question.Implies (decl_of rules.now.schema dep.now)) budget tree.now) text.items) }
+    requires named { HaveNames (names_asked_of asked.now) tree.now }
+    ensures { IfOk result (λ text. IsSomeText (IsTreeCert (names_asked_of asked.now) (Question.Implies decl) budget tree.now) text.items) }
 {
-    let decl = decl_of(alloc, rules.schema(), dep)?;
-    let names = naming_of_dep(alloc, rules, dep)?;
+    let names = Naming::of_dep(asked);
     let text = tree_cert_text(alloc, &names, &Question::Implies(decl), budget, tree)?;
     Ok(text)
 }
 
-/// The text of the certificate of an answer about a dependency.
+/// The text of the certificate of an answer about a dependency that is declared so.
 fn dep_text(
     alloc: Global,
-    rules: &RuleBook,
-    dep: &Dep,
+    asked: &DepQuestion<'_>,
+    decl: CfdDecl,
     answer: &Implication,
 ) -> Result<Vec<u8>, AllocError>
-    requires dep { IsValidDep rules.now.schema dep.now }
-    requires decl { IsDepDecl (decl_of rules.now.schema dep.now) }
-    requires answer { IsWrittenDepAnswer (asks_implication rules.now dep.now).names answer.now }
-    ensures { IfOk result (λ text. IsSomeText (IsCertOfDep rules.now dep.now answer.now) text.items) }
+    requires decl { IsDepDecl decl }
+    requires answer { IsWrittenDepAnswer (names_asked_of asked.now) answer.now }
+    ensures { IfOk result (λ text. IsSomeText (IsDeclaredCert (names_asked_of asked.now) decl answer.now) text.items) }
 {
     match answer {
-        Implication::Counter(one, other) => dep_counter_text(alloc, rules, dep, one, other),
-        Implication::Implied(tree) => dep_tree_text(alloc, rules, dep, None, tree),
+        Implication::Counter(one, other) => {
+            counter_text(alloc, &decl, one.as_slice(), other.as_slice())
+        }
+        Implication::Implied(tree) => dep_tree_text(alloc, asked, decl, None, tree),
         Implication::Spent(tree) => {
             let budget = leaf_count(tree.nodes());
-            dep_tree_text(alloc, rules, dep, Some(budget), tree)
+            dep_tree_text(alloc, asked, decl, Some(budget), tree)
         }
     }
 }
 
-/// The text of the certificate of what the decider of implication answered.
+/// The text of the certificate of what was answered to the question whether dependencies imply one more. It asks about that
+/// dependency without its name. Over the book that the question was made of it is right.
 pub fn implication_text(
     alloc: Global,
-    rules: &RuleBook,
-    dep: &Dep,
+    asked: &DepQuestion<'_>,
     answer: &Implication,
 ) -> Result<Vec<u8>, AllocError>
-    requires dep { IsValidDep rules.now.schema dep.now }
-    requires row { length dep.now.rule.rows ≡ 1 }
-    requires answer { IsFoundOfDep rules.now dep.now answer.now }
-    ensures text { IfOk result (λ text. IsRightText rules.now (IsCertOfDep rules.now dep.now answer.now) text.items) }
+    requires row { length asked.now.dep.rule.rows ≡ 1 }
+    requires answer { IsFoundOfDep asked.now answer.now }
+    ensures cert { IfOk result (λ text. IsSomeText (IsCertOfDep asked.now answer.now) text.items) }
+    ensures right { (rules : Book) (dep : AnyDep) → IsBook rules → asked.now ≡ asked_of rules dep → IfOk result (λ text. IsRightText rules (IsCertOfDep (asked_of rules dep) answer.now) text.items) }
 
     // It asks about the dependency itself.
-    ensures asked { judged_dep rules.now.schema (decl_of rules.now.schema dep.now) ≡ Ok (record dep.now { name = [] }) }
+    ensures asked { judged_dep asked.now.schema (decl_of asked.now.schema asked.now.dep) ≡ Ok (record asked.now.dep { name = [] }) }
 {
-    let _schema = rules.schema();
-    let text = dep_text(alloc, rules, dep, answer)?;
+    let decl = decl_of(alloc, asked.schema(), asked.dep())?;
+    let text = dep_text(alloc, asked, decl, answer)?;
     Ok(text)
 }

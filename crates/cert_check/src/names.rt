@@ -5,18 +5,21 @@ ghost use Rattle.std.specs.List.{position_or_len};
 ghost use Rattle.std.specs.Option.{option_map_or};
 ghost use Rattle.rule_parser.specs.RuleText.{attr_name};
 ghost use Rattle.schema_core.specs.Schemas.{IsValidAttr};
-ghost use Rattle.cell_values.specs.Values.{AreFew, occurring};
+ghost use Rattle.cell_values.specs.Values.{AreFew};
 ghost use Rattle.line_grammar.specs.Spelling.{line_text};
 ghost use Rattle.cert_text.specs.CertText.{cell_name_parts, var_parts};
 ghost use Rattle.cert_text.specs.Written.{IsCellOf, IsVarOf};
 ghost use Rattle.cert_check.specs.Names.{names_of, attr_vars, attr_cells, named_cell, same_var, is_cell, var_number, cell_number};
+ghost use Rattle.cert_check.specs.Shown.{asks_consistency, asks_from};
 
 use crate::named::{push_cell_at, push_var_at};
 use crate::places::{cell_count, cell_place, var_count, var_place};
-use cell_values::{CellValues, TableRules, occurring};
+use cell_values::{CellValues, attrs_at};
 use cert_text::answers::Kind;
 use cert_text::{CellName, VarName};
-use schema_core::{Attr, List, Text};
+use cfd_consistency::TableQuestion;
+use cfd_implication::DepQuestion;
+use schema_core::{Attr, Text};
 use std::alloc::{AllocError, Global};
 use std::marker::Model;
 
@@ -25,7 +28,7 @@ use std::marker::Model;
 pub struct Naming<'a> {
     kind: Kind,
     attrs: &'a [Attr],
-    values: List<CellValues>,
+    values: &'a [CellValues],
 }
 
 impl<'a> Model for Naming<'a> {
@@ -36,41 +39,53 @@ impl<'a> Model for Naming<'a> {
 
     ghost Value = { Names };
 
-    ghost view = { λ n. names_of n.kind n.attrs.now n.values };
+    ghost view = { λ n. names_of n.kind n.attrs.now n.values.now };
 
-    ghost invariant = { λ n. AreFew n.values × All (λ cell. cell.attr < length n.attrs.now) n.values × All IsValidAttr n.attrs.now };
+    ghost invariant = { λ n. AreFew n.values.now × All (λ cell. cell.attr < length n.attrs.now) n.values.now × All IsValidAttr n.attrs.now };
 }
 
 impl<'a> Naming<'a> {
-    pub fn new(
-        alloc: Global,
-        kind: Kind,
-        attrs: &'a [Attr],
-        rules: &TableRules<'_>,
-    ) -> Result<Naming<'a>, AllocError>
-        requires { All IsValidAttr attrs.now }
-        ensures { IfOk result (λ names. names ≡ names_of kind attrs.now (occurring attrs.now rules.now)) }
+    pub fn new(kind: Kind, attrs: &'a [Attr], values: &'a [CellValues]) -> Naming<'a>
+        requires valid { All IsValidAttr attrs.now }
+        requires few { AreFew values.now }
+        requires there { All (λ cell. cell.attr < length attrs.now) values.now }
+        ensures { result ≡ names_of kind attrs.now values.now }
     {
-        let values = occurring(alloc, attrs, rules)?;
-        Ok(Naming {
+        Naming {
             kind,
             attrs,
             values,
-        })
+        }
+    }
+
+    /// The names of a question about a table.
+    pub fn of_table(asked: &'a TableQuestion<'_>) -> Naming<'a>
+        ensures { result ≡ (asks_consistency asked.now.rules asked.now.table).names }
+    {
+        let attrs = attrs_at(asked.rules().schema(), asked.table());
+        Naming::new(Kind::Consistency, attrs, asked.values())
+    }
+
+    /// Those of the question whether dependencies imply one more.
+    pub fn of_dep(asked: &'a DepQuestion<'_>) -> Naming<'a>
+        ensures { result ≡ (asks_from asked.now.schema asked.now.deps asked.now.dep).names }
+    {
+        let attrs = attrs_at(asked.schema(), asked.dep().table);
+        Naming::new(Kind::Implication, attrs, asked.values())
     }
 
     /// The number of the variable of that name, or one that no variable has.
     pub fn var_number(&self, name: &VarName) -> usize
         ensures { result ≡ var_number self.now name.now }
     {
-        var_number(self.kind, self.attrs, self.values.as_slice(), name)
+        var_number(self.kind, self.attrs, self.values, name)
     }
 
     /// The number of the cell of that name, or one that no cell has.
     pub fn cell_number(&self, name: &CellName) -> usize
         ensures { result ≡ cell_number self.now name.now }
     {
-        cell_number(self.kind, self.attrs, self.values.as_slice(), name)
+        cell_number(self.kind, self.attrs, self.values, name)
     }
 
     /// Appends the name of a variable.
@@ -79,7 +94,7 @@ impl<'a> Naming<'a> {
         ensures text { OnOk result (out.new.items ≡ out.old.items ++ line_text (option_map_or var_parts (slice_get self.now.vars number) [])) }
         ensures fit { IfSome (slice_get self.now.vars number) (IsVarOf self.now.kind) }
     {
-        push_var(out, self.kind, self.attrs, self.values.as_slice(), number)
+        push_var(out, self.kind, self.attrs, self.values, number)
     }
 
     /// Appends the name of a cell, if it has one.
@@ -88,7 +103,7 @@ impl<'a> Naming<'a> {
         ensures text { OnOk result (out.new.items ≡ out.old.items ++ line_text (option_map_or cell_name_parts (named_cell self.now.cells number) [])) }
         ensures fit { IfSome (named_cell self.now.cells number) (IsCellOf self.now.kind) }
     {
-        push_cell(out, self.kind, self.attrs, self.values.as_slice(), number)
+        push_cell(out, self.kind, self.attrs, self.values, number)
     }
 }
 

@@ -11,9 +11,11 @@ ghost use Rattle.cert_text.specs.declared.names.ReasonName.TheVariants.{Clause};
 ghost use Rattle.cert_check.specs.Made.{HaveNames, IsFitNode, IsRightTree, IsTreeText, named_node, named_parts, named_reason};
 ghost use Rattle.cert_check.specs.Shown.{asks_from};
 
-use crate::check::naming_from;
 use crate::names::Naming;
 use case_tree::{Node, Reason, Tree};
+use cell_values::attrs_at;
+use cert_text::answers::Kind;
+use cfd_implication::asked_values;
 use rule_model::Dep;
 use schema_core::{List, Schema, push_number};
 use std::alloc::{AllocError, Global};
@@ -141,7 +143,8 @@ pub fn tree_text(
     requires tree { IsRightTree (asks_from schema.now deps.now dep.now).set tree.now }
     ensures { IfOk result (λ text. IsTreeText (asks_from schema.now deps.now dep.now).names tree.now text.items) }
 {
-    let names = naming_from(alloc, schema, deps.as_slice(), dep)?;
+    let values = asked_values(alloc, schema, deps.as_slice(), dep)?;
+    let names = Naming::new(Kind::Implication, attrs_at(schema, dep.table), values.as_slice());
     let text = text_of(alloc, &names, tree)?;
     Ok(text)
 }

@@ -1,28 +1,31 @@
 -- Certificates of what the deciders answer.
 use Rattle.std.proofs.Common.{◌≡◌, ℕ, ◌<◌, ◌≤◌, List, Option, None, Some, sym, ap, ◌∙◌, subst}
-use Rattle.std.specs.Prelude.{IfSome, IsSome, IsSomeAnd, unwrap_or}
+use Rattle.std.specs.Prelude.{IfSome}
 use Rattle.shelf_io.specs.Sink.{SinkTold}
+use Rattle.schema_core.specs.Lookups.{table_number}
 use Rattle.rule_model.specs.Books.{Book, book_deps}
 use Rattle.rule_model.specs.declared.dep.Dep.{Dep}
 use Rattle.case_tree.specs.CaseTree.{leaf_count}
 use Rattle.case_search.specs.Enough.{enough_of}
 use Rattle.cfd_consistency.specs.Answer as consistency
 use Rattle.cfd_consistency.specs.Question as consistency_question
+use Rattle.cfd_consistency.specs.Question.{AskedTable}
 use Rattle.cfd_consistency.specs.declared.decider.Consistency.{Consistency}
 use Rattle.cfd_consistency.specs.declared.decider.Consistency.TheVariants as found
 use Rattle.cfd_implication.specs.Answers as implication
 use Rattle.cfd_implication.specs.Question as implication_question
+use Rattle.cfd_implication.specs.Question.{asked_of}
 use Rattle.cfd_implication.specs.declared.answer.Implication.{Implication}
 use Rattle.cfd_implication.specs.declared.answer.Implication.TheVariants as told
 use Rattle.cert_text.specs.declared.cert.CertParts.{CertParts}
 use Rattle.cert_text.specs.declared.cert.Question.TheVariants.{Consistent, Implies}
-use Rattle.cert_check.specs.Made.{IsCertOf, IsCertOfDep, IsFound, IsRightText, decl_of}
+use Rattle.cert_check.specs.Made.{IsCertOf, IsCertOfDep, IsRightText, decl_of, name_of}
 use Rattle.cert_check.specs.Shown.{IsRightCert}
 use Rattle.cli_output.specs.declared.status.Status.{Status}
 use Rattle.cli_output.specs.Output.{Ends, Only, Outputs}
 use Rattle.cli_output.proofs.Outputs.{Ends-wider}
 use Rattle.rule_forms.specs.Certificates.{Answers, cert_status, certificates, spent_budget}
-use Rattle.rule_forms.specs.ConsistentForm.{consistency_status}
+use Rattle.rule_forms.specs.ConsistentForm.{consistency_status, consistent_outputs}
 use Rattle.rule_forms.specs.ImpliesForm.{implication_status}
 
 -- what is told of an answer is what is written
@@ -33,52 +36,49 @@ told_written outputs text bytes own status sink sink_after same is ends =
 
 -- ---- a table
 
--- what is answered about the table of a name was found
-pub right_answer : (rules : Book) (budget : ℕ) (answer : Consistency) (place : Option ℕ) → 1 ≤ budget → budget ≤ 1000000 → IsSome place → IfSome place (λ table. consistency.IsConsistencyAnswer rules budget table answer) → IsSomeAnd place (λ table. IsFound rules table answer)
-right_answer rules budget answer None some within there right = absurd (cc)
-right_answer rules budget answer (Some table) some within there right = record { budget = budget; some = some; within = within; answer = right }
-
 unspent : (cert : CertParts) (budget enough : ℕ) → spent_budget cert.answer ≡ None → IfSome (spent_budget cert.answer) (λ named. (named ≡ budget) × (budget < enough))
 unspent cert budget enough none = subst (λ o. IfSome o (λ named. (named ≡ budget) × (budget < enough))) (sym none) tt
 
 is_spent : (cert : CertParts) (leaves budget enough : ℕ) → spent_budget cert.answer ≡ Some leaves → leaves ≡ budget → budget < enough → IfSome (spent_budget cert.answer) (λ named. (named ≡ budget) × (budget < enough))
 is_spent cert leaves budget enough some same below = subst (λ o. IfSome o (λ named. (named ≡ budget) × (budget < enough))) (sym some) (same, below)
 
-of_table : (rules : Book) (name : List ℕ) (table budget : ℕ) (answer : Consistency) (cert : CertParts) → consistency.IsConsistencyAnswer rules budget table answer → IsCertOf rules name table answer cert → IsRightCert rules cert
-    → Answers rules (Consistent name) budget (enough_of (consistency_question.question rules table).cells) cert
-of_table rules name table budget (found.Witness tuple) cert right is shown = record {
+of_table : (asked : AskedTable) (budget : ℕ) (answer : Consistency) (cert : CertParts) → consistency.IsConsistencyAnswer asked.rules budget asked.table answer → IsCertOf asked answer cert → IsRightCert asked.rules cert
+    → Answers asked.rules (Consistent (name_of asked)) budget (enough_of (consistency_question.question asked.rules asked.table).cells) cert
+of_table asked budget (found.Witness tuple) cert right is shown = record {
   asks = ap (λ (c : CertParts). c.asked.question) is;
   right = shown;
-  spent = unspent cert budget (enough_of (consistency_question.question rules table).cells) (ap (λ (c : CertParts). spent_budget c.answer) is);
+  spent = unspent cert budget (enough_of (consistency_question.question asked.rules asked.table).cells) (ap (λ (c : CertParts). spent_budget c.answer) is);
 }
-of_table rules name table budget (found.Never tree) cert right is shown = record {
+of_table asked budget (found.Never tree) cert right is shown = record {
   asks = ap (λ (c : CertParts). c.asked.question) is.whole;
   right = shown;
-  spent = unspent cert budget (enough_of (consistency_question.question rules table).cells) (ap (λ (c : CertParts). spent_budget c.answer) is.whole);
+  spent = unspent cert budget (enough_of (consistency_question.question asked.rules asked.table).cells) (ap (λ (c : CertParts). spent_budget c.answer) is.whole);
 }
-of_table rules name table budget (found.Spent tree) cert right is shown = record {
+of_table asked budget (found.Spent tree) cert right is shown = record {
   asks = ap (λ (c : CertParts). c.asked.question) is.whole;
   right = shown;
-  spent = is_spent cert (leaf_count tree) budget (enough_of (consistency_question.question rules table).cells) (ap (λ (c : CertParts). spent_budget c.answer) is.whole) right.1 right.2;
+  spent = is_spent cert (leaf_count tree) budget (enough_of (consistency_question.question asked.rules asked.table).cells) (ap (λ (c : CertParts). spent_budget c.answer) is.whole) right.1 right.2;
 }
 
-status_of_table : (rules : Book) (name : List ℕ) (table : ℕ) (answer : Consistency) (cert : CertParts) → IsCertOf rules name table answer cert → consistency_status answer ≡ cert_status cert
-status_of_table rules name table (found.Witness tuple) cert is = ap cert_status (sym is)
-status_of_table rules name table (found.Never tree) cert is = ap cert_status (sym is.whole)
-status_of_table rules name table (found.Spent tree) cert is = ap cert_status (sym is.whole)
+status_of_table : (asked : AskedTable) (answer : Consistency) (cert : CertParts) → IsCertOf asked answer cert → consistency_status answer ≡ cert_status cert
+status_of_table asked (found.Witness tuple) cert is = ap cert_status (sym is)
+status_of_table asked (found.Never tree) cert is = ap cert_status (sym is.whole)
+status_of_table asked (found.Spent tree) cert is = ap cert_status (sym is.whole)
 
--- the text of the certificate of what was answered about the table of a name answers its question
-pub table_told : (rules : Book) (name : List ℕ) (budget : ℕ) (answer : Consistency) (text : List ℕ) (place : Option ℕ) → IsSome place → IfSome place (λ table. consistency.IsConsistencyAnswer rules budget table answer)
-    → IsRightText rules (λ cert. IfSome place (λ table. IsCertOf rules name table answer cert)) text
-    → certificates (Answers rules (Consistent name) budget (enough_of (consistency_question.question rules (unwrap_or place 0)).cells)) text (consistency_status answer)
-table_told rules name budget answer text None there right right_text = absurd (cc)
-table_told rules name budget answer text (Some table) there right right_text =
-    (right_text.cert, of_table rules name table budget answer right_text.cert right right_text.is.0 right_text.is.1, right_text.spelled, status_of_table rules name table answer right_text.cert right_text.is.0)
+-- the text of the certificate of what was answered to a question about a table answers it
+pub table_told : (asked : AskedTable) (budget : ℕ) (answer : Consistency) (text : List ℕ) → table_number asked.rules.schema (name_of asked) ≡ asked.table → consistency.IsConsistencyAnswer asked.rules budget asked.table answer
+    → IsRightText asked.rules (IsCertOf asked answer) text → consistent_outputs (name_of asked) budget asked.rules text (consistency_status answer)
+table_told asked budget answer text number right right_text = (
+  right_text.cert,
+  subst (λ table. Answers asked.rules (Consistent (name_of asked)) budget (enough_of (consistency_question.question asked.rules table).cells) right_text.cert) (sym number) (of_table asked budget answer right_text.cert right right_text.is.0 right_text.is.1),
+  right_text.spelled,
+  status_of_table asked answer right_text.cert right_text.is.0,
+)
 
 -- ---- a dependency
 
 -- the certificate of what was answered about a dependency answers its question
-dep_answer : (rules : Book) (dep : Dep) (budget : ℕ) (answer : Implication) (cert : CertParts) → implication.IsImplicationAnswer rules.schema (book_deps rules) dep budget answer → IsCertOfDep rules dep answer cert → IsRightCert rules cert
+dep_answer : (rules : Book) (dep : Dep) (budget : ℕ) (answer : Implication) (cert : CertParts) → implication.IsImplicationAnswer rules.schema (book_deps rules) dep budget answer → IsCertOfDep (asked_of rules dep) answer cert → IsRightCert rules cert
     → Answers rules (Implies (decl_of rules.schema dep)) budget (enough_of (implication_question.question rules.schema (book_deps rules) dep).cells) cert
 dep_answer rules dep budget (told.Counter one other) cert right is shown = record {
   asks = ap (λ (c : CertParts). c.asked.question) is;
@@ -96,13 +96,13 @@ dep_answer rules dep budget (told.Spent tree) cert right is shown = record {
   spent = is_spent cert (leaf_count tree) budget (enough_of (implication_question.question rules.schema (book_deps rules) dep).cells) (ap (λ (c : CertParts). spent_budget c.answer) is.whole) right.1 right.2;
 }
 
-status_of_dep : (rules : Book) (dep : Dep) (answer : Implication) (cert : CertParts) → IsCertOfDep rules dep answer cert → implication_status answer ≡ cert_status cert
+status_of_dep : (rules : Book) (dep : Dep) (answer : Implication) (cert : CertParts) → IsCertOfDep (asked_of rules dep) answer cert → implication_status answer ≡ cert_status cert
 status_of_dep rules dep (told.Counter one other) cert is = ap cert_status (sym is)
 status_of_dep rules dep (told.Implied tree) cert is = ap cert_status (sym is.whole)
 status_of_dep rules dep (told.Spent tree) cert is = ap cert_status (sym is.whole)
 
 -- and so does its text
-pub dep_told : (rules : Book) (dep : Dep) (budget : ℕ) (answer : Implication) (text : List ℕ) → implication.IsImplicationAnswer rules.schema (book_deps rules) dep budget answer → IsRightText rules (IsCertOfDep rules dep answer) text
+pub dep_told : (rules : Book) (dep : Dep) (budget : ℕ) (answer : Implication) (text : List ℕ) → implication.IsImplicationAnswer rules.schema (book_deps rules) dep budget answer → IsRightText rules (IsCertOfDep (asked_of rules dep) answer) text
     → certificates (Answers rules (Implies (decl_of rules.schema dep)) budget (enough_of (implication_question.question rules.schema (book_deps rules) dep).cells)) text (implication_status answer)
 dep_told rules dep budget answer text right right_text =
     (right_text.cert, dep_answer rules dep budget answer right_text.cert right right_text.is.0 right_text.is.1, right_text.spelled, status_of_dep rules dep answer right_text.cert right_text.is.0)

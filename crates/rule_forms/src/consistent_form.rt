@@ -1,14 +1,15 @@
 //! The form `consistent PROJECT TABLE BUDGET`: whether the dependencies of a table are consistent.
-ghost use Rattle.std.specs.Prelude.{◌≡◌, ◌≤◌, IfOk, IsSome};
+ghost use Rattle.std.specs.Prelude.{◌≡◌, ◌<◌, ◌≤◌, length, IfOk, IsSome};
 ghost use Rattle.text_lists.specs.Limits.{AreLimits};
 ghost use Rattle.schema_core.specs.Schemas.{table_place};
+ghost use Rattle.rule_parser.specs.RuleText.{table_name};
 ghost use Rattle.cli_output.specs.Fetching.{Fetches, Reads, about};
 ghost use Rattle.cli_output.specs.Output.{Ends, IsWhole, Output, UsesDevices, Writes};
 ghost use Rattle.rule_forms.specs.ConsistentForm.{consistency_status, consistent_outputs, consistent_task, fetch_known, if_known};
 
 use crate::told::Told;
 use cert_check::consistency_text;
-use cfd_consistency::{Consistency, consistent};
+use cfd_consistency::{Consistency, TableQuestion};
 use cli_output::{Cause, Status, Stop, end_by, end_with, fetch_book, refused};
 use rule_model::RuleBook;
 use schema_core::{Limits, Text};
@@ -92,14 +93,30 @@ fn told_of(alloc: Global, rules: &RuleBook, table: &Text, budget: u64) -> Result
     ensures output { IfOk result (λ told. consistent_outputs table.now budget rules.now told.text.items told.status) }
     ensures whole { IfOk result (λ told. IsWhole told.status) }
 {
-    match consistent(alloc, rules, table.as_str(), budget) {
-        Ok(answer) => {
-            let text = consistency_text(alloc, rules, table.as_str(), &answer)?;
-            let status = consistency_status(&answer);
-            Ok(Told { text, status })
-        }
-        Err(_) => Err(AllocError),
-    }
+    let Some(number) = rules.schema().table_named(table.as_str()) else {
+        unreachable!();
+    };
+    told_about(alloc, rules, number, budget)
+}
+
+/// The same of a table by its number. The question is made once, for whoever decides it and whoever writes the answer.
+fn told_about(
+    alloc: Global,
+    rules: &RuleBook,
+    table: usize,
+    budget: u64,
+) -> Result<Told, AllocError>
+    requires there { table < length rules.now.schema.tables }
+    requires some { 1 ≤ budget }
+    requires within { budget ≤ 1000000 }
+    ensures output { IfOk result (λ told. consistent_outputs (table_name rules.now.schema table) budget rules.now told.text.items told.status) }
+    ensures whole { IfOk result (λ told. IsWhole told.status) }
+{
+    let asked = TableQuestion::new(alloc, rules, table)?;
+    let answer = asked.decide(alloc, budget)?;
+    let text = consistency_text(alloc, &asked, &answer)?;
+    let status = consistency_status(&answer);
+    Ok(Told { text, status })
 }
 
 fn consistency_status(answer: &Consistency) -> Status

@@ -10,7 +10,7 @@ ghost use Rattle.rule_forms.specs.ImpliesForm.{fetch_asked, implication_status, 
 
 use crate::told::Told;
 use cert_check::implication_text;
-use cfd_implication::{Implication, implies};
+use cfd_implication::{DepQuestion, Implication};
 use cli_output::{Cause, Status, Stop, end_by, end_with, fetch_book, refused};
 use rule_model::{Dep, RuleBook};
 use rule_parser::{ParseFault, parse_dep};
@@ -102,8 +102,9 @@ fn told_of(alloc: Global, asked: &Asked, budget: u64) -> Result<Told, AllocError
     ensures output { IfOk result (λ told. implies_outputs budget asked.now told.text.items told.status) }
     ensures whole { IfOk result (λ told. IsWhole told.status) }
 {
-    let answer = implies(alloc, &asked.rules, &asked.dep, budget)?;
-    let text = implication_text(alloc, &asked.rules, &asked.dep, &answer)?;
+    let question = DepQuestion::of_book(alloc, &asked.rules, &asked.dep)?;
+    let answer = question.decide(alloc, budget)?;
+    let text = implication_text(alloc, &question, &answer)?;
     let status = implication_status(&answer);
     Ok(Told { text, status })
 }
