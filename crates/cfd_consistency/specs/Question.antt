@@ -1,12 +1,12 @@
 -- The question whether dependencies are consistent, as clauses about one tuple.
-use Rattle.std.specs.Prelude.{ℕ, Bool, true, false, List, [], map, filter}
+use Rattle.std.specs.Prelude.{◌≡◌, ℕ, ◌<◌, Bool, true, false, List, [], length, map, filter}
 use Rattle.std.specs.List.{flat_map}
 use Rattle.cfd_semantics.specs.declared.pattern.Pattern.{Pattern}
 use Rattle.cfd_semantics.specs.declared.pattern.Pattern.TheVariants.{Any, Is, In, NotIn}
 use Rattle.cfd_semantics.specs.declared.dependency.TableauRow.{TableauRow}
 use Rattle.schema_core.specs.Lookups.{attrs_at}
 use Rattle.schema_core.specs.declared.schema.Attr.{Attr}
-use Rattle.rule_model.specs.Books.{Book, book_deps}
+use Rattle.rule_model.specs.Books.{Book, IsBook, book_deps}
 use Rattle.case_tree.specs.declared.clauses.Literal.{Literal}
 use Rattle.case_tree.specs.CaseTree.{ClauseSet}
 use Rattle.cell_values.specs.declared.which.Which.TheVariants.{Only}
@@ -16,7 +16,7 @@ use Rattle.cell_values.specs.Layout.{var_cells}
 use Rattle.cell_values.specs.Readings.{tuple_of}
 use Rattle.cell_values.specs.RowClauses.{alone}
 use Rattle.cell_values.specs.TableRules.{Rule, rules_with}
-use Rattle.cell_values.specs.Values.{occurring}
+use Rattle.cell_values.specs.Values.{AreFew, occurring}
 
 -- the cell asks something
 abbrev pub asks : Pattern (List ℕ) → Bool
@@ -39,8 +39,25 @@ table_question attrs rules = question_of (occurring attrs rules) rules
 unfoldable pub question : Book → ℕ → ClauseSet
 question rules table = table_question (attrs_at rules.schema table) (rules_with table (book_deps rules) [])
 
+-- the values of the attributes that occur in the dependencies of a table
+abbrev pub table_values : Book → ℕ → List CellValues
+table_values rules table = occurring (attrs_at rules.schema table) (rules_with table (book_deps rules) [])
+
 -- the tuple that an assignment of its variables stands for
 abbrev pub stands_for : Book → ℕ → (ℕ → Bool) → List (List ℕ)
-stands_for rules table truth =
-    let attrs = attrs_at rules.schema table in
-    tuple_of Only attrs (occurring attrs (rules_with table (book_deps rules) [])) truth
+stands_for rules table truth = tuple_of Only (attrs_at rules.schema table) (table_values rules table) truth
+
+-- ---- a question that is made once
+
+-- what is asked: whether the dependencies of a table of a book are consistent
+pub record AskedTable : Type 0 where
+  pub rules : Book
+  pub table : ℕ
+
+-- its values and its clauses were made for it, and the values are few enough for machine numbers
+pub record IsMadeFor (rules : Book) (table : ℕ) (values : List CellValues) (clauses : ClauseSet) : Type 0 where
+  pub book : IsBook rules
+  pub there : table < length rules.schema.tables
+  pub valued : values ≡ table_values rules table
+  pub few : AreFew values
+  pub asked : clauses ≡ question rules table

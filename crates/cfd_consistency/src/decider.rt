@@ -1,10 +1,10 @@
 //! The decider.
 
-ghost use Rattle.std.specs.Prelude.{◌≡◌, ◌≤◌, ◌↔◌, ◌<◌, None, Err, length, IfOk, IfSome};
+ghost use Rattle.std.specs.Prelude.{◌≡◌, ◌≤◌, ◌↔◌, None, Err, IfOk, IfSome};
 ghost use Rattle.schema_core.specs.Schemas.{table_place};
 ghost use Rattle.cfd_consistency.specs.Answer.{HasLaw, IsConsistencyAnswer, IsConsistencyAnswerFor};
 
-use crate::encoding::encoding;
+use crate::question::TableQuestion;
 use case_search::{Found, decide};
 use case_tree::Tree;
 use cell_values::{Which, attrs_at, tuple_of};
@@ -57,29 +57,26 @@ pub fn consistent(
     let Some(number) = rules.schema().table_named(table) else {
         return Err(DecideFault::UnknownTable);
     };
-    Ok(decide_table(alloc, rules, number, budget)?)
+    let asked = TableQuestion::new(alloc, rules, number)?;
+    Ok(asked.decide(alloc, budget)?)
 }
 
-fn decide_table(
-    alloc: Global,
-    rules: &RuleBook,
-    table: usize,
-    budget: u64,
-) -> Result<Consistency, AllocError>
-    requires there { table < length rules.now.schema.tables }
-    requires some { 1 ≤ budget }
-    requires within { budget ≤ 1000000 }
-    ensures { IfOk result (IsConsistencyAnswer rules.now budget table) }
-{
-    let encoding = encoding(alloc, rules, table)?;
-    match decide(alloc, &encoding.clauses, budget)? {
-        Found::Model(truth) => {
-            let attrs = attrs_at(rules.schema(), table);
-            let values = encoding.values.as_slice();
-            let tuple = tuple_of(alloc, Which::Only, attrs, values, &truth)?;
-            Ok(Consistency::Witness(tuple))
+impl TableQuestion<'_> {
+    /// Whether the dependencies of the table are consistent, within a budget of leaves.
+    pub fn decide(&self, alloc: Global, budget: u64) -> Result<Consistency, AllocError>
+        requires some { 1 ≤ budget }
+        requires within { budget ≤ 1000000 }
+        ensures { IfOk result (IsConsistencyAnswer self.now.rules budget self.now.table) }
+    {
+        match decide(alloc, &self.clauses, budget)? {
+            Found::Model(truth) => {
+                let attrs = attrs_at(self.rules.schema(), self.table);
+                let values = self.values.as_slice();
+                let tuple = tuple_of(alloc, Which::Only, attrs, values, &truth)?;
+                Ok(Consistency::Witness(tuple))
+            }
+            Found::Refuted(tree) => Ok(Consistency::Never(tree)),
+            Found::Spent(tree) => Ok(Consistency::Spent(tree)),
         }
-        Found::Refuted(tree) => Ok(Consistency::Never(tree)),
-        Found::Spent(tree) => Ok(Consistency::Spent(tree)),
     }
 }

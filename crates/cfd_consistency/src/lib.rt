@@ -5,7 +5,7 @@
 
 mod clauses;
 mod decider;
-mod encoding;
+mod question;
 
 pub use decider::{Consistency, DecideFault, consistent};
-pub use encoding::consistency_clauses;
+pub use question::{TableQuestion, consistency_clauses};
