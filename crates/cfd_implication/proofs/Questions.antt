@@ -24,15 +24,12 @@ use Rattle.cell_values.proofs.Tables.{attrs_each, in_table}
 use Rattle.cell_values.proofs.Texts.{constants_bound as bounds, is_short}
 use Rattle.cfd_implication.specs.Answers.{HasLaw}
 use Rattle.cfd_implication.specs.Implied.{IsCounter, IsNotImplied}
-use Rattle.cfd_implication.specs.Question.{clauses_of, question, stands_for}
+use Rattle.cfd_implication.specs.Question.{asked_values, clauses_of, question, stands_for}
 use Rattle.cfd_implication.proofs.Theorems.{allowed_or_implied, each_valid, both_satisfy, both_break, one_tuple, other_tuple}
 use Rattle.cfd_implication.proofs.WellFormed.{all_good}
 
-abbrev pub cells_for : Schema → List Dep → Dep → List CellValues
-cells_for schema deps dep = occurring (attrs_at schema dep.table) (rules_with dep.table deps (dep ∷ []))
-
 module _ (schema : Schema) (deps : List Dep) (dep : Dep) (valid : IsValidSchema schema) (deps_valid : All (IsValidDep schema) deps) (dep_valid : IsValidDep schema dep) where
-  pub question_well_formed : AreFew (cells_for schema deps dep) → IsWellFormed (question schema deps dep)
+  pub question_well_formed : AreFew (asked_values schema deps dep) → IsWellFormed (question schema deps dep)
   unfolding question
   question_well_formed few =
       let attrs = attrs_at schema dep.table in
@@ -48,16 +45,16 @@ module _ (schema : Schema) (deps : List Dep) (dep : Dep) (valid : IsValidSchema 
       let rules = table_rules dep.table deps in
       all_one_free Two attrs attrs_good (rules ++ dep.rule ∷ []) (clauses_of (occurring attrs (rules ++ dep.rule ∷ [])) rules dep.rule) (all_good attrs attrs_good rules dep.rule (each_valid schema deps dep deps_valid dep_valid))
 
-  pub question_vars : var_count (question schema deps dep).cells ≡ var_total Two (cells_for schema deps dep)
+  pub question_vars : var_count (question schema deps dep).cells ≡ var_total Two (asked_values schema deps dep)
   unfolding question
-  question_vars = cells_count Two 0 (cells_for schema deps dep)
+  question_vars = cells_count Two 0 (asked_values schema deps dep)
 
-  pub constants_bound : All (λ (cell : CellValues). cell.constants ≤ length cell.values) (cells_for schema deps dep)
+  pub constants_bound : All (λ (cell : CellValues). cell.constants ≤ length cell.values) (asked_values schema deps dep)
   constants_bound = bounds (attrs_at schema dep.table) (attrs_each schema dep.table valid) (rules_with dep.table deps (dep ∷ []))
 
-  pub constants_room : All (λ (cell : CellValues). cell.constants ≤ length (values_for (cells_for schema deps dep) cell.attr)) (cells_for schema deps dep)
+  pub constants_room : All (λ (cell : CellValues). cell.constants ≤ length (values_for (asked_values schema deps dep) cell.attr)) (asked_values schema deps dep)
   constants_room k d within =
-      let cells = cells_for schema deps dep in
+      let cells = asked_values schema deps dep in
       let c : CellValues = get_or cells k d in
       let here = ap (λ (vs : List (List ℕ)). length vs) (values_at 0 cells c (rises (attrs_at schema dep.table) (rules_with dep.table deps (dep ∷ []))) (Contains-get_or cells k d within)) in
       let bound : c.constants ≤ length c.values = constants_bound k d within in

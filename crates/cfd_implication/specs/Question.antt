@@ -1,13 +1,16 @@
 -- The question whether dependencies imply one more, as clauses about two tuples.
-use Rattle.std.specs.Prelude.{ℕ, ◌+◌, Bool, List, [], ◌∷◌, ◌++◌, map, zip}
+use Rattle.std.specs.Prelude.{◌≡◌, ℕ, ◌+◌, Bool, List, [], ◌∷◌, ◌++◌, map, zip, All}
 use Rattle.std.specs.List.{flat_map, range_with_len}
 use Rattle.schema_core.specs.Lookups.{attrs_at}
+use Rattle.schema_core.specs.Schemas.{IsValidSchema}
 use Rattle.schema_core.specs.declared.schema.Schema.{Schema}
 use Rattle.cfd_semantics.specs.declared.pattern.Pattern.{Pattern}
 use Rattle.cfd_semantics.specs.declared.pattern.Pattern.TheVariants.{Any, Is, In, NotIn}
 use Rattle.cfd_semantics.specs.declared.dependency.TableauRow.{TableauRow}
 use Rattle.case_tree.specs.declared.clauses.Literal.{Literal}
 use Rattle.case_tree.specs.CaseTree.{ClauseSet}
+use Rattle.rule_model.specs.Books.{Book, book_deps}
+use Rattle.rule_model.specs.Rules.{IsValidDep}
 use Rattle.rule_model.specs.declared.dep.Dep.{Dep}
 use Rattle.cell_values.specs.declared.which.Which.{Which}
 use Rattle.cell_values.specs.declared.which.Which.TheVariants.{First, Second}
@@ -17,7 +20,7 @@ use Rattle.cell_values.specs.Layout.{equal_var, value_var, var_cells}
 use Rattle.cell_values.specs.Readings.{tuple_of}
 use Rattle.cell_values.specs.RowClauses.{alone, meets_at, misses_at, misses_left, no, yes}
 use Rattle.cell_values.specs.TableRules.{Rule, table_rules, rules_with}
-use Rattle.cell_values.specs.Values.{occurring}
+use Rattle.cell_values.specs.Values.{AreFew, occurring}
 
 module _ (cells : List CellValues) where
   -- tuples that agree both have a constant or neither has it, and tuples that both have it agree
@@ -75,14 +78,35 @@ module _ (cells : List CellValues) where
   abbrev pub clauses_of : List Rule → Rule → List (List Literal)
   clauses_of rules asked = flat_map agreeing_at cells ++ flat_map rule_clauses rules ++ flat_map (asked_clauses asked) asked.rows
 
--- the question, over the attributes that occur in the rules of the table or in the asked one
+-- the values of the attributes that occur in the rules of the table or in the asked one
+abbrev pub asked_values : Schema → List Dep → Dep → List CellValues
+asked_values schema deps dep = occurring (attrs_at schema dep.table) (rules_with dep.table deps (dep ∷ []))
+
+-- the question, over these
 unfoldable pub question : Schema → List Dep → Dep → ClauseSet
 question schema deps dep =
-    let cells = occurring (attrs_at schema dep.table) (rules_with dep.table deps (dep ∷ [])) in
+    let cells = asked_values schema deps dep in
     record { cells = var_cells Two 0 cells; clauses = clauses_of cells (table_rules dep.table deps) dep.rule }
 
 -- the tuples that an assignment of its variables stands for
 abbrev pub stands_for : Which → Schema → List Dep → Dep → (ℕ → Bool) → List (List ℕ)
-stands_for which schema deps dep truth =
-    let attrs = attrs_at schema dep.table in
-    tuple_of which attrs (occurring attrs (rules_with dep.table deps (dep ∷ []))) truth
+stands_for which schema deps dep truth = tuple_of which (attrs_at schema dep.table) (asked_values schema deps dep) truth
+
+-- what a question asks: whether dependencies over a schema imply one more
+pub record AskedDep : Type 0 where
+  pub schema : Schema
+  pub deps : List Dep
+  pub dep : Dep
+
+-- whether those of a book do
+abbrev pub asked_of : Book → Dep → AskedDep
+asked_of rules dep = record { schema = rules.schema; deps = book_deps rules; dep = dep }
+
+-- what a question has beside what it asks, which is valid: its values and its clauses
+pub record IsMadeFor (schema : Schema) (deps : List Dep) (dep : Dep) (values : List CellValues) (clauses : ClauseSet) : Type 0 where
+  pub typed : IsValidSchema schema
+  pub deps_valid : All (IsValidDep schema) deps
+  pub dep_valid : IsValidDep schema dep
+  pub valued : values ≡ asked_values schema deps dep
+  pub few : AreFew values
+  pub asked : clauses ≡ question schema deps dep

@@ -4,10 +4,10 @@
 
 pub mod answer;
 mod decider;
-mod encoding;
 mod literals;
+mod question;
 mod rows;
 
 pub use answer::Implication;
 pub use decider::{implies, implies_from};
-pub use encoding::{clauses_from, implication_clauses};
+pub use question::{DepQuestion, asked_values, clauses_from, implication_clauses};

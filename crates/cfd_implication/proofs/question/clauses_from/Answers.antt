@@ -1,5 +1,5 @@
 use Rattle.cfd_implication.proofs.Questions.{law}
-use Rattle.cfd_implication.proofs.encoding.clauses_from.Goals as goal
+use Rattle.cfd_implication.proofs.question.clauses_from.Goals as goal
 
 pub returns-in_err-encoding-clause-law : goal.returns-in_err-encoding-clause-law
 returns-in_err-encoding-clause-law c = law c.args.schema.now c.args.deps.now c.args.dep.now c.requires.schema c.requires.deps c.requires.dep
