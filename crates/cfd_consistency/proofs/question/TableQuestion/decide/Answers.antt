@@ -1,6 +1,5 @@
-use Rattle.std.proofs.Common.{◌≡◌, ℕ, ◌≤◌, Bool, false, [], List, length, sym, subst, ◌∙◌, ap, arith}
+use Rattle.std.proofs.Common.{◌≡◌, ℕ, ◌≤◌, Bool, false, length, sym, subst, ◌∙◌, ap, arith}
 use Rattle.std.specs.Prelude.{All, slice_index_or}
-use Rattle.schema_core.specs.Schemas.{IsValidAttr}
 use Rattle.case_tree.specs.CaseTree.{ClauseSet, IsAllowed, Refutes, var_count}
 use Rattle.case_search.specs.Answer.{HasOneFree, IsDecision}
 use Rattle.case_search.specs.declared.search.Found.TheVariants.{Model, Refuted}
@@ -8,7 +7,6 @@ use Rattle.cell_values.specs.declared.values.CellValues.{CellValues}
 use Rattle.cell_values.specs.declared.which.TupleCount.TheVariants.{One}
 use Rattle.cell_values.specs.Layout.{var_total}
 use Rattle.cell_values.proofs.Tables.{attrs_valid}
-use Rattle.cfd_consistency.specs.Consistent.{IsWitness}
 use Rattle.cfd_consistency.specs.Question.{question, stands_for, table_values}
 use Rattle.cfd_consistency.proofs.Questions.{constants_bound, law, none_if_refuted, question_one_free, question_vars, witness_short}
 use Rattle.cfd_consistency.proofs.question.TableQuestion.decide.Goals as goal
@@ -49,7 +47,7 @@ returns-in_ok-tuple-in-Model c =
     let model : IsDecision set c.args.budget (Model c.in-Model.truth) = rw c.in-Model.is at c.in_ok-truth.ensures in
     let allowed : IsAllowed (question book table) truth = subst (λ (some : ClauseSet). IsAllowed some truth) made.asked model.1 in
     let tuple-is : c.in_ok-tuple-in-Model.tuple ≡ stands_for book table truth =
-        rw c.deref.ensures.value at (rw made.valued at (rw c.as_slice-values.ensures at (rw c.schema.ensures.schema at (rw c.attrs_at-attrs.ensures at c.in_ok-tuple-in-Model.ensures)))) in
+    rw c.deref.ensures.value at (rw made.valued at (rw c.as_slice-values.ensures at (rw c.schema.ensures.schema at (rw c.attrs_at-attrs.ensures at c.in_ok-tuple-in-Model.ensures)))) in
     rw (← c.self.view_is) (rw tuple-is ((law book made.book table).shown truth allowed, witness_short book made.book table truth))
 
 pub returns-in-Refuted : goal.returns-in-Refuted
