@@ -1,7 +1,7 @@
 //! The clauses of the rows of dependencies.
 
 ghost use Rattle.std.specs.Prelude.{◌≡◌, ◌<◌, ◌≤◌, ◌++◌, ◌∷◌, [], map, length, OnOk, IfOk};
-ghost use Rattle.std.specs.List.{flat_map, zip, range_with_len};
+ghost use Rattle.std.specs.List.{flat_map, zip};
 ghost use Rattle.cell_values.specs.Values.{AreFew, values_for};
 ghost use Rattle.cfd_implication.specs.Question.{constant_clauses, agreeing_at, row_clauses, rule_clauses, agree_on, asked_cell, asked_clauses};
 

@@ -19,64 +19,79 @@ use Rattle.cfd_implication.proofs.Questions.{counter, question_one_free, questio
 use Rattle.cfd_implication.proofs.Theorems.{implied_if_none}
 use Rattle.cfd_implication.proofs.question.DepQuestion.decide.Goals as goal
 
--- what a question is made for, where its view is what is asked
-made_for : (shown asked : AskedDep) (values : List CellValues) (clauses : ClauseSet) → shown ≡ asked → IsMadeFor shown.schema shown.deps shown.dep values clauses
-    → IsMadeFor asked.schema asked.deps asked.dep values clauses
+-- what a question is made for, where what it shows is what is asked
+made_for : (shown asked : AskedDep) (values : List CellValues) (clauses : ClauseSet) → shown ≡ asked
+    → IsMadeFor shown.schema shown.deps shown.dep values clauses → IsMadeFor asked.schema asked.deps asked.dep values clauses
 made_for shown asked values clauses same made = subst (λ (q : AskedDep). IsMadeFor q.schema q.deps q.dep values clauses) same made
 
--- a tuple that slices of the truth values stand for
-stands : (schema : Schema) (deps : List Dep) (dep : Dep) (which : Which) (truth bits : List Bool) (tuple : List (List ℕ)) → bits ≡ truth → tuple ≡ stands_for which schema deps dep (λ v. slice_index_or bits v false)
-    → tuple ≡ stands_for which schema deps dep (λ v. slice_index_or truth v false)
-stands schema deps dep which truth bits tuple same is = is ∙ ap (λ (b : List Bool). stands_for which schema deps dep (λ v. slice_index_or b v false)) same
+module _ (schema : Schema) (deps : List Dep) (dep : Dep) where
+  -- a tuple is read off a slice of the truth values
+  stands : (which : Which) (truth bits : List Bool) (tuple : List (List ℕ)) → bits ≡ truth
+      → tuple ≡ stands_for which schema deps dep (λ v. slice_index_or bits v false)
+      → tuple ≡ stands_for which schema deps dep (λ v. slice_index_or truth v false)
+  stands which truth bits tuple same is =
+      is ∙ ap (λ (b : List Bool). stands_for which schema deps dep (λ v. slice_index_or b v false)) same
 
-module _ (schema : Schema) (deps : List Dep) (dep : Dep) (values : List CellValues) (clauses : ClauseSet) (made : IsMadeFor schema deps dep values clauses) where
-  one_free : All (HasOneFree clauses) clauses.clauses
-  one_free = subst (λ (set : ClauseSet). All (HasOneFree set) set.clauses) (sym made.asked) (question_one_free schema deps dep made.typed made.deps_valid made.dep_valid)
+  module _ (values : List CellValues) (clauses : ClauseSet) (made : IsMadeFor schema deps dep values clauses) where
+    one_free : All (HasOneFree clauses) clauses.clauses
+    one_free =
+        subst (λ (set : ClauseSet). All (HasOneFree set) set.clauses) (sym made.asked)
+        (question_one_free schema deps dep made.typed made.deps_valid made.dep_valid)
 
-  -- the truth values of a model are as many as the variables of the values
-  told : (truth bits : List Bool) → length truth ≡ var_count clauses.cells → bits ≡ truth → var_total Two (asked_values schema deps dep) ≤ length bits
-  told truth bits as_many same =
-      omega (
-        arith,
-        as_many,
-        ap (λ (b : List Bool). length b) same,
-        ap (λ (set : ClauseSet). var_count set.cells) made.asked,
-        question_vars schema deps dep made.typed made.deps_valid made.dep_valid,
-      )
+    -- the truth values of a model are as many as the variables of the values
+    told : (truth bits : List Bool) → length truth ≡ var_count clauses.cells → bits ≡ truth
+        → var_total Two (asked_values schema deps dep) ≤ length bits
+    told truth bits as_many same =
+        omega (
+          arith,
+          as_many,
+          ap (λ (b : List Bool). length b) same,
+          ap (λ (set : ClauseSet). var_count set.cells) made.asked,
+          question_vars schema deps dep made.typed made.deps_valid made.dep_valid,
+        )
 
-  shows : length dep.rule.rows ≡ 1 → (truth : List Bool) (one other : List (List ℕ)) → IsAllowed clauses (λ v. slice_index_or truth v false)
-      → one ≡ stands_for First schema deps dep (λ v. slice_index_or truth v false) → other ≡ stands_for Second schema deps dep (λ v. slice_index_or truth v false)
-      → IsCounter schema deps dep one other
-  shows row truth one other allowed one-is other-is =
-      let value : ℕ → Bool = λ v. slice_index_or truth v false in
-      let found = counter schema deps dep made.typed made.deps_valid made.dep_valid row value (subst (λ (set : ClauseSet). IsAllowed set value) made.asked allowed) in
-      subst (λ (t : List (List ℕ)). IsCounter schema deps dep t other) (sym one-is)
-      (subst (λ (t : List (List ℕ)). IsCounter schema deps dep (stands_for First schema deps dep value) t) (sym other-is) found)
+    shows : length dep.rule.rows ≡ 1 → (truth : List Bool) (one other : List (List ℕ))
+        → IsAllowed clauses (λ v. slice_index_or truth v false)
+        → one ≡ stands_for First schema deps dep (λ v. slice_index_or truth v false)
+        → other ≡ stands_for Second schema deps dep (λ v. slice_index_or truth v false)
+        → IsCounter schema deps dep one other
+    shows row truth one other allowed one-is other-is =
+        let value : ℕ → Bool = λ v. slice_index_or truth v false in
+        let holds = subst (λ (set : ClauseSet). IsAllowed set value) made.asked allowed in
+        let found = counter schema deps dep made.typed made.deps_valid made.dep_valid row value holds in
+        subst (λ (t : List (List ℕ)). IsCounter schema deps dep t other) (sym one-is)
+        (subst (λ (t : List (List ℕ)). IsCounter schema deps dep (stands_for First schema deps dep value) t) (sym other-is) found)
 
-  refuted : length dep.rule.rows ≡ 1 → (tree : List Node) (budget : ℕ) → Refutes clauses tree × (leaf_count tree ≤ budget)
-      → Refutes (question schema deps dep) tree × (leaf_count tree ≤ budget) × IsImplied schema deps dep
-  refuted row tree budget answer =
-      let refutes = subst (λ (set : ClauseSet). Refutes set tree) made.asked answer.0 in
-      (refutes, answer.1, implied_if_none schema deps dep (attrs_each schema dep.table made.typed) made.deps_valid made.dep_valid row (sound (question schema deps dep) tree refutes))
+    refuted : length dep.rule.rows ≡ 1 → (tree : List Node) (budget : ℕ) → Refutes clauses tree × (leaf_count tree ≤ budget)
+        → Refutes (question schema deps dep) tree × (leaf_count tree ≤ budget) × IsImplied schema deps dep
+    refuted row tree budget answer =
+        let refutes = subst (λ (set : ClauseSet). Refutes set tree) made.asked answer.0 in
+        let none = sound (question schema deps dep) tree refutes in
+        let attrs_good = attrs_each schema dep.table made.typed in
+        (refutes, answer.1, implied_if_none schema deps dep attrs_good made.deps_valid made.dep_valid row none)
 
-  spent : (tree : List Node) (budget : ℕ) → IsPartial clauses tree × (leaf_count tree ≡ budget) × (budget < enough_of clauses.cells)
-      → IsPartial (question schema deps dep) tree × (leaf_count tree ≡ budget) × (budget < enough_of (question schema deps dep).cells)
-  spent tree budget answer = subst (λ (set : ClauseSet). IsPartial set tree × (leaf_count tree ≡ budget) × (budget < enough_of set.cells)) made.asked answer
+    spent : (tree : List Node) (budget : ℕ) → IsPartial clauses tree × (leaf_count tree ≡ budget) × (budget < enough_of clauses.cells)
+        → IsPartial (question schema deps dep) tree × (leaf_count tree ≡ budget) × (budget < enough_of (question schema deps dep).cells)
+    spent tree budget answer =
+        subst (λ (set : ClauseSet). IsPartial set tree × (leaf_count tree ≡ budget) × (budget < enough_of set.cells)) made.asked answer
 
 pub decide-requires-clause-one_free : goal.decide-requires-clause-one_free
-decide-requires-clause-one_free c = one_free c.self.inside.schema.now c.self.inside.deps.now c.self.inside.dep.now _ _ c.self.invariant
+decide-requires-clause-one_free c =
+    one_free c.self.inside.schema.now c.self.inside.deps.now c.self.inside.dep.now _ _ c.self.invariant
 
 pub tuple-requires : goal.tuple-requires
 tuple-requires c =
     let asked = c.args.self.now in
+    let made = made_for _ asked _ _ c.self.view_is c.self.invariant in
     let answer = subst (IsDecision c.self.inside.clauses c.args.budget) c.in-Model.is c.in_ok-truth.ensures in
-    told asked.schema asked.deps asked.dep _ _ (made_for _ asked _ _ c.self.view_is c.self.invariant) c.in-Model.truth.items _ answer.0 c.deref.ensures.value
+    told asked.schema asked.deps asked.dep _ _ made c.in-Model.truth.items _ answer.0 c.deref.ensures.value
 
 pub tuple-requires-in-Model : goal.tuple-requires-in-Model
 tuple-requires-in-Model c =
     let asked = c.args.self.now in
+    let made = made_for _ asked _ _ c.self.view_is c.self.invariant in
     let answer = subst (IsDecision c.self.inside.clauses c.args.budget) c.in-Model.is c.in_ok-truth.ensures in
-    told asked.schema asked.deps asked.dep _ _ (made_for _ asked _ _ c.self.view_is c.self.invariant) c.in-Model.truth.items _ answer.0 c.deref-in-Model.ensures.value
+    told asked.schema asked.deps asked.dep _ _ made c.in-Model.truth.items _ answer.0 c.deref-in-Model.ensures.value
 
 pub returns-in_ok-other-in-Model : goal.returns-in_ok-other-in-Model
 returns-in_ok-other-in-Model c =
@@ -91,11 +106,13 @@ returns-in_ok-other-in-Model c =
 pub returns-in-Refuted : goal.returns-in-Refuted
 returns-in-Refuted c =
     let asked = c.args.self.now in
+    let made = made_for _ asked _ _ c.self.view_is c.self.invariant in
     let answer = subst (IsDecision c.self.inside.clauses c.args.budget) c.in-Refuted.is c.in_ok-truth.ensures in
-    refuted asked.schema asked.deps asked.dep _ _ (made_for _ asked _ _ c.self.view_is c.self.invariant) c.requires.row c.in-Refuted.tree c.args.budget answer
+    refuted asked.schema asked.deps asked.dep _ _ made c.requires.row c.in-Refuted.tree c.args.budget answer
 
 pub returns-in-Spent : goal.returns-in-Spent
 returns-in-Spent c =
     let asked = c.args.self.now in
+    let made = made_for _ asked _ _ c.self.view_is c.self.invariant in
     let answer = subst (IsDecision c.self.inside.clauses c.args.budget) c.in-Spent.is c.in_ok-truth.ensures in
-    spent asked.schema asked.deps asked.dep _ _ (made_for _ asked _ _ c.self.view_is c.self.invariant) c.in-Spent.tree c.args.budget answer
+    spent asked.schema asked.deps asked.dep _ _ made c.in-Spent.tree c.args.budget answer

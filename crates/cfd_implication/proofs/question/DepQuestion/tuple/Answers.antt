@@ -1,6 +1,5 @@
-use Rattle.std.proofs.Common.{◌≡◌, ℕ, ◌≤◌, false, List, length, sym, ap, ◌∙◌, subst}
+use Rattle.std.proofs.Common.{◌≡◌, ℕ, ◌≤◌, Bool, false, List, length, sym, ap, ◌∙◌, subst}
 use Rattle.std.specs.Prelude.{All, IfOk, slice_index_or}
-use Rattle.schema_core.specs.Lookups.{attrs_at}
 use Rattle.schema_core.specs.Schemas.{IsValidAttr}
 use Rattle.schema_core.specs.declared.schema.Attr.{Attr}
 use Rattle.cell_values.specs.declared.values.CellValues.{CellValues}
@@ -21,8 +20,10 @@ tuple_of-requires-clause-few c = subst AreFew (sym c.as_slice.ensures) c.self.in
 
 pub tuple_of-requires-clause-constants : goal.tuple_of-requires-clause-constants
 tuple_of-requires-clause-constants c =
-    subst (All (λ (cell : CellValues). cell.constants ≤ length cell.values)) (sym (c.as_slice.ensures ∙ c.self.invariant.valued))
-    (constants_bound c.self.inside.schema.now c.self.inside.deps.now c.self.inside.dep.now c.self.invariant.typed c.self.invariant.deps_valid c.self.invariant.dep_valid)
+    let shown = c.self.inside in
+    let made = c.self.invariant in
+    subst (All (λ (cell : CellValues). cell.constants ≤ length cell.values)) (sym (c.as_slice.ensures ∙ made.valued))
+    (constants_bound shown.schema.now shown.deps.now shown.dep.now made.typed made.deps_valid made.dep_valid)
 
 pub tuple_of-requires-clause-told : goal.tuple_of-requires-clause-told
 tuple_of-requires-clause-told c =
@@ -31,6 +32,12 @@ tuple_of-requires-clause-told c =
 
 pub returns : goal.returns
 returns c =
-    subst (λ (q : AskedDep). IfOk c.tuple_of.result (λ (tuple : List (List ℕ)). tuple ≡ stands_for c.args.which q.schema q.deps q.dep (λ v. slice_index_or c.args.truth.now v false))) c.self.view_is
-    (subst (λ (attrs : List Attr). IfOk c.tuple_of.result (λ (tuple : List (List ℕ)). tuple ≡ tuple_of c.args.which attrs (asked_values c.self.inside.schema.now c.self.inside.deps.now c.self.inside.dep.now) (λ v. slice_index_or c.args.truth.now v false))) c.attrs_at-attrs.ensures
-    (subst (λ (cells : List CellValues). IfOk c.tuple_of.result (λ (tuple : List (List ℕ)). tuple ≡ tuple_of c.args.which c.attrs_at-attrs.result.now cells (λ v. slice_index_or c.args.truth.now v false))) (c.as_slice.ensures ∙ c.self.invariant.valued) c.tuple_of.ensures))
+    let shown = c.self.inside in
+    let values = asked_values shown.schema.now shown.deps.now shown.dep.now in
+    let which = c.args.which in
+    let truth : ℕ → Bool = λ v. slice_index_or c.args.truth.now v false in
+    let made = c.tuple_of.result in
+    subst (λ (q : AskedDep). IfOk made (λ (t : List (List ℕ)). t ≡ stands_for which q.schema q.deps q.dep truth)) c.self.view_is
+    (subst (λ (attrs : List Attr). IfOk made (λ (t : List (List ℕ)). t ≡ tuple_of which attrs values truth)) c.attrs_at-attrs.ensures
+    (subst (λ (cells : List CellValues). IfOk made (λ (t : List (List ℕ)). t ≡ tuple_of which c.attrs_at-attrs.result.now cells truth))
+    (c.as_slice.ensures ∙ c.self.invariant.valued) c.tuple_of.ensures))
