@@ -23,8 +23,9 @@ use Rattle.rule_model.specs.Books.{Book, book_deps, book_cinds}
 use Rattle.rule_model.specs.Satisfied.{SatisfyDep, SatisfyCind}
 use Rattle.bench_core.specs.State.{State, rows_at}
 use Rattle.violation_report.specs.declared.line.Line.{Line}
-use Rattle.bench_core.specs.Answers.{cind_orphans, dep_violations}
-use Rattle.violation_report.specs.Listing.{dep_line, dep_lines, cind_line, cind_lines, listing, IsSatisfied}
+use Rattle.bench_core.specs.Answers.{cind_orphans, dep_violations, orphans_at, violations_at}
+use Rattle.bench_core.proofs.Answering.{item-there}
+use Rattle.violation_report.specs.Listing.{dep_line, dep_lines, dep_lines_at, cind_line, cind_lines, cind_lines_at, listing, IsSatisfied}
 use Rattle.violation_report.specs.Text.{IsLineOf, HasDepRow}
 
 -- ---- an empty list
@@ -123,3 +124,19 @@ listing_in_range rules state =
     (All-map (IsLineOf rules) cind_line (numbered (cind_orphans state) (book_cinds rules))
     (of_items (cind_orphans state) (λ (cind : Cind) (one : ℕ × ℕ). one.0 < length cind.rule.rows)
     (λ cind. numbered-in_range (λ t. orphaned bytes_eq t (left_entries cind.rule (rows_at state cind.left)) (right_entries cind.rule (rows_at state cind.right))) cind.rule.rows) (book_cinds rules)))
+
+-- so do the lines of one rule
+module _ (rules : Book) (state : State) (n : ℕ) where
+  pub dep_lines-in_range : n < length (book_deps rules) → All (IsLineOf rules) (dep_lines_at n (violations_at rules state n))
+  dep_lines-in_range within =
+      let (dep, at) = item-there (book_deps rules) n within in
+      let has : (one : ℕ × Violation) → one.0 < length dep.rule.rows → IsLineOf rules (dep_line (n, one)) = λ one few. dep_line-in_range rules (n, one) (rw at few) in
+      let all = numbered-in_range (λ t. violating bytes_eq t (entries dep.rule (rows_at state dep.table))) dep.rule.rows in
+      rw at (All-map (IsLineOf rules) (λ one. dep_line (n, one)) (dep_violations state dep) (All-weaker (λ (one : ℕ × Violation). one.0 < length dep.rule.rows) (λ one. IsLineOf rules (dep_line (n, one))) has (dep_violations state dep) all))
+
+  pub cind_lines-in_range : n < length (book_cinds rules) → All (IsLineOf rules) (cind_lines_at n (orphans_at rules state n))
+  cind_lines-in_range within =
+      let (cind, at) = item-there (book_cinds rules) n within in
+      let has : (one : ℕ × ℕ) → one.0 < length cind.rule.rows → IsLineOf rules (cind_line (n, one)) = λ one few. rw at few in
+      let all = numbered-in_range (λ t. orphaned bytes_eq t (left_entries cind.rule (rows_at state cind.left)) (right_entries cind.rule (rows_at state cind.right))) cind.rule.rows in
+      rw at (All-map (IsLineOf rules) (λ one. cind_line (n, one)) (cind_orphans state cind) (All-weaker (λ (one : ℕ × ℕ). one.0 < length cind.rule.rows) (λ one. IsLineOf rules (cind_line (n, one))) has (cind_orphans state cind) all))
