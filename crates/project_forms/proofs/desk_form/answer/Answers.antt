@@ -1,4 +1,4 @@
-use Rattle.std.proofs.Common.{◌≡◌, ℕ, List, [], Err, ap, subst, ◌∙◌}
+use Rattle.std.proofs.Common.{◌≡◌, ℕ, List, [], Err, ap, inl, subst, ◌∙◌}
 use Rattle.rule_model.specs.Books.{Book}
 use Rattle.text_lists.specs.declared.limits.Limits.{Limits}
 use Rattle.bench_core.specs.History.{History}
