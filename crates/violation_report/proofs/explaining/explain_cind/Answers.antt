@@ -36,7 +36,7 @@ returns-clause-lines g c =
     let own : cind_is_of rules c.args.table c.args.number ≡ true = sym c.cind_is_of.ensures ∙ c.if-not-cind_is_of.false in
     let lines = own-cind-lines rules c.args.table c.args.row c.args.number own (orphans_at rules c.args.bench.now.history.present c.args.number) in
     let is = ap (cind_lines_at c.args.number) (c.as_slice.ensures ∙ c.in_ok-found.ensures.orphans) ∙ sym lines in
-    on_ok_weaker c.put_orphans.result (λ takes. appended c.args.lines.now (cind_lines_at c.args.number c.as_slice.result.now) c.put_orphans.new.lines takes ∙ ap (λ more. c.args.lines.now ++ more) is) c.put_orphans.ensures
+    on_ok_weaker c.put_orphans.result (λ takes. appended c.args.lines.now (cind_lines_at c.args.number c.as_slice.result.now) c.put_orphans.new.taker takes ∙ ap (λ more. c.args.lines.now ++ more) is) c.put_orphans.ensures
 
 pub returns-clause-probes : goal.returns-clause-probes
 returns-clause-probes g c =

@@ -36,7 +36,7 @@ returns-clause-lines g c =
     let own : dep_is_of rules c.args.table c.args.number ≡ true = sym c.dep_is_of.ensures ∙ c.if-not-dep_is_of.false in
     let lines = own-dep-lines rules c.args.table c.args.row c.args.number own (violations_at rules c.args.bench.now.history.present c.args.number) in
     let is = ap (dep_lines_at c.args.number) (c.as_slice.ensures ∙ c.in_ok-found.ensures.violations) ∙ sym lines in
-    on_ok_weaker c.put_violations.result (λ takes. appended c.args.lines.now (dep_lines_at c.args.number c.as_slice.result.now) c.put_violations.new.lines takes ∙ ap (λ more. c.args.lines.now ++ more) is) c.put_violations.ensures
+    on_ok_weaker c.put_violations.result (λ takes. appended c.args.lines.now (dep_lines_at c.args.number c.as_slice.result.now) c.put_violations.new.taker takes ∙ ap (λ more. c.args.lines.now ++ more) is) c.put_violations.ensures
 
 pub returns-clause-probes : goal.returns-clause-probes
 returns-clause-probes g c =

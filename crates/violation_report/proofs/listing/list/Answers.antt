@@ -5,10 +5,10 @@ use Rattle.violation_report.proofs.Taken.{appended}
 use Rattle.violation_report.proofs.listing.list.Given as given
 use Rattle.violation_report.proofs.listing.list.Goals as goal
 
-whole : (g : given.Over) (c : goal.In_ok-walk g) → c.walk.new.lines ≡ listing c.args.bench.now.rules c.args.bench.now.history.present
+whole : (g : given.Over) (c : goal.In_ok-walk g) → c.walk.new.taker ≡ listing c.args.bench.now.rules c.args.bench.now.history.present
 whole g c =
     let all = listing c.args.bench.now.rules c.args.bench.now.history.present in
-    appended _ all c.walk.new.lines c.in_ok-walk.ensures.lines
+    appended _ all c.walk.new.taker c.in_ok-walk.ensures.lines
 
 pub returns-clause-list : goal.returns-clause-list
 returns-clause-list g c = whole g c
