@@ -5,7 +5,7 @@ use Rattle.std.specs.List.{concat}
 use Rattle.std.proofs.lemmas.List.{append_assoc, append-nil}
 use Rattle.serde_json.specs.Data.{string}
 use Rattle.serde_json.specs.View.{items_of}
-use Rattle.serde_json.specs.Written.{comma_if, compact_text, items_text}
+use Rattle.serde_json.specs.Written.{compact_text, items_text}
 use Rattle.serde_json.proofs.OnLiterals.{serde_json_on_literals}
 use Rattle.rule_model.specs.Books.{Book}
 use Rattle.violation_report.specs.Report.{line_data, report_text}
@@ -41,19 +41,6 @@ module _ (rules : Book) (k row : ℕ) (old new id rule table number : List ℕ) 
       → new ≡ old ++ compact_text (line_data rules (Orphan cind k row))
   unfolding serde_json_on_literals
   orphan_written cind is_id is_rule is_table is_number written = written ∙ rw (is_id, is_rule, is_table, is_number) refl
-
--- one object more, before those that are left
-pub written-more : (rules : Book) (start old new : Objects) (before : List Line) (line : Line)
-    → new.text.items ≡ old.text.items ++ (comma_if old.later ++ compact_text (line_data rules line)) → new.later ≡ true
-    → AreWritten rules start before old → AreWritten rules start (before ++ line ∷ []) new
-written-more rules start old new before line is later written rest =
-    let text = compact_text (line_data rules line) in
-    let left = items_text true (items_of (map (line_data rules) rest)) in
-    (λ i. is i ++ items_text (later i) (items_of (map (line_data rules) rest)))
-    ∙ append_assoc old.text.items (comma_if old.later ++ text) left
-    ∙ ap (λ t. old.text.items ++ t) (append_assoc (comma_if old.later) text left)
-    ∙ written (line ∷ rest)
-    ∙ ap (λ (lines : List Line). start.text.items ++ items_text start.later (items_of (map (line_data rules) lines))) (sym (append_assoc before (line ∷ []) rest))
 
 -- the front of a report, the objects with their closing bracket, and its end
 pub report_pieces : (rules : Book) (lines : List Line) (front out report : List ℕ)

@@ -1,9 +1,8 @@
 -- Lines that are put after others.
-use Rattle.std.proofs.Common.{◌≡◌, ℕ, ◌+◌, List, [], ◌∷◌, ◌++◌, length, sym, ap, subst, ◌∙◌, arith}
-use Rattle.std.proofs.lemmas.List.{append_assoc, append-nil, flat_map_more, length-append}
+use Rattle.std.proofs.Common.{◌≡◌, List, [], ◌++◌, refl, sym, subst, arith}
+use Rattle.std.proofs.lemmas.List.{append_assoc, append-nil}
 use Rattle.rule_model.specs.Books.{Book}
 use Rattle.violation_report.specs.Taking.{Takes}
-use Rattle.violation_report.specs.Text.{line_text}
 use Rattle.violation_report.specs.Written.{AreTold}
 use Rattle.violation_report.specs.declared.line.Line.{Line}
 use Rattle.violation_report.specs.declared.taker.Texts.{Texts}
@@ -23,12 +22,5 @@ Appended start lines end = end ≡ start ++ lines
 pub appended : (old lines new : List Line) → Takes Appended old lines new → new ≡ old ++ lines
 appended old lines new takes = takes old [] (sym (append-nil old))
 
--- one text more, and one line
-pub told-more : (rules : Book) (start old new : Texts) (before : List Line) (line : Line)
-    → new.out.ghost_name ≡ old.out.ghost_name → new.out.now.items ≡ old.out.now.items ++ line_text rules line → new.lines ≡ old.lines + 1
-    → AreTold rules start before old → AreTold rules start (before ++ line ∷ []) new
-told-more rules start old new before line same text count told = record {
-  same_reference = same ∙ told.same_reference;
-  text = text ∙ ap (λ t. t ++ line_text rules line) told.text ∙ flat_map_more (line_text rules) start.out.now.items before line;
-  count = let long = length-append before (line ∷ []) in omega (arith, count, told.count, long);
-}
+pub told : (rules : Book) (old : Texts) (lines : List Line) (new : Texts) → Takes (AreTold rules) old lines new → AreTold rules old lines new
+told rules old lines new takes = takes old [] (record { same_reference = refl; text = sym (append-nil old.out.now.items); count = omega arith })
