@@ -1,4 +1,4 @@
-use Rattle.std.proofs.Common.{rules}
+use Rattle.std.proofs.Common.{arith, rules}
 use Rattle.violation_report.specs.Listing.{listing}
 use Rattle.violation_report.proofs.Lists.{law_of_length}
 use Rattle.violation_report.proofs.Taken.{told}
@@ -15,9 +15,8 @@ returns-clause-text g c =
 pub returns-clause-count : goal.returns-clause-count
 returns-clause-count g c =
     let bench = c.args.bench.now in
-    (told bench.rules _ (listing bench.rules bench.history.present) c.walk.new.taker c.in_ok-walk.ensures.lines).count
+    let count = (told bench.rules _ (listing bench.rules bench.history.present) c.walk.new.taker c.in_ok-walk.ensures.lines).count in
+    omega (arith, count)
 
 pub returns-clause-law : goal.returns-clause-law
-returns-clause-law g c =
-    let bench = c.args.bench.now in
-    law_of_length bench.rules bench.history.present c.walk.new.taker.lines (told bench.rules _ (listing bench.rules bench.history.present) c.walk.new.taker c.in_ok-walk.ensures.lines).count
+returns-clause-law g c = law_of_length c.args.bench.now.rules c.args.bench.now.history.present c.walk.new.taker.lines (returns-clause-count g c)
