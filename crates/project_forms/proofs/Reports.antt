@@ -1,5 +1,5 @@
 -- How telling a list ends.
-use Rattle.std.proofs.Common.{◌≡◌, ◌↔◌, Bool, true, false, List, [], ◌∷◌, inl, refl, sym, ap, ◌∙◌}
+use Rattle.std.proofs.Common.{◌≡◌, ◌↔◌, Bool, true, false, List, [], ◌∷◌, refl, sym, ap, ◌∙◌}
 use Rattle.std.specs.Prelude.{IsTrue}
 use Rattle.rule_model.specs.Books.{Book}
 use Rattle.bench_core.specs.State.{State}
@@ -9,7 +9,7 @@ use Rattle.violation_report.proofs.Lists.{listing_is_empty}
 use Rattle.cli_output.specs.declared.status.Status.{Status}
 use Rattle.cli_output.specs.declared.status.Status.TheVariants.{Clean, Findings}
 use Rattle.cli_output.specs.Output.{IsWhole}
-use Rattle.project_forms.specs.Transcripts.{HasStatus, found_status}
+use Rattle.project_forms.specs.Transcripts.{found_status}
 
 -- the status of a list isn't one of a call that was cut short
 pub found_is_whole : {X : Type 0} (listed : List X) → IsWhole (found_status listed)
@@ -18,12 +18,12 @@ found_is_whole (x ∷ xs) = tt
 
 -- ---- the status by whether nothing is listed
 
-pub clean_told : {X : Type 0} (listed : List X) (is_clean : Bool) → (IsTrue is_clean ↔ (listed ≡ [])) → is_clean ≡ true → HasStatus listed Clean
-clean_told listed is_clean told is = inl (ap found_status (sym (told.0 is)))
+pub clean_told : {X : Type 0} (listed : List X) (is_clean : Bool) → (IsTrue is_clean ↔ (listed ≡ [])) → is_clean ≡ true → Clean ≡ found_status listed
+clean_told listed is_clean told is = ap found_status (sym (told.0 is))
 
-pub found_told : {X : Type 0} (listed : List X) (is_clean : Bool) → (IsTrue is_clean ↔ (listed ≡ [])) → is_clean ≡ false → HasStatus listed Findings
+pub found_told : {X : Type 0} (listed : List X) (is_clean : Bool) → (IsTrue is_clean ↔ (listed ≡ [])) → is_clean ≡ false → Findings ≡ found_status listed
 found_told [] is_clean told is = absurd (let yes : is_clean ≡ true = told.1 refl in cc)
-found_told (x ∷ xs) is_clean told is = inl refl
+found_told (x ∷ xs) is_clean told is = refl
 
 -- ---- the status by whether the rules are satisfied
 

@@ -1,14 +1,11 @@
 //! The form `report PROJECT`: the list of the state that the project's script leads to, as JSON.
-ghost use Rattle.std.specs.Prelude.{◌≡◌, IfOk};
 ghost use Rattle.text_lists.specs.Limits.{AreLimits};
-ghost use Rattle.violation_report.specs.Listing.{listing};
-ghost use Rattle.violation_report.specs.Report.{report_text};
 ghost use Rattle.cli_output.specs.Output.{Ends, Output, UsesDevices, Writes};
 ghost use Rattle.project_forms.specs.Project.{read_of};
 ghost use Rattle.project_forms.specs.ReportForm.{report_of, report_outputs, report_task};
-ghost use Rattle.project_forms.specs.Transcripts.{found_status};
 
 use crate::project::{Project, after_script, fetch_project};
+use crate::run_form::status_of;
 use bench_core::Bench;
 use cli_output::{Status, end_by, end_with};
 use hash_keys::HashKeys;
@@ -17,7 +14,7 @@ use schema_core::{Limits, Text};
 use shelf_io::{Shelf, Sink};
 use std::alloc::{AllocError, Global};
 use std::sync::ledger::Ledger;
-use violation_report::{json_report, list};
+use violation_report::json_report;
 
 /// Tells what the script of a project leads to.
 pub fn report_project<S: Shelf, O: Sink, L: Ledger>(
@@ -64,25 +61,8 @@ fn tell<O: Sink, L: Ledger>(
 ) -> Status
     ensures { Ends (report_of bench.now.rules bench.now.history.present) result (O.told out.old) (O.told out.new) }
 {
-    match report_of(alloc, bench, steps) {
-        Ok((text, status)) => end_with(out, &text, status),
+    match json_report(alloc, &bench.queries(), steps) {
+        Ok(text) => end_with(out, &text, status_of(bench)),
         Err(AllocError) => Status::Memory,
-    }
-}
-
-fn report_of<L: Ledger>(
-    alloc: Global,
-    bench: &Bench,
-    steps: &mut Steps<L>,
-) -> Result<(Vec<u8>, Status), AllocError>
-    ensures text { IfOk result (λ report. report.0.items ≡ report_text bench.now.rules (listing bench.now.rules bench.now.history.present)) }
-    ensures status { IfOk result (λ report. report.1 ≡ found_status (listing bench.now.rules bench.now.history.present)) }
-{
-    let lines = list(alloc, &bench.queries(), steps)?;
-    let text = json_report(alloc, bench.rules(), &lines)?;
-    if lines.as_slice().is_empty() {
-        Ok((text, Status::Clean))
-    } else {
-        Ok((text, Status::Findings))
     }
 }

@@ -1,10 +1,11 @@
 //! The form `run PROJECT`: answers the project's script.
+ghost use Rattle.std.specs.Prelude.{◌≡◌};
 ghost use Rattle.text_lists.specs.Limits.{AreLimits};
 ghost use Rattle.violation_report.specs.Listing.{listing};
 ghost use Rattle.cli_output.specs.Output.{Ends, IsWhole, Output, UsesDevices, Writes};
 ghost use Rattle.project_forms.specs.Project.{read_of};
 ghost use Rattle.project_forms.specs.RunForm.{counted_from, counted_run_task, run_outputs, run_task};
-ghost use Rattle.project_forms.specs.Transcripts.{HasStatus};
+ghost use Rattle.project_forms.specs.Transcripts.{found_status};
 
 use crate::project::{Project, fetch_project};
 use bench_core::Bench;
@@ -66,7 +67,7 @@ fn answer<O: Sink, L: Ledger>(
 // Nothing is counted or listed for it.
 #[tactic(auto, using(crate::proofs::Reports::clean_told, crate::proofs::Reports::found_told))]
 pub fn status_of(bench: &Bench) -> Status
-    ensures { HasStatus (listing bench.now.rules bench.now.history.present) result }
+    ensures { result ≡ found_status (listing bench.now.rules bench.now.history.present) }
 {
     if is_clean(&bench.queries()) {
         Status::Clean

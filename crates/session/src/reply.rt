@@ -15,7 +15,7 @@ use rule_model::RuleBook;
 use schema_core::{Text, push_number};
 use std::alloc::{AllocError, Global};
 use std::sync::ledger::Ledger;
-use violation_report::{ExplainFault, Line, count, explain, list, push_line};
+use violation_report::{ExplainFault, Line, count, explain, push_line};
 
 /// A word, and the row that it is said of.
 pub fn push_row(out: &mut Vec<u8>, word: &[u8], table: &Text, row: u64) -> Result<(), AllocError>
@@ -147,7 +147,6 @@ pub fn push_lines(
 
 /// Tells the list of the bench.
 pub fn push_list<L: Ledger>(
-    alloc: Global,
     out: &mut Vec<u8>,
     bench: &Bench,
     steps: &mut Steps<L>,
@@ -155,8 +154,8 @@ pub fn push_list<L: Ledger>(
     ensures text { OnOk result (out.new.items ≡ out.old.items ++ list_text bench.now.rules bench.now.history.present) }
     ensures probes { steps.new ≤ steps.old + list_probes bench.now.rules bench.now.history.present }
 {
-    let lines = list(alloc, &bench.queries(), steps)?;
-    push_lines(bench.rules(), b"listed", lines.as_slice(), out)
+    let lines = violation_report::push_list(&bench.queries(), out, steps)?;
+    push_counted(out, b"listed", lines)
 }
 
 /// Tells how many lines the list has.

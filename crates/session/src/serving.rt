@@ -98,7 +98,7 @@ fn answer<L: Ledger>(
         } => answer_fix(alloc, bench, table, *row, vouched, reply, steps),
         Command::Undo => answer_undo(bench, reply, steps),
         Command::Redo => answer_redo(bench, reply, steps),
-        Command::List => push_list(alloc, reply, bench, steps),
+        Command::List => push_list(reply, bench, steps),
         Command::Count => push_count(reply, bench, steps),
         Command::Explain { table, row } => push_explained(alloc, reply, bench, table, *row, steps),
         Command::Export { table } => push_exported(alloc, reply, bench, table),

@@ -1,5 +1,6 @@
 pub mod Lists
 pub mod Loops
+pub mod Taken
 pub mod Reports
 pub mod RowLines
 pub mod Probed

@@ -5,7 +5,7 @@ use Rattle.std.specs.Option.{IsSomeAnd}
 use Rattle.std.proofs.lemmas.Bool.{cases_lt}
 use Rattle.std.proofs.lemmas.Cmp.{nat_list_eq_equiv}
 use Rattle.std.specs.Str.{bytes_eq}
-use Rattle.std.proofs.lemmas.List.{drop_more, drop_all, length-append}
+use Rattle.std.proofs.lemmas.List.{drop_more, drop_all, get_or-map, length-append, length-map}
 use Rattle.std.proofs.lemmas.Option.{slice_get-get_or}
 use Rattle.std.proofs.lemmas.List.Elements.{All-nil, All-append, All-map, All-weaker, Contains-get_or}
 use Rattle.cfd_semantics.specs.declared.violation.Violation.{Violation}
@@ -23,8 +23,9 @@ use Rattle.rule_model.specs.Books.{Book, book_deps, book_cinds}
 use Rattle.rule_model.specs.Satisfied.{SatisfyDep, SatisfyCind}
 use Rattle.bench_core.specs.State.{State, rows_at}
 use Rattle.violation_report.specs.declared.line.Line.{Line}
-use Rattle.bench_core.specs.Answers.{cind_orphans, dep_violations}
-use Rattle.violation_report.specs.Listing.{dep_line, dep_lines, cind_line, cind_lines, listing, IsSatisfied}
+use Rattle.bench_core.specs.Answers.{cind_orphans, dep_violations, orphans_at, violations_at}
+use Rattle.bench_core.proofs.Answering.{item-there}
+use Rattle.violation_report.specs.Listing.{dep_line, dep_lines, dep_lines_at, cind_line, cind_lines, cind_lines_at, listing, IsSatisfied}
 use Rattle.violation_report.specs.Text.{IsLineOf, HasDepRow}
 
 -- ---- an empty list
@@ -67,15 +68,18 @@ no_items [] none = refl
 no_items (x ∷ xs) none = absurd (omega (arith, none))
 
 -- so its length is 0 exactly there
-pub law_counted : {E : Type 0} (rules : Book) (state : State) (deps cinds : ℕ) (result : Result ℕ E) → deps ≡ length (dep_lines rules state) → cinds ≡ length (cind_lines rules state) → IfOk result (λ sum. sum ≡ deps + cinds)
-    → IfOk result (λ lines. lines ≡ 0 ↔ IsSatisfied rules state)
-law_counted rules state deps cinds (Err e) deps_are cinds_are sum = tt
-law_counted rules state deps cinds (Ok lines) deps_are cinds_are sum =
-    let long : lines ≡ length (listing rules state) = sum ∙ (λ i. deps_are i + cinds_are i) ∙ sym (length-append (dep_lines rules state) (cind_lines rules state)) in
+pub law_of_length : (rules : Book) (state : State) (lines : ℕ) → lines ≡ length (listing rules state) → lines ≡ 0 ↔ IsSatisfied rules state
+law_of_length rules state lines long =
     let law = listing_is_empty rules state in (
       (λ none. law.0 (no_items (listing rules state) (sym long ∙ none))),
       (λ satisfied. long ∙ ap (λ (ls : List Line). length ls) (law.1 satisfied)),
     )
+
+pub law_counted : {E : Type 0} (rules : Book) (state : State) (deps cinds : ℕ) (result : Result ℕ E) → deps ≡ length (dep_lines rules state) → cinds ≡ length (cind_lines rules state) → IfOk result (λ sum. sum ≡ deps + cinds)
+    → IfOk result (λ lines. lines ≡ 0 ↔ IsSatisfied rules state)
+law_counted rules state deps cinds (Err e) deps_are cinds_are sum = tt
+law_counted rules state deps cinds (Ok lines) deps_are cinds_are sum =
+    law_of_length rules state lines (sum ∙ (λ i. deps_are i + cinds_are i) ∙ sym (length-append (dep_lines rules state) (cind_lines rules state)))
 
 -- ---- numbers in range
 
@@ -123,3 +127,23 @@ listing_in_range rules state =
     (All-map (IsLineOf rules) cind_line (numbered (cind_orphans state) (book_cinds rules))
     (of_items (cind_orphans state) (λ (cind : Cind) (one : ℕ × ℕ). one.0 < length cind.rule.rows)
     (λ cind. numbered-in_range (λ t. orphaned bytes_eq t (left_entries cind.rule (rows_at state cind.left)) (right_entries cind.rule (rows_at state cind.right))) cind.rule.rows) (book_cinds rules)))
+
+-- what holds of all mapped items holds of each
+pub mapped-at : {X Y : Type 0} (P : Y → Type 0) (f : X → Y) (xs : List X) → All P (map f xs) → (i : ℕ) (d : X) → i < length xs → P (f (get_or xs i d))
+mapped-at P f xs all i d within = subst P (get_or-map f xs i d (f d) within) (all i (f d) (rw (length-map xs f) within))
+
+-- so do the lines of one rule
+module _ (rules : Book) (state : State) (n : ℕ) where
+  pub dep_lines-in_range : n < length (book_deps rules) → All (IsLineOf rules) (dep_lines_at n (violations_at rules state n))
+  dep_lines-in_range within =
+      let (dep, at) = item-there (book_deps rules) n within in
+      let has : (one : ℕ × Violation) → one.0 < length dep.rule.rows → IsLineOf rules (dep_line (n, one)) = λ one few. dep_line-in_range rules (n, one) (rw at few) in
+      let all = numbered-in_range (λ t. violating bytes_eq t (entries dep.rule (rows_at state dep.table))) dep.rule.rows in
+      rw at (All-map (IsLineOf rules) (λ one. dep_line (n, one)) (dep_violations state dep) (All-weaker (λ (one : ℕ × Violation). one.0 < length dep.rule.rows) (λ one. IsLineOf rules (dep_line (n, one))) has (dep_violations state dep) all))
+
+  pub cind_lines-in_range : n < length (book_cinds rules) → All (IsLineOf rules) (cind_lines_at n (orphans_at rules state n))
+  cind_lines-in_range within =
+      let (cind, at) = item-there (book_cinds rules) n within in
+      let has : (one : ℕ × ℕ) → one.0 < length cind.rule.rows → IsLineOf rules (cind_line (n, one)) = λ one few. rw at few in
+      let all = numbered-in_range (λ t. orphaned bytes_eq t (left_entries cind.rule (rows_at state cind.left)) (right_entries cind.rule (rows_at state cind.right))) cind.rule.rows in
+      rw at (All-map (IsLineOf rules) (λ one. cind_line (n, one)) (cind_orphans state cind) (All-weaker (λ (one : ℕ × ℕ). one.0 < length cind.rule.rows) (λ one. IsLineOf rules (cind_line (n, one))) has (cind_orphans state cind) all))

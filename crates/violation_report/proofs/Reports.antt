@@ -1,15 +1,17 @@
 -- The text of a report, piece by piece.
-use Rattle.std.proofs.Common.{◌≡◌, ℕ, ◌+◌, ◌<◌, Bool, true, false, List, [], ◌∷◌, ◌++◌, map, length, drop, get_or, refl, ap, ◌∙◌, sym, codes}
+use Rattle.std.proofs.Common.{◌≡◌, ℕ, ◌+◌, Bool, true, false, List, [], ◌∷◌, ◌++◌, map, length, refl, ap, ◌∙◌, sym, codes}
 use Rattle.std.specs.Prelude.{decimal}
 use Rattle.std.specs.List.{concat}
-use Rattle.std.proofs.lemmas.List.{append_assoc, drop_more}
+use Rattle.std.proofs.lemmas.List.{append_assoc, append-nil}
 use Rattle.serde_json.specs.Data.{string}
 use Rattle.serde_json.specs.View.{items_of}
-use Rattle.serde_json.specs.Written.{comma_if, compact_text, items_text}
+use Rattle.serde_json.specs.Written.{compact_text, items_text}
 use Rattle.serde_json.proofs.OnLiterals.{serde_json_on_literals}
 use Rattle.rule_model.specs.Books.{Book}
 use Rattle.violation_report.specs.Report.{line_data, report_text}
 use Rattle.violation_report.specs.Text.{dep_name, dep_attr, dep_table, cind_name, cind_table}
+use Rattle.violation_report.specs.Written.{AreWritten}
+use Rattle.violation_report.specs.declared.json.Objects.{Objects}
 use Rattle.violation_report.specs.declared.line.Line.{Line}
 use Rattle.violation_report.specs.declared.line.Line.TheVariants.{Single, Pair, Orphan}
 
@@ -40,19 +42,6 @@ module _ (rules : Book) (k row : ℕ) (old new id rule table number : List ℕ) 
   unfolding serde_json_on_literals
   orphan_written cind is_id is_rule is_table is_number written = written ∙ rw (is_id, is_rule, is_table, is_number) refl
 
--- one object more, before those that are left
-pub item_more : (rules : Book) (lines : List Line) (i : ℕ) (line : Line) → i < length lines → (later : Bool) (before out more : List ℕ)
-    → out ++ items_text later (items_of (map (line_data rules) (drop i lines))) ≡ before
-    → more ≡ out ++ (comma_if later ++ compact_text (line_data rules (get_or lines i line)))
-    → more ++ items_text true (items_of (map (line_data rules) (drop (i + 1) lines))) ≡ before
-item_more rules lines i line within later before out more so_far is =
-    let text = compact_text (line_data rules (get_or lines i line)) in
-    let rest = items_text true (items_of (map (line_data rules) (drop (i + 1) lines))) in
-    ap (λ t. t ++ rest) is
-    ∙ append_assoc out (comma_if later ++ text) rest
-    ∙ ap (λ t. out ++ t) (append_assoc (comma_if later) text rest ∙ ap (λ ls. items_text later (items_of (map (line_data rules) ls))) (sym (drop_more lines i line within)))
-    ∙ so_far
-
 -- the front of a report, the objects with their closing bracket, and its end
 pub report_pieces : (rules : Book) (lines : List Line) (front out report : List ℕ)
     → front ≡ concat (codes "{\"count\":" ∷ decimal (length lines) ∷ codes ",\"lines\":[" ∷ [])
@@ -69,3 +58,13 @@ report_pieces rules lines front out report is then last =
     ∙ append_assoc (concat (codes "{\"count\":" ∷ count ∷ head ∷ [])) items (codes "}\n")
     ∙ ap (λ t. codes "{\"count\":" ++ t) (append_assoc count head (items ++ codes "}\n"))
     ∙ sym (ap (λ t. codes "{\"count\":" ++ t) (append_assoc count (head ++ (items ++ codes "}")) (codes "\n") ∙ ap (λ t. count ++ (head ++ t)) (append_assoc items (codes "}") (codes "\n"))))
+
+-- the front of a report, the objects, and its end
+pub report_written : (rules : Book) (lines : List Line) (start end : Objects) (report : List ℕ)
+    → start.text.items ≡ concat (codes "{\"count\":" ∷ decimal (length lines) ∷ codes ",\"lines\":[" ∷ []) → start.later ≡ false
+    → AreWritten rules start lines end
+    → report ≡ end.text.items ++ codes "]}\n"
+    → report ≡ report_text rules lines
+report_written rules lines start end report is first written last =
+    let all = written [] ∙ (λ i. start.text.items ++ items_text (first i) (items_of (map (line_data rules) (append-nil lines i)))) in
+    report_pieces rules lines start.text.items (end.text.items ++ codes "]") report is all (last ∙ sym (append_assoc end.text.items (codes "]") (codes "}\n")))

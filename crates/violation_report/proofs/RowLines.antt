@@ -10,7 +10,7 @@ use Rattle.cfd_semantics.specs.Numbered.{numbered}
 use Rattle.rule_model.specs.declared.dep.Dep.{Dep}
 use Rattle.rule_model.specs.declared.cind.Cind.{Cind}
 use Rattle.rule_model.specs.Books.{Book, book_cinds, book_deps}
-use Rattle.bench_core.specs.Answers.{IsRowOfCind, IsRowOfDep, cind_orphans, dep_violations, orphans_at, row_texts, violations_at}
+use Rattle.bench_core.specs.Answers.{IsRowOfCind, IsRowOfDep, cind_orphans, dep_violations, orphans_at, orphans_of_row, row_texts, violations_at, violations_of_row}
 use Rattle.bench_core.specs.State.{Row, State, TableState, has_id, texts_of}
 use Rattle.bench_core.specs.Stored.{Stored, table_state}
 use Rattle.bench_core.proofs.Planned.{texts-absent, texts-there}
@@ -18,7 +18,7 @@ use Rattle.violation_report.specs.declared.line.Line.{Line}
 use Rattle.violation_report.specs.Explained.{cind_is_of, dep_is_of, explained, has_row, is_about}
 use Rattle.violation_report.specs.Listing.{cind_line, cind_lines, cind_lines_at, dep_line, dep_lines, dep_lines_at, listing}
 use Rattle.violation_report.specs.Text.{IsLineOf}
-use Rattle.violation_report.proofs.Lists.{listing_in_range}
+use Rattle.violation_report.proofs.Lists.{cind_lines-in_range, dep_lines-in_range, listing_in_range}
 use Rattle.violation_report.proofs.Loops.{cind-lines-more, dep-lines-more}
 
 -- ---- lines that are kept
@@ -88,6 +88,17 @@ explained-parts rules state table row = filter-append (is_about rules table row)
 
 pub explained-in_range : (rules : Book) (state : State) (table row : ℕ) → All (IsLineOf rules) (explained rules state table row)
 explained-in_range rules state table row = All-filter (is_about rules table row) (IsLineOf rules) (listing rules state) (listing_in_range rules state)
+
+module _ (rules : Book) (state : State) (table row n : ℕ) where
+  pub own-dep-in_range : n < length (book_deps rules) → dep_is_of rules table n ≡ true → All (IsLineOf rules) (dep_lines_at n (violations_of_row rules state n row))
+  own-dep-in_range within own =
+      let found = violations_at rules state n in
+      subst (All (IsLineOf rules)) (own-dep-lines rules table row n own found) (All-filter (is_about rules table row) (IsLineOf rules) (dep_lines_at n found) (dep_lines-in_range rules state n within))
+
+  pub own-cind-in_range : n < length (book_cinds rules) → cind_is_of rules table n ≡ true → All (IsLineOf rules) (cind_lines_at n (orphans_of_row rules state n row))
+  own-cind-in_range within own =
+      let found = orphans_at rules state n in
+      subst (All (IsLineOf rules)) (own-cind-lines rules table row n own found) (All-filter (is_about rules table row) (IsLineOf rules) (cind_lines_at n found) (cind_lines-in_range rules state n within))
 
 -- ---- a row that is there
 

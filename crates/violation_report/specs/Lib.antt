@@ -1,5 +1,7 @@
 pub mod Listing
 pub mod Text
+pub mod Taking
 pub mod Explained
 pub mod Report
+pub mod Written
 pub mod Probes

@@ -12,7 +12,7 @@ ghost use Rattle.violation_report.specs.Text.{IsLineOf};
 ghost use Rattle.violation_report.specs.declared.explaining.ExplainFault.TheVariants as explain_fault;
 
 use crate::line::Line;
-use crate::listing::{push_orphans, push_violations};
+use crate::walking::{put_orphans, put_violations};
 use bench_core::{Bench, BenchQueries};
 use probe_steps::Steps;
 use row_store::RowId;
@@ -127,7 +127,7 @@ fn explain_dep<L: Ledger>(
         return Ok(());
     }
     let found = bench.violations_of_row(number, row, steps)?;
-    push_violations(number, found.as_slice(), lines)
+    put_violations(bench.rules(), number, found.as_slice(), lines)
 }
 
 fn explain_cinds<L: Ledger>(
@@ -165,7 +165,7 @@ fn explain_cind<L: Ledger>(
         return Ok(());
     }
     let found = bench.orphans_of_row(number, row, steps)?;
-    push_orphans(number, found.as_slice(), lines)
+    put_orphans(bench.rules(), number, found.as_slice(), lines)
 }
 
 fn dep_is_of(bench: &BenchQueries<'_>, table: usize, dep: usize) -> bool

@@ -3,58 +3,81 @@
 //! The text is that of one `serde_json` value, but no such value of all lines is built: it would hold each line once more,
 //! with its members in memory. Each line is written by itself, and names are quoted by `serde_json`.
 
-ghost use Rattle.std.specs.Prelude.{◌≡◌, ◌++◌, All, IfOk, OnOk, map, false};
+ghost use Rattle.std.specs.Prelude.{◌≡◌, ◌++◌, ◌+◌, ◌*◌, ◌≤◌, [], ◌∷◌, codes, decimal, IfOk, OnOk};
+ghost use Rattle.std.specs.List.{concat};
 ghost use Rattle.serde_json.specs.Data.{string};
-ghost use Rattle.serde_json.specs.View.{items_of};
-ghost use Rattle.serde_json.specs.Written.{comma_if, compact_text, items_text};
+ghost use Rattle.serde_json.specs.Written.{comma_if, compact_text};
+ghost use Rattle.violation_report.specs.Listing.{listing};
+ghost use Rattle.violation_report.specs.Probes.{list_probes};
 ghost use Rattle.violation_report.specs.Report.{line_data, report_text};
 ghost use Rattle.violation_report.specs.Text.{HasCindRow, HasDepRow, IsLineOf};
 
+use crate::counting::count;
 use crate::line::{Line, cind_head, dep_head, push_all};
+use crate::taker::Taker;
+use crate::walking::walk;
+use bench_core::BenchQueries;
 use itoa::Buffer;
+use probe_steps::Steps;
 use row_store::RowId;
 use rule_model::RuleBook;
-use schema_core::List;
 use serde_json::json;
 use std::alloc::{AllocError, Global};
+use std::sync::ledger::Ledger;
 
-/// The report of a list, as one line of JSON with its end: how many lines it has, and each by its parts.
-pub fn json_report(
+/// The report of the list, as one line of JSON with its end: how many lines it has, and each by its parts. The list isn't
+/// made. It is gone over twice, since its length stands before its lines.
+pub fn json_report<L: Ledger>(
     alloc: Global,
-    rules: &RuleBook,
-    lines: &List<Line>,
+    bench: &BenchQueries<'_>,
+    steps: &mut Steps<L>,
 ) -> Result<Vec<u8>, AllocError>
-    requires { All (IsLineOf rules.now) lines.now }
-    ensures { IfOk result (λ report. report.items ≡ report_text rules.now lines.now) }
+    ensures report { IfOk result (λ report. report.items ≡ report_text bench.now.rules (listing bench.now.rules bench.now.history.present)) }
+    ensures probes { steps.new ≤ steps.old + 2 * list_probes bench.now.rules bench.now.history.present }
 {
-    let lines = lines.as_slice();
-    let mut report = Vec::new(alloc);
-    let mut count = Buffer::new();
-    push_all(
-        &[
-            b"{\"count\":",
-            count.format(lines.len()).as_bytes(),
-            b",\"lines\":[",
-        ],
-        &mut report,
-    )?;
-    push_items(rules, lines, &mut report)?;
-    report.extend_from_slice(b"}\n")?;
+    let lines = count(bench, steps)?;
+    let text = report_head(alloc, lines)?;
+    let mut objects = Objects { text, later: false };
+    walk(bench, &mut objects, steps)?;
+    let mut report = objects.text;
+    report.extend_from_slice(b"]}\n")?;
     Ok(report)
 }
 
-// Appends the objects of the lines with commas between them, and the closing bracket.
-fn push_items(rules: &RuleBook, lines: &[Line], out: &mut Vec<u8>) -> Result<(), AllocError>
-    requires { All (IsLineOf rules.now) lines.now }
-    ensures { OnOk result (out.new.items ≡ out.old.items ++ items_text false (items_of (map (line_data rules.now) lines.now))) }
+fn report_head(alloc: Global, lines: usize) -> Result<Vec<u8>, AllocError>
+    ensures { IfOk result (λ head. head.items ≡ concat (codes "{\"count\":" ∷ decimal lines ∷ codes ",\"lines\":[" ∷ [])) }
 {
-    let mut later = false;
-    for line in lines {
-        push_item(rules, later, line, out)?;
-        later = true;
+    let mut head = Vec::new(alloc);
+    let mut number = Buffer::new();
+    push_all(
+        &[
+            b"{\"count\":",
+            number.format(lines).as_bytes(),
+            b",\"lines\":[",
+        ],
+        &mut head,
+    )?;
+    Ok(head)
+}
+
+/// Appends the objects of the lines with commas between them.
+#[derive(Drop)]
+pub(crate) struct Objects {
+    pub text: Vec<u8>,
+    /// whether a line was put before
+    pub later: bool,
+}
+
+impl Taker for Objects {
+    ghost use Rattle.violation_report.specs.Written.{AreWritten};
+
+    ghost Took = { AreWritten };
+
+    fn put(&mut self, rules: &RuleBook, line: Line) -> Result<(), AllocError> {
+        push_item(rules, self.later, &line, &mut self.text)?;
+        self.later = true;
+        Ok(())
     }
-    out.push(b']')?;
-    Ok(())
 }
 
 // Appends the object of a line, after a comma where others stand before.

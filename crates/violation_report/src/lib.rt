@@ -8,10 +8,12 @@ mod explaining;
 mod json;
 mod line;
 mod listing;
+mod taker;
+mod walking;
 
 pub use clean::is_clean;
 pub use counting::count;
 pub use explaining::{ExplainFault, explain};
 pub use json::json_report;
 pub use line::{Line, line_text, push_line};
-pub use listing::list;
+pub use listing::{list, push_list};

@@ -1,4 +1,4 @@
-use Rattle.std.proofs.Common.{◌≡◌, ℕ, List, [], Err, ap, subst, ◌∙◌}
+use Rattle.std.proofs.Common.{◌≡◌, ℕ, List, [], Err, ap, inl, subst, ◌∙◌}
 use Rattle.rule_model.specs.Books.{Book}
 use Rattle.text_lists.specs.declared.limits.Limits.{Limits}
 use Rattle.bench_core.specs.History.{History}
@@ -46,7 +46,7 @@ returns-in-Ok g c =
     let all = subst (λ (d : DeskModel). Answers IsReply d files.events last before.written after.written) is c.in-Ok.ensures.ok in
     let rules : c.bench.result.now.rules ≡ files.tables.rules = c.bench.ensures.bench.0 ∙ c.serve_desk.ensures.made_with.0 ∙ c.open-desk.ensures.bench.0 in
     let history : c.bench.result.now.history ≡ last.history = c.bench.ensures.bench.2 in
-    let status = subst (λ (h : History). HasStatus (listing files.tables.rules h.present) c.status_of.result) history (subst (λ (r : Book). HasStatus (listing r c.bench.result.now.history.present) c.status_of.result) rules c.status_of.ensures) in
+    let status = subst (λ (h : History). HasStatus (listing files.tables.rules h.present) c.status_of.result) history (subst (λ (r : Book). HasStatus (listing r c.bench.result.now.history.present) c.status_of.result) rules (inl c.status_of.ensures)) in
     told c.args.last files c.status_of.result before after
     (ends-answered IsReply (λ (d : DeskModel). listing files.tables.rules d.history.present) (opened c.args.last files.tables) files.events last c.status_of.result before after all status)
 

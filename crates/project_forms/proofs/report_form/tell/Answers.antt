@@ -7,4 +7,4 @@ use Rattle.project_forms.proofs.report_form.tell.Goals as goal
 pub end_with-requires : goal.end_with-requires
 end_with-requires g c =
     let bench = c.args.bench.now in
-    subst IsWhole (sym c.in-Ok.ensures.status) (found_is_whole (listing bench.rules bench.history.present))
+    subst IsWhole (sym c.status_of.ensures) (found_is_whole (listing bench.rules bench.history.present))

@@ -1,4 +1,4 @@
-use Rattle.std.proofs.Common.{◌≡◌, ℕ, Err, ap, arith, subst}
+use Rattle.std.proofs.Common.{◌≡◌, ℕ, Err, ap, arith, inl, subst}
 use Rattle.rule_model.specs.Books.{Book}
 use Rattle.bench_core.specs.History.{History}
 use Rattle.violation_report.specs.Listing.{listing}
@@ -29,7 +29,7 @@ pub returns-in-Ok-clause-ends : goal.returns-in-Ok-clause-ends
 returns-in-Ok-clause-ends g c =
     let bench = c.args.project.bench in
     let last = c.serve.new.bench in
-    let status = subst (λ (rules : Book). HasStatus (listing rules last.history.present) c.status_of.result) c.serve.ensures.made_with.0 c.status_of.ensures in
+    let status = subst (λ (rules : Book). HasStatus (listing rules last.history.present) c.status_of.result) c.serve.ensures.made_with.0 (inl c.status_of.ensures) in
     told (read_of c.args.project) c.status_of.result (g.O.Sink.told c.args.out.now) (g.O.Sink.told c.serve.new.out)
     (ends-answered (IsReply bench.rules bench.limits) (λ (history : History). listing bench.rules history.present) bench.history c.args.project.commands last.history c.status_of.result (g.O.Sink.told c.args.out.now) (g.O.Sink.told c.serve.new.out) c.in-Ok.ensures.ok status)
 
@@ -60,6 +60,6 @@ returns-in-Ok-clause-probes g c = λ whole.
     let after = (g.O.Sink.told c.serve.new.out).written in
     let counted : Counted = (last.history, c.serve.new.steps) in
     let listed = λ (h : Counted). listing bench.rules h.0.present in
-    let status = subst (λ (rules : Book). HasStatus (listing rules last.history.present) c.status_of.result) c.serve.ensures.made_with.0 c.status_of.ensures in
+    let status = subst (λ (rules : Book). HasStatus (listing rules last.history.present) c.status_of.result) c.serve.ensures.made_with.0 (inl c.status_of.ensures) in
     Writes-wider (counted_at project c.args.steps.now counted) (counted_from c.args.steps.now c.serve.new.steps project) (λ bytes s o. (counted, o.0, omega arith, o.1)) c.status_of.result before after
     (whole-answered (IsCountedReply bench.rules bench.limits) listed (bench.history, c.args.steps.now) project.commands counted c.status_of.result before after c.in-Ok.ensures.probes status whole)

@@ -1,0 +1,22 @@
+-- What takers have written of the lines that were put to them.
+use Rattle.std.specs.Prelude.{◌≡◌, ◌+◌, List, ◌++◌, length, map}
+use Rattle.std.specs.List.{flat_map}
+use Rattle.serde_json.specs.View.{items_of}
+use Rattle.serde_json.specs.Written.{items_text}
+use Rattle.rule_model.specs.Books.{Book}
+use Rattle.violation_report.specs.Report.{line_data}
+use Rattle.violation_report.specs.Text.{line_text}
+use Rattle.violation_report.specs.declared.json.Objects.{Objects}
+use Rattle.violation_report.specs.declared.line.Line.{Line}
+use Rattle.violation_report.specs.declared.taker.Texts.{Texts}
+
+-- their texts, and how many they are
+pub record AreTold (rules : Book) (start : Texts) (lines : List Line) (end : Texts) : Type 0 where
+  pub same_reference : end.out.ghost_name ≡ start.out.ghost_name
+  pub text : end.out.now.items ≡ start.out.now.items ++ flat_map (line_text rules) lines
+  pub count : end.lines ≡ start.lines + length lines
+
+-- their objects: with those of whatever lines are left, there are those of all of them
+abbrev pub AreWritten : Book → Objects → List Line → Objects → Type 0
+AreWritten rules start lines end = (rest : List Line)
+    → end.text.items ++ items_text end.later (items_of (map (line_data rules) rest)) ≡ start.text.items ++ items_text start.later (items_of (map (line_data rules) (lines ++ rest)))
