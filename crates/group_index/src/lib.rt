@@ -8,6 +8,7 @@
 #![tactic(auto)]
 
 mod counting;
+mod few;
 mod group;
 mod groups;
 mod index;
