@@ -3,7 +3,6 @@ use Rattle.std.proofs.Common.{◌≡◌, ◌≢◌, ℕ, Bool, true, false, cond
 use Rattle.std.specs.Prelude.{nat_eq, filter_map, AllPairs}
 use Rattle.std.specs.Option.{option_map}
 use Rattle.std.specs.declared.cmp.Ordering.TheVariants.{Less}
-use Rattle.std.specs.BTreeSet.{BTreeSet}
 use Rattle.std.specs.List.Sorted.{IsStrictlySortedBy}
 use Rattle.std.proofs.lemmas.Bool.Decides.{nat_tests}
 use Rattle.std.proofs.lemmas.Map.Keys.{Less-from_sorted}
@@ -17,7 +16,6 @@ use Rattle.cfd_semantics.specs.Violation.{is_single}
 use Rattle.cfd_semantics.specs.EntrySets.{IsListedWith}
 use Rattle.cfd_semantics.proofs.Parts.{single_parts, pair_parts}
 use Rattle.group_index.specs.declared.group.Group.{Group}
-use Rattle.group_index.specs.declared.group.Group.TheVariants.{Many}
 use Rattle.group_index.specs.GroupSet.{GroupsMade}
 use Rattle.group_index.specs.Answers.{IsPartnerOf}
 use Rattle.group_index.specs.Pairs.{Pair, pairs_of}
@@ -38,14 +36,14 @@ once_in_order pairs sorted i j d before within same =
     irreflexive : (p : Pair) → pair_cmp p p ≡ Less → ⊥
     irreflexive p is = grind (arith, nat_tests, is)
 
-pub adds_listed : (cell : Pattern ℕ) (group : Group) (pairs : BTreeSet Pair) (first : Option Pair) (second : Option ℕ) (old new : List Violation) → group ≡ Many pairs → AreLeads cell (IsAmong (pairs_of group)) first second → IsStrictlySortedBy pair_cmp pairs.keys
-    → new ≡ old ++ filter_map (listed_by cell first second) pairs.keys → AddsListed cell (pairs_of group) old new
-adds_listed cell group pairs first second old new is leads ordered added = record {
+pub adds_listed : (cell : Pattern ℕ) (group : Group) (pairs : List Pair) (first : Option Pair) (second : Option ℕ) (old new : List Violation) → pairs_of group ≡ pairs → AreLeads cell (IsAmong (pairs_of group)) first second → AllPairs (λ p q. p ≢ q) pairs
+    → new ≡ old ++ filter_map (listed_by cell first second) pairs → AddsListed cell (pairs_of group) old new
+adds_listed cell group pairs first second old new is leads once added = record {
   first = first;
   second = second;
   leads = leads;
-  once = subst (λ g. AllPairs (λ p q. p ≢ q) (pairs_of g)) (sym is) (once_in_order pairs.keys ordered);
-  is = added ∙ ap (λ g. old ++ filter_map (listed_by cell first second) (pairs_of g)) (sym is);
+  once = subst (AllPairs (λ p q. p ≢ q)) (sym is) once;
+  is = added ∙ ap (λ ps. old ++ filter_map (listed_by cell first second) ps) (sym is);
 }
 
 abbrev pub with_partner : Pair → ℕ → Violation

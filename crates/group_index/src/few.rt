@@ -70,7 +70,7 @@ impl Few {
     /// The pairs.
     pub(crate) fn as_slice(&self) -> &[(ValueId, RowId)]
         ensures same { result.now ≡ self.now }
-        ensures once { AllPairs (λ p q. p ≢ q) self.now }
+        ensures once { AllPairs (λ p q. p ≢ q) result.now }
     {
         self.pairs.as_slice()
     }
