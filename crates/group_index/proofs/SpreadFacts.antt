@@ -71,6 +71,10 @@ module _ (s : BTreeSet Pair) (least greatest : Pair) (has_least : contains pair_
 
 -- ---- the first pair of a list
 
+pub first_inside : (pairs : List Pair) (first : Pair) → slice_get pairs 0 ≡ Some first → Contains pairs first
+first_inside [] first is = absurd (cc)
+first_inside (p ∷ ps) first is = (0, omega arith, same_Some p first is)
+
 module _ (pairs : List Pair) (first : Pair) (here : Contains pairs first) where
   pub mixed_among : list_any (λ p. not (nat_eq p.0 first.0)) pairs ≡ true → IsSpread pairs Mixed
   mixed_among some = let found = found_by_any (λ p. not (nat_eq p.0 first.0)) pairs some in (found.0, first, found.1, here, differ found.0 found.2)
