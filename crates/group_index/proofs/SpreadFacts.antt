@@ -83,10 +83,13 @@ module _ (pairs : List Pair) (first : Pair) (here : Contains pairs first) where
       differ p does same = absurd (grind (arith, nat_tests, does, same))
 
   pub alike_among : list_any (λ p. not (nat_eq p.0 first.0)) pairs ≡ false → IsSpread pairs (Alike first.0)
-  alike_among none = ((first.1, here), λ q inside. elim (cases_eq q.0 first.0) [
-    | inl same ↦ same
-    | inr apart ↦ let some = any_from_found (λ p. not (nat_eq p.0 first.0)) pairs q inside (grind (arith, nat_tests, apart)) in absurd (cc)
-  ])
+  alike_among none = (
+    (first.1, here),
+    λ q inside. elim (cases_eq q.0 first.0) [
+      | inl same ↦ same
+      | inr apart ↦ let some = any_from_found (λ p. not (nat_eq p.0 first.0)) pairs q inside (grind (arith, nat_tests, apart)) in absurd (cc)
+    ],
+  )
 
 -- ---- dirty groups
 
