@@ -154,7 +154,7 @@ module _ (rules : Book) (good : IsBook rules) (dep : Dep) (valid : IsValidDep ru
 -- over the book that the question was made of
 pub right_over : (asked : AskedDep) (answer : Implication) (text : List ℕ) → IsValidDep asked.schema asked.dep → length asked.dep.rule.rows ≡ 1 → IsFoundOfDep asked answer → IsSomeText (IsCertOfDep asked answer) text
     → (rules : Book) (dep : Dep) → IsBook rules → asked ≡ asked_of rules dep → IsRightText rules (IsCertOfDep (asked_of rules dep) answer) text
-right_over asked answer text valid one found told rules dep good is =
+right_over question answer text valid one found told rules dep good is =
     let valid-dep : IsValidDep rules.schema dep = subst (λ (a : AskedDep). IsValidDep a.schema a.dep) is valid in
     let one-row : length dep.rule.rows ≡ 1 = subst (λ (a : AskedDep). length a.dep.rule.rows ≡ 1) is one in
     let found-is = subst (λ (a : AskedDep). IsFoundOfDep a answer) is found in
