@@ -13,3 +13,7 @@ refused_answer (Err e) p so = so p
 pub kept_answer : (b : Bool) (P : Type 0) → OnFalse b P → b ≡ false → P
 kept_answer true P p is = absurd (cc)
 kept_answer false P p is = p
+
+pub own_answer : {A E : Type 0} (r : Result A E) (a : A) {P : Type 0} → r ≡ Ok a → OnOk r P → P
+own_answer (Ok b) a is p = p
+own_answer (Err e) a is p = absurd (cc)

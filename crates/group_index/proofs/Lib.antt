@@ -1,5 +1,6 @@
 pub mod KeyFacts
 pub mod PairFacts
+pub mod FewFacts
 pub mod GroupFacts
 pub mod MarkFacts
 pub mod RemovedFacts

@@ -1,11 +1,12 @@
 -- What is listed of the pairs of a group are the violations of its entries.
-use Rattle.std.proofs.Common.{◌≡◌, ◌≢◌, ℕ, Bool, true, false, cond, List, ◌++◌, get_or, slice_get, Option, Some, None, refl, sym, ap, ◌∙◌, subst, arith}
+use Rattle.std.proofs.Common.{◌≡◌, ◌≢◌, ℕ, Bool, true, false, cond, List, [], ◌++◌, ◌+◌, ◌<◌, length, take, get_or, slice_get, Option, Some, None, refl, sym, ap, ◌∙◌, subst, arith}
 use Rattle.std.specs.Prelude.{nat_eq, filter_map, AllPairs}
-use Rattle.std.specs.Option.{option_map}
+use Rattle.std.specs.Option.{option_map, option_to_list}
+use Rattle.std.specs.List.{cons_option}
 use Rattle.std.specs.declared.cmp.Ordering.TheVariants.{Less}
-use Rattle.std.specs.BTreeSet.{BTreeSet}
 use Rattle.std.specs.List.Sorted.{IsStrictlySortedBy}
 use Rattle.std.proofs.lemmas.Bool.Decides.{nat_tests}
+use Rattle.std.proofs.lemmas.List.{append_assoc, get_or_default}
 use Rattle.std.proofs.lemmas.Map.Keys.{Less-from_sorted}
 use Rattle.smallvec.specs.SmallVec.{SmallVec}
 use Rattle.marked_map.specs.MarkedMap.{HaveDistinctKeys}
@@ -15,9 +16,9 @@ use Rattle.cfd_semantics.specs.declared.violation.Violation.{Violation}
 use Rattle.cfd_semantics.specs.Pattern.{matches, all_match}
 use Rattle.cfd_semantics.specs.Violation.{is_single}
 use Rattle.cfd_semantics.specs.EntrySets.{IsListedWith}
+use Rattle.cfd_semantics.proofs.Listing.{given-more}
 use Rattle.cfd_semantics.proofs.Parts.{single_parts, pair_parts}
 use Rattle.group_index.specs.declared.group.Group.{Group}
-use Rattle.group_index.specs.declared.group.Group.TheVariants.{Many}
 use Rattle.group_index.specs.GroupSet.{GroupsMade}
 use Rattle.group_index.specs.Answers.{IsPartnerOf}
 use Rattle.group_index.specs.Pairs.{Pair, pairs_of}
@@ -38,15 +39,28 @@ once_in_order pairs sorted i j d before within same =
     irreflexive : (p : Pair) → pair_cmp p p ≡ Less → ⊥
     irreflexive p is = grind (arith, nat_tests, is)
 
-pub adds_listed : (cell : Pattern ℕ) (group : Group) (pairs : BTreeSet Pair) (first : Option Pair) (second : Option ℕ) (old new : List Violation) → group ≡ Many pairs → AreLeads cell (IsAmong (pairs_of group)) first second → IsStrictlySortedBy pair_cmp pairs.keys
-    → new ≡ old ++ filter_map (listed_by cell first second) pairs.keys → AddsListed cell (pairs_of group) old new
-adds_listed cell group pairs first second old new is leads ordered added = record {
+pub adds_listed : (cell : Pattern ℕ) (group : Group) (pairs : List Pair) (first : Option Pair) (second : Option ℕ) (old new : List Violation) → pairs_of group ≡ pairs → AreLeads cell (IsAmong (pairs_of group)) first second → AllPairs (λ p q. p ≢ q) pairs
+    → new ≡ old ++ filter_map (listed_by cell first second) pairs → AddsListed cell (pairs_of group) old new
+adds_listed cell group pairs first second old new is leads once added = record {
   first = first;
   second = second;
   leads = leads;
-  once = subst (λ g. AllPairs (λ p q. p ≢ q) (pairs_of g)) (sym is) (once_in_order pairs.keys ordered);
-  is = added ∙ ap (λ g. old ++ filter_map (listed_by cell first second) (pairs_of g)) (sym is);
+  once = subst (AllPairs (λ p q. p ≢ q)) (sym is) once;
+  is = added ∙ ap (λ ps. old ++ filter_map (listed_by cell first second) ps) (sym is);
 }
+
+-- what is listed of one more pair of a list
+pub one_more_listed : (h : Pair → Option Violation) (pairs : List Pair) (i : ℕ) (d : Pair) (old found new : List Violation) → i < length pairs → found ≡ old ++ filter_map h (take i pairs) → new ≡ found ++ option_to_list (h (get_or pairs i d))
+    → new ≡ old ++ filter_map h (take (i + 1) pairs)
+one_more_listed h pairs i d old found new within so_far one =
+    one
+    ∙ ap (λ f. f ++ option_to_list (h (get_or pairs i d))) so_far
+    ∙ append_assoc old (filter_map h (take i pairs)) (option_to_list (h (get_or pairs i d)))
+    ∙ ap (λ l. old ++ l) (ap (λ l. filter_map h (take i pairs) ++ l) (alone (h (get_or pairs i d))) ∙ sym (given-more h pairs i (get_or pairs i d) within (get_or_default pairs i d (get_or pairs i d) within)))
+  where
+    alone : (o : Option Violation) → option_to_list o ≡ cons_option o []
+    alone None = refl
+    alone (Some v) = refl
 
 abbrev pub with_partner : Pair → ℕ → Violation
 with_partner p partner = record { row = p.1; partner = Some partner }

@@ -50,24 +50,24 @@ taken_from_remove s n p updates q =
     and false c = refl
 
 -- nothing is left
-pub alone_from_remove : (s n : BTreeSet Pair) (p : Pair) → IsTaken s.keys n.keys p → has_pair s.keys p ≡ true → n.keys ≡ [] → IsAlone s.keys p
-alone_from_remove s n p taken there none q = by (is_pair q p) refl (has_pair s.keys q) refl
+pub alone_from_remove : (old new : List Pair) (p : Pair) → IsTaken old new p → has_pair old p ≡ true → new ≡ [] → IsAlone old p
+alone_from_remove old new p taken there none q = by (is_pair q p) refl (has_pair old q) refl
   where
-    by : (b : Bool) → is_pair q p ≡ b → (c : Bool) → has_pair s.keys q ≡ c → has_pair s.keys q ≡ is_pair q p
+    by : (b : Bool) → is_pair q p ≡ b → (c : Bool) → has_pair old q ≡ c → has_pair old q ≡ is_pair q p
     by true is true has = has ∙ sym is
     by false isnt false hasnt = hasnt ∙ sym isnt
     by true is false hasnt =
         let same : ◌≡◌ {A = Pair} q p = let one : q.0 ≡ p.0 = grind (arith, nat_tests, is) in let other : q.1 ≡ p.1 = grind (arith, nat_tests, is) in λ i. (one i, other i) in
-        let has : has_pair s.keys q ≡ true = ap (has_pair s.keys) same ∙ there in
+        let has : has_pair old q ≡ true = ap (has_pair old) same ∙ there in
         absurd (cc)
     by false isnt true has =
-        let left : has_pair n.keys q ≡ true = rw (taken q, isnt, has) refl in
-        let nothing : has_pair n.keys q ≡ false = ap (λ ks. has_pair ks q) none in
+        let left : has_pair new q ≡ true = rw (taken q, isnt, has) refl in
+        let nothing : has_pair new q ≡ false = ap (λ ks. has_pair ks q) none in
         absurd (cc)
 
 -- one is left
-pub one_left : (s n : BTreeSet Pair) (p only : Pair) → IsTaken s.keys n.keys p → n.keys ≡ only ∷ [] → IsTaken s.keys (only ∷ []) p
-one_left s n p only taken is = subst (λ (ks : List Pair). IsTaken s.keys ks p) is taken
+pub one_left : (old new : List Pair) (p only : Pair) → IsTaken old new p → new ≡ only ∷ [] → IsTaken old (only ∷ []) p
+one_left old new p only taken is = subst (λ (ps : List Pair). IsTaken old ps p) is taken
 
 pub no_pairs : (pairs : List Pair) → length pairs ≡ 0 → pairs ≡ []
 no_pairs [] none = refl

@@ -10,7 +10,7 @@ use Rattle.std.proofs.lemmas.Option.{same_Some}
 use Rattle.cfd_semantics.specs.declared.pattern.Pattern.{Pattern}
 use Rattle.cfd_semantics.specs.declared.dependency.TableauRow.{TableauRow}
 use Rattle.cfd_semantics.specs.Pattern.{matches, all_match}
-use Rattle.cfd_semantics.proofs.InclusionLaw.{any_from_found}
+use Rattle.cfd_semantics.proofs.InclusionLaw.{found_by_any, any_from_found}
 use Rattle.group_index.specs.declared.group.Group.{Group}
 use Rattle.group_index.specs.contracts.spread.SpreadPartialEq.TheImpl.{ghosts}
 use Rattle.group_index.specs.declared.spread.Spread.{Spread}
@@ -68,6 +68,28 @@ module _ (s : BTreeSet Pair) (least greatest : Pair) (has_least : contains pair_
 
   pub mixed_between : least.0 ≢ greatest.0 → IsSpread s.keys Mixed
   mixed_between apart = (least, greatest, member_from s.keys least (sym (set_has s least) ∙ has_least), member_from s.keys greatest (sym (set_has s greatest) ∙ has_greatest), apart)
+
+-- ---- the first pair of a list
+
+pub first_inside : (pairs : List Pair) (first : Pair) → slice_get pairs 0 ≡ Some first → Contains pairs first
+first_inside [] first is = absurd (cc)
+first_inside (p ∷ ps) first is = (0, omega arith, same_Some p first is)
+
+module _ (pairs : List Pair) (first : Pair) (here : Contains pairs first) where
+  pub mixed_among : list_any (λ p. not (nat_eq p.0 first.0)) pairs ≡ true → IsSpread pairs Mixed
+  mixed_among some = let found = found_by_any (λ p. not (nat_eq p.0 first.0)) pairs some in (found.0, first, found.1, here, differ found.0 found.2)
+    where
+      differ : (p : Pair) → not (nat_eq p.0 first.0) ≡ true → p.0 ≢ first.0
+      differ p does same = absurd (grind (arith, nat_tests, does, same))
+
+  pub alike_among : list_any (λ p. not (nat_eq p.0 first.0)) pairs ≡ false → IsSpread pairs (Alike first.0)
+  alike_among none = (
+    (first.1, here),
+    λ q inside. elim (cases_eq q.0 first.0) [
+      | inl same ↦ same
+      | inr apart ↦ let some = any_from_found (λ p. not (nat_eq p.0 first.0)) pairs q inside (grind (arith, nat_tests, apart)) in absurd (cc)
+    ],
+  )
 
 -- ---- dirty groups
 

@@ -5,7 +5,7 @@ use Rattle.cfd_semantics.specs.declared.pattern.Pattern.{Pattern}
 use Rattle.cfd_semantics.specs.declared.dependency.TableauRow.{TableauRow}
 use Rattle.cfd_semantics.specs.Pattern.{matches, all_match}
 use Rattle.group_index.specs.declared.group.Group.{Group}
-use Rattle.group_index.specs.declared.group.Group.TheVariants.{One, Many}
+use Rattle.group_index.specs.declared.group.Group.TheVariants.{One, Few, Many}
 use Rattle.group_index.specs.declared.spread.Spread.{Spread}
 use Rattle.group_index.specs.declared.spread.Spread.TheVariants.{Nothing, Alike, Mixed}
 
@@ -13,9 +13,10 @@ use Rattle.group_index.specs.declared.spread.Spread.TheVariants.{Nothing, Alike,
 abbrev pub Pair : Type 0
 Pair = ℕ × ℕ
 
--- those of a group, by A ids and within one by rows
+-- those of a group
 abbrev pub pairs_of : Group → List Pair
 pairs_of (One a row) = (a, row) ∷ []
+pairs_of (Few pairs) = pairs
 pairs_of (Many pairs) = pairs.keys
 
 abbrev pub is_pair : Pair → Pair → Bool

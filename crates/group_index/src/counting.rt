@@ -103,8 +103,18 @@ fn count_each(cell: &IdCell, group: &Group) -> usize
                 0
             }
         }
+        Group::Few(few) => count_each_among(cell, &leads, few.as_slice()),
         Group::Many(pairs) => count_each_of(cell, &leads, pairs),
     }
+}
+
+fn count_each_among(cell: &IdCell, leads: &Leads, pairs: &[(ValueId, RowId)]) -> usize
+    ensures { result ≡ count_by (λ p. is_some (listed_by cell.now leads.now.first leads.now.second p)) pairs.now }
+{
+    pairs
+        .iter()
+        .filter(|pair| listed(cell, leads, pair.0, pair.1).is_some())
+        .count()
 }
 
 fn count_each_of(cell: &IdCell, leads: &Leads, pairs: &BTreeSet<(ValueId, RowId)>) -> usize

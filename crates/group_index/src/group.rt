@@ -1,19 +1,21 @@
-//! One group: the A ids of its rows. A lone row takes no memory beyond the group's key; two and more are an ordered set, in
-//! which a row is put, found and taken in logarithmic time.
-ghost use Rattle.std.specs.Prelude.{◌≡◌, ◌≢◌, ◌^◌, ◌<◌, ◌≤◌, ◌==◌, ◌&&◌, [], ◌∷◌, false, ◌||◌, not, nat_eq, nat_lt, length, count_by, AllPairs, IfOk, IfSome, OnOk, OnErr, IsTrue};
+//! One group: the A ids of its rows. A lone row takes no memory beyond the group's key, and a few rows are a plain list; more
+//! are an ordered set, in which a row is put, found and taken in logarithmic time.
+ghost use Rattle.std.specs.Prelude.{◌≡◌, ◌≢◌, ◌^◌, ◌<◌, ◌≤◌, ◌++◌, [], ◌∷◌, false, List, not, nat_eq, nat_lt, length, count_by, AllPairs, IfSome, OnOk, OnErr, IsTrue};
 ghost use Rattle.std.specs.Bool.{OnFalse};
-ghost use Rattle.group_index.specs.Pairs.{Pair, pairs_of, has_pair, is_pair, IsPut, IsTaken, IsAlone, HaveTheSame, IsNextHead};
+ghost use Rattle.group_index.specs.Pairs.{Pair, pairs_of, has_pair, IsPut, IsTaken, IsAlone, HaveTheSame, IsNextHead};
 
+use crate::few::{Few, MOST};
 use row_store::RowId;
 use std::alloc::{AllocError, Global};
 use std::collections::BTreeSet;
 use std::ops::Bound;
 use value_pool::ValueId;
 
-/// The rows of a group with their A ids, by A ids and within one by rows.
+/// The rows of a group with their A ids.
 #[derive(Drop)]
 pub(crate) enum Group {
     One(ValueId, RowId),
+    Few(Few),
     Many(BTreeSet<(ValueId, RowId)>),
 }
 
@@ -30,10 +32,19 @@ impl Group {
             Group::Many(pairs) => {
                 pairs.insert((a, row))?;
             }
+            Group::Few(few) => {
+                if few.as_slice().len() < MOST || few.has(a, row) {
+                    few.put(a, row)?;
+                } else {
+                    let pairs = few.grown(alloc, a, row)?;
+                    *self = Group::Many(pairs);
+                }
+            }
             Group::One(own, only) => {
                 if (*own, *only) != (a, row) {
-                    let pairs = two(alloc, (*own, *only), (a, row))?;
-                    *self = Group::Many(pairs);
+                    let mut few = Few::of(alloc, *own, *only)?;
+                    few.put(a, row)?;
+                    *self = Group::Few(few);
                 }
             }
         }
@@ -48,6 +59,14 @@ impl Group {
     {
         match self {
             Group::One(own, only) => (*own, *only) == (a, row),
+            Group::Few(few) => {
+                let taken = few.take(a, row);
+                let Some((own, only)) = few.lone() else {
+                    return taken && few.as_slice().is_empty();
+                };
+                *self = Group::One(own, only);
+                false
+            }
             Group::Many(pairs) => {
                 let taken = pairs.remove(&(a, row));
                 let Some((own, only)) = lone(pairs) else {
@@ -66,6 +85,7 @@ impl Group {
     {
         match self {
             Group::One(_, _) => 1,
+            Group::Few(few) => few.as_slice().len(),
             Group::Many(pairs) => pairs.len(),
         }
     }
@@ -76,6 +96,7 @@ impl Group {
     {
         match self {
             Group::One(own, _) => { if a == *own { 0 } else { 1 } }
+            Group::Few(few) => count_others_among(few.as_slice(), a),
             Group::Many(pairs) => count_before(pairs, a) + count_behind(pairs, a),
         }
     }
@@ -86,6 +107,7 @@ impl Group {
     {
         match self {
             Group::One(own, only) => { after.is_none_or(|low| low < *own).then_some((*own, *only)) }
+            Group::Few(few) => head_among(few.as_slice(), after),
             Group::Many(pairs) => head_after(pairs, after),
         }
     }
@@ -104,6 +126,39 @@ fn head_after(
     let from = Bound::Excluded((low, RowId::MAX));
     let (a, row) = pairs.range((from, Bound::Unbounded)).next().copied()?;
     Some(within_ids(a, row))
+}
+
+fn head_among(pairs: &[(ValueId, RowId)], after: Option<ValueId>) -> Option<(ValueId, RowId)>
+    ensures { IsNextHead pairs.now after result }
+{
+    let mut head = None;
+    for pair in pairs {
+        head = nearer(head, after, *pair);
+    }
+    head
+}
+
+// The first one of the pairs after the id, with one more of them.
+fn nearer(
+    head: Option<(ValueId, RowId)>,
+    after: Option<ValueId>,
+    pair: (ValueId, RowId),
+) -> Option<(ValueId, RowId)>
+    ensures { (pairs : List Pair) → IsNextHead pairs after head → IsNextHead (pairs ++ pair ∷ []) after result }
+{
+    if after.is_some_and(|low| pair.0 <= low) {
+        return head;
+    }
+    match head {
+        Some(least) if least < pair => head,
+        _ => Some(pair),
+    }
+}
+
+fn count_others_among(pairs: &[(ValueId, RowId)], a: ValueId) -> usize
+    ensures { result ≡ count_by (λ p. not (nat_eq a p.0)) pairs.now }
+{
+    pairs.iter().filter(|pair| pair.0 != a).count()
 }
 
 // How many pairs have a lower A id.
@@ -140,17 +195,4 @@ fn lone(pairs: &BTreeSet<(ValueId, RowId)>) -> Option<(ValueId, RowId)>
         return None;
     }
     pairs.first().copied()
-}
-
-fn two(
-    alloc: Global,
-    one: (ValueId, RowId),
-    other: (ValueId, RowId),
-) -> Result<BTreeSet<(ValueId, RowId)>, AllocError>
-    ensures { IfOk result (λ pairs. (q : Pair) → has_pair pairs.keys q ≡ (is_pair q one || is_pair q other)) }
-{
-    let mut pairs = BTreeSet::new(alloc);
-    pairs.insert(one)?;
-    pairs.insert(other)?;
-    Ok(pairs)
 }

@@ -2,12 +2,13 @@
 //! is kept in step with the rows, and knows ids of values and no texts. Contracts see it as the set of the entries that
 //! the rows give, with the number of its dirty groups, those in which some row violates some tableau row.
 //!
-//! A change of a row costs a hash and a search in an ordered set of its group, however many rows the group has, and a look at
-//! each tableau row only where the group comes, or where its A ids become alike, mixed, or another one. The dirty groups are
-//! marked, and only they are gone through for the violations.
+//! A change of a row costs a hash and a search in its group, which takes logarithmic time however many rows that has, and a
+//! look at each tableau row only where the group comes, or where its A ids become alike, mixed, or another one. The dirty
+//! groups are marked, and only they are gone through for the violations.
 #![tactic(auto)]
 
 mod counting;
+mod few;
 mod group;
 mod groups;
 mod index;

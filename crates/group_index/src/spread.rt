@@ -17,12 +17,13 @@ pub(crate) enum Spread {
 }
 
 impl Spread {
-    /// The spread of a group, told from its least and its greatest A id.
+    /// The spread of a group. Where it has many rows, its least and its greatest A id tell it.
     pub(crate) fn of(group: &Group) -> Spread
         ensures { IsSpread (pairs_of group.now) result }
     {
         match group {
             Group::One(a, _) => Spread::Alike(*a),
+            Group::Few(few) => spread_among(few.as_slice()),
             Group::Many(pairs) => spread_of(pairs),
         }
     }
@@ -64,5 +65,19 @@ fn spread_of(pairs: &BTreeSet<(ValueId, RowId)>) -> Spread
         Spread::Alike(*least)
     } else {
         Spread::Mixed
+    }
+}
+
+fn spread_among(pairs: &[(ValueId, RowId)]) -> Spread
+    ensures { IsSpread pairs.now result }
+{
+    let Some((first, _)) = pairs.first() else {
+        return Spread::Nothing;
+    };
+    let own = *first;
+    if pairs.iter().any(|pair| pair.0 != own) {
+        Spread::Mixed
+    } else {
+        Spread::Alike(own)
     }
 }

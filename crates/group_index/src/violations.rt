@@ -72,12 +72,27 @@ fn push_violations(
     let leads = Leads::of(group, cell);
     match group {
         Group::One(a, row) => push_listed(found, cell, &leads, *a, *row),
+        Group::Few(few) => push_among(found, cell, &leads, few.as_slice()),
         Group::Many(pairs) => {
             // The length is what says that the pairs stand in order.
             let _len = pairs.len();
             push_all_listed(found, cell, &leads, pairs)
         }
     }
+}
+
+fn push_among(
+    found: &mut Vec<Violation>,
+    cell: &IdCell,
+    leads: &Leads,
+    pairs: &[(ValueId, RowId)],
+) -> Result<(), AllocError>
+    ensures { OnOk result (found.new.items ≡ found.old.items ++ filter_map (listed_by cell.now leads.now.first leads.now.second) pairs.now) }
+{
+    for pair in pairs {
+        push_listed(found, cell, leads, pair.0, pair.1)?;
+    }
+    Ok(())
 }
 
 fn push_all_listed(
