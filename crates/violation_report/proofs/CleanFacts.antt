@@ -1,6 +1,6 @@
 -- The list of a rule is empty exactly where none of its groups or keys is dirty.
-use Rattle.std.proofs.Common.{◌≡◌, ℕ, ◌+◌, ◌<◌, ◌≤◌, ◌↔◌, ◌⊎◌, Bool, true, false, cond, ◌&&◌, ◌||◌, List, [], ◌∷◌, map, filter, length, Option, Some, None, refl, sym, ap, subst, ◌∙◌, inl, inr, arith}
-use Rattle.std.specs.Prelude.{Contains, IsTrue, slice_get}
+use Rattle.std.proofs.Common.{◌≡◌, ℕ, ◌<◌, ◌↔◌, Bool, true, false, cond, ◌&&◌, ◌||◌, List, [], ◌∷◌, map, filter, length, Some, None, refl, sym, ap, subst, ◌∙◌, arith}
+use Rattle.std.specs.Prelude.{Contains, slice_get}
 use Rattle.std.specs.List.{list_any}
 use Rattle.std.specs.Option.{option_map, option_map_or}
 use Rattle.std.specs.Set.{distinct_count, unique_keys, is_member}
@@ -16,7 +16,7 @@ use Rattle.cfd_semantics.specs.Tuple.{same_values}
 use Rattle.cfd_semantics.specs.Violation.{Entry, entries, is_single, is_pair, least, partners, violation_of, violating, violations}
 use Rattle.cfd_semantics.specs.Orphan.{SideEntry, left_entries, right_entries, is_orphan, orphaned, orphans}
 use Rattle.cfd_semantics.proofs.InclusionLaw.{found_by_any, any_from_found}
-use Rattle.cfd_semantics.proofs.Members.{contains_nothing, map-empty, nothing_from_empty, empty_from_nothing, none_pass_from_empty, empty_from_none_pass, append-empty}
+use Rattle.cfd_semantics.proofs.Members.{map-empty, nothing_from_empty, empty_from_nothing, none_pass_from_empty, empty_from_none_pass, append-empty}
 use Rattle.cfd_semantics.proofs.Numbers.{numbered-empty}
 use Rattle.rule_model.specs.declared.dep.Dep.{Dep}
 use Rattle.rule_model.specs.declared.cind.Cind.{Cind}

@@ -1,5 +1,5 @@
 -- The text of a report, piece by piece.
-use Rattle.std.proofs.Common.{◌≡◌, ℕ, ◌+◌, Bool, true, false, List, [], ◌∷◌, ◌++◌, map, length, refl, ap, ◌∙◌, sym, codes}
+use Rattle.std.proofs.Common.{◌≡◌, ℕ, ◌+◌, false, List, [], ◌∷◌, ◌++◌, map, length, refl, ap, ◌∙◌, sym, codes}
 use Rattle.std.specs.Prelude.{decimal}
 use Rattle.std.specs.List.{concat}
 use Rattle.std.proofs.lemmas.List.{append_assoc, append-nil}

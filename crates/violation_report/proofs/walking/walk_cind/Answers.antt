@@ -1,7 +1,3 @@
-use Rattle.std.proofs.Common.{ap, sym, subst, ◌∙◌}
-use Rattle.std.specs.Prelude.{All, OnOk}
-use Rattle.bench_core.specs.Answers.{orphans_at}
-use Rattle.violation_report.specs.Listing.{cind_lines_at}
 use Rattle.violation_report.proofs.Lists.{cind_lines-in_range}
 use Rattle.violation_report.proofs.walking.walk_cind.Goals as goal
 

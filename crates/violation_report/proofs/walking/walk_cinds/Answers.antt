@@ -7,7 +7,7 @@ use Rattle.violation_report.specs.Listing.{cind_line, cind_lines_at}
 use Rattle.violation_report.specs.Taking.{Takes}
 use Rattle.violation_report.specs.declared.line.Line.{Line}
 use Rattle.violation_report.proofs.Loops.{cind-lines-more}
-use Rattle.violation_report.proofs.Taken.{takes-more, takes-none}
+use Rattle.violation_report.proofs.Taken.{takes-more}
 use Rattle.bench_core.specs.DirtyCounts.{cind_walk}
 use Rattle.violation_report.proofs.Probed.{probes-cut, probes-more, probes-whole}
 use Rattle.violation_report.proofs.walking.walk_cinds.Goals as goal

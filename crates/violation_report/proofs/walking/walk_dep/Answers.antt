@@ -1,7 +1,3 @@
-use Rattle.std.proofs.Common.{ap, sym, subst, ◌∙◌}
-use Rattle.std.specs.Prelude.{All, OnOk}
-use Rattle.bench_core.specs.Answers.{violations_at}
-use Rattle.violation_report.specs.Listing.{dep_lines_at}
 use Rattle.violation_report.proofs.Lists.{dep_lines-in_range}
 use Rattle.violation_report.proofs.walking.walk_dep.Goals as goal
 

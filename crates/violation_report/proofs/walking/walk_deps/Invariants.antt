@@ -1,4 +1,4 @@
-use Rattle.std.proofs.Common.{◌≡◌, ◌+◌, ◌≤◌, map, take}
+use Rattle.std.proofs.Common.{◌+◌, ◌≤◌, map, take}
 use Rattle.std.specs.Prelude.{sum_by}
 use Rattle.cfd_semantics.specs.Numbered.{numbered}
 use Rattle.rule_model.specs.Books.{book_deps}
