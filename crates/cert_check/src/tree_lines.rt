@@ -144,7 +144,11 @@ pub fn tree_text(
     ensures { IfOk result (λ text. IsTreeText (asks_from schema.now deps.now dep.now).names tree.now text.items) }
 {
     let values = asked_values(alloc, schema, deps.as_slice(), dep)?;
-    let names = Naming::new(Kind::Implication, attrs_at(schema, dep.table), values.as_slice());
+    let names = Naming::new(
+        Kind::Implication,
+        attrs_at(schema, dep.table),
+        values.as_slice(),
+    );
     let text = text_of(alloc, &names, tree)?;
     Ok(text)
 }
