@@ -1,5 +1,5 @@
 -- Certificates of what the deciders answer.
-use Rattle.std.proofs.Common.{◌≡◌, ℕ, ◌<◌, ◌≤◌, List, Option, None, Some, sym, ap, ◌∙◌, subst}
+use Rattle.std.proofs.Common.{◌≡◌, ℕ, ◌<◌, List, None, Some, sym, ap, ◌∙◌, subst}
 use Rattle.std.specs.Prelude.{IfSome}
 use Rattle.shelf_io.specs.Sink.{SinkTold}
 use Rattle.schema_core.specs.Lookups.{table_number}

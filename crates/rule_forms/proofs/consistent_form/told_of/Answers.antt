@@ -1,1 +1,0 @@
-use Rattle.rule_forms.proofs.consistent_form.told_of.Goals as goal
