@@ -78,7 +78,7 @@ impl RowTaker for PooledTables {
 
     ghost beside = { λ t. t.tables };
 
-    fn put(&mut self, row: &[&str]) -> Result<(), AllocError> {
+    fn put(&mut self, alloc: Global, row: &[&str]) -> Result<(), AllocError> {
         loop {}
     }
 }

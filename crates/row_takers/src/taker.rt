@@ -3,7 +3,7 @@
 ghost use Rattle.std.specs.Prelude.{◌≡◌, ◌++◌, [], ◌∷◌, ℕ, List, OnOk};
 ghost use Rattle.row_takers.specs.Taken.{texts_in};
 
-use std::alloc::AllocError;
+use std::alloc::{AllocError, Global};
 use text_lists::{List, Text, Texts};
 
 /// Takes the rows of a table.
@@ -16,7 +16,7 @@ pub trait RowTaker {
     ghost beside: { Self → Beside };
 
     /// Takes one more row. Where memory is refused, it may hold any rows.
-    fn put(&mut self, row: &[&str]) -> Result<(), AllocError>
+    fn put(&mut self, alloc: Global, row: &[&str]) -> Result<(), AllocError>
         ensures rows { OnOk result (rows self.new ≡ rows self.old ++ texts_in row.now ∷ []) }
         ensures beside { OnOk result (beside self.new ≡ beside self.old) };
 }
@@ -29,7 +29,7 @@ impl RowTaker for List<Texts> {
 
     ghost beside = { λ _. tt };
 
-    fn put(&mut self, row: &[&str]) -> Result<(), AllocError> {
+    fn put(&mut self, alloc: Global, row: &[&str]) -> Result<(), AllocError> {
         loop {}
     }
 }
