@@ -2,6 +2,7 @@
 
 ghost use Rattle.std.specs.Prelude.{◌≡◌, ◌++◌, [], ◌∷◌, All, map, IfOk, OnOk};
 ghost use Rattle.row_store.specs.Tuple.{ids_of};
+ghost use Rattle.value_pool.specs.Pool.{KeepsIds};
 ghost use Rattle.row_takers.specs.Taken.{texts_in, texts_of, HaveTexts};
 
 use crate::taker::RowTaker;
@@ -9,8 +10,9 @@ use hash_keys::HashKeys;
 use row_store::Tuple;
 use std::alloc::{AllocError, Global};
 use std::marker::Model;
+use std::mem;
 use std::rc::RcSlice;
-use text_lists::{List, Texts};
+use text_lists::{List, Text, Texts};
 use value_pool::{Pool, ValueId};
 
 /// The tables that were read, and the rows so far of the one that is being read. Clauses see their texts.
@@ -38,7 +40,12 @@ impl PooledTables {
     pub fn new(alloc: Global, keys: HashKeys) -> PooledTables
         ensures { result ≡ record { tables = []; rows = [] } }
     {
-        loop {}
+        PooledTables {
+            pool: Pool::with_hasher(alloc, keys),
+            tables: Vec::new(alloc),
+            rows: Vec::new(alloc),
+            ids: Vec::new(alloc),
+        }
     }
 
     /// The tables of texts.
@@ -49,14 +56,33 @@ impl PooledTables {
     ) -> Result<PooledTables, AllocError>
         ensures { IfOk result (λ pooled. pooled ≡ record { tables = tables; rows = [] }) }
     {
-        loop {}
+        let mut pooled = PooledTables::new(alloc, keys);
+        for table in tables.into_vec() {
+            pooled.put_table(alloc, table)?;
+        }
+        Ok(pooled)
+    }
+
+    // Each row of texts is dropped as soon as it is in the pool.
+    fn put_table(&mut self, alloc: Global, table: List<Texts>) -> Result<(), AllocError>
+        requires { self.old.rows ≡ [] }
+        ensures { OnOk result (self.new ≡ record { tables = self.old.tables ++ table ∷ []; rows = [] }) }
+    {
+        for row in table.into_vec() {
+            let texts = borrowed_texts(alloc, row.as_slice())?;
+            self.put(alloc, texts.as_slice())?;
+        }
+        self.end_table()
     }
 
     /// The rows so far are a table, and the next one begins.
     pub fn end_table(&mut self) -> Result<(), AllocError>
         ensures { OnOk result (self.new ≡ record { tables = self.old.tables ++ self.old.rows ∷ []; rows = [] }) }
     {
-        loop {}
+        let next = Vec::new(*self.rows.allocator());
+        let rows = mem::replace(&mut self.rows, next);
+        self.tables.push(rows)?;
+        Ok(())
     }
 
     /// The pool, and the tuples of each table that was ended.
@@ -64,7 +90,7 @@ impl PooledTables {
         ensures texts { map (λ table. map (λ tuple. texts_of result.0 (ids_of tuple)) table.items) result.1.items ≡ self.entry.tables }
         ensures named { All (λ table. All (λ tuple. HaveTexts result.0 (ids_of tuple)) table.items) result.1.items }
     {
-        loop {}
+        (self.pool, self.tables)
     }
 }
 
@@ -79,6 +105,33 @@ impl RowTaker for PooledTables {
     ghost beside = { λ t. t.tables };
 
     fn put(&mut self, alloc: Global, row: &[&str]) -> Result<(), AllocError> {
-        loop {}
+        intern_all(&mut self.pool, &mut self.ids, row)?;
+        let tuple = RcSlice::from_slice(alloc, self.ids.as_slice())?;
+        self.rows.push(tuple)?;
+        Ok(())
     }
+}
+
+// The ids of the texts come in place of those that were there.
+fn intern_all(pool: &mut Pool, ids: &mut Vec<ValueId>, row: &[&str]) -> Result<(), AllocError>
+    ensures texts { OnOk result (texts_of pool.new ids.new.items ≡ texts_in row.now) }
+    ensures named { OnOk result (HaveTexts pool.new ids.new.items) }
+    ensures kept { KeepsIds pool.old pool.new }
+{
+    ids.clear();
+    for text in row {
+        let id = pool.intern(text)?;
+        ids.push(id)?;
+    }
+    Ok(())
+}
+
+fn borrowed_texts(alloc: Global, row: &[Text]) -> Result<Vec<&str>, AllocError>
+    ensures { IfOk result (λ texts. texts_in texts.items ≡ row.now) }
+{
+    let mut texts = Vec::with_capacity(alloc, row.len())?;
+    for text in row {
+        texts.push(text.as_str())?;
+    }
+    Ok(texts)
 }

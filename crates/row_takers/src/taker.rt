@@ -1,6 +1,6 @@
 //! What takes rows one by one.
 
-ghost use Rattle.std.specs.Prelude.{◌≡◌, ◌++◌, [], ◌∷◌, ℕ, List, OnOk};
+ghost use Rattle.std.specs.Prelude.{◌≡◌, ◌++◌, [], ◌∷◌, ℕ, List, IfOk, OnOk};
 ghost use Rattle.row_takers.specs.Taken.{texts_in};
 
 use std::alloc::{AllocError, Global};
@@ -30,6 +30,16 @@ impl RowTaker for List<Texts> {
     ghost beside = { λ _. tt };
 
     fn put(&mut self, alloc: Global, row: &[&str]) -> Result<(), AllocError> {
-        loop {}
+        self.push(owned_texts(alloc, row)?)
     }
+}
+
+fn owned_texts(alloc: Global, row: &[&str]) -> Result<Texts, AllocError>
+    ensures { IfOk result (λ texts. texts ≡ texts_in row.now) }
+{
+    let mut texts = Vec::with_capacity(alloc, row.len())?;
+    for text in row {
+        texts.push(Text::new(alloc, text)?)?;
+    }
+    Ok(List::from(texts))
 }
