@@ -26,6 +26,7 @@ pub struct PooledTables {
 }
 
 impl Model for PooledTables {
+    ghost use Rattle.std.specs.Prelude.{map};
     ghost use Rattle.row_takers.specs.Taken.{TablesTaken, rows_in, IsPooled};
 
     ghost Value = { TablesTaken };
@@ -87,7 +88,7 @@ impl PooledTables {
 
     /// The pool, and the tuples of each table that was ended.
     pub fn into_parts(self) -> (Pool, Vec<Vec<Tuple>>)
-        ensures texts { map (λ table. map (λ tuple. texts_of result.0 (ids_of tuple)) table.items) result.1.items ≡ self.entry.tables }
+        ensures texts { map (λ table. map (λ tuple. texts_of result.0 (ids_of tuple)) table.items) result.1.items ≡ self.tables }
         ensures named { All (λ table. All (λ tuple. HaveTexts result.0 (ids_of tuple)) table.items) result.1.items }
     {
         (self.pool, self.tables)
