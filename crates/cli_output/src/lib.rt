@@ -15,4 +15,4 @@ pub use fetching::{Stop, fetch_file, refused};
 pub use refusal::{Cause, LineFlaw, Refusal, refusal_line};
 pub use rule_files::{fetch_book, fetch_rules, fetch_schema};
 pub use status::Status;
-pub use table_files::fetch_table;
+pub use table_files::{fetch_rows, fetch_table};

@@ -1,9 +1,10 @@
 -- Fields by their place, and texts by their bytes.
 use Rattle.std.specs.Prelude.{option_map, position, IsSome}
-use Rattle.std.specs.List.{position_or_len}
+use Rattle.std.specs.List.{list_all, position_or_len}
 use Rattle.std.specs.Str.{IsUtf8, is_utf8}
-use Rattle.std.proofs.Common.{◌≡◌, ◌<◌, ◌≤◌, ◌∷◌, [], ℕ, zero, suc, List, Bool, Option, Some, None, Bor, length, get_or, take, ltb, refl, true, false, inl, inr, arith, get_or-take, length-take}
-use Rattle.std.proofs.lemmas.Bool.{cases_Bool, le-ltb, lt-ltb}
+use Rattle.std.proofs.Common.{◌≡◌, ◌<◌, ◌≤◌, ◌∷◌, [], ℕ, zero, suc, List, Bool, Option, Some, None, Bor, length, get_or, take, ltb, refl, sym, ◌∙◌, true, false, inl, inr, arith, get_or-take, length-take}
+use Rattle.std.proofs.lemmas.Bool.{cases_Bool, false≢true, le-ltb, lt-ltb}
+use Rattle.std.proofs.lemmas.List.Folds.{list_all_at}
 use Rattle.std.proofs.lemmas.List.Sums.{position_or_len_is}
 use Rattle.std.proofs.lemmas.Str.{IsUtf8-from_is_utf8}
 use Rattle.csv.specs.Records.{field_at}
@@ -24,6 +25,13 @@ pub is_utf8-false : (bytes : List ℕ) → ¬ IsUtf8 bytes → is_utf8 bytes ≡
 is_utf8-false bytes h = elim (cases_Bool (is_utf8 bytes)) [
   | inl text ↦ absurd (h (IsUtf8-from_is_utf8 bytes text))
   | inr other ↦ other
+]
+
+-- each field of a record whose fields are UTF-8
+pub is_utf8-at : (fields : List (List ℕ)) (i : ℕ) → i < length fields → list_all is_utf8 fields ≡ true → is_utf8 (get_or fields i []) ≡ true
+is_utf8-at fields i inside all = elim (cases_Bool (is_utf8 (get_or fields i []))) [
+  | inl text ↦ text
+  | inr other ↦ absurd (false≢true (sym (list_all_at is_utf8 fields i [] inside other) ∙ all))
 ]
 
 position-from : {X : Type 0} (p : X → Bool) (xs : List X) (i : ℕ) → position_or_len p xs ≡ i → i < length xs → position p xs ≡ Some i

@@ -6,3 +6,4 @@ pub mod ValidRows
 pub mod WrittenFacts
 pub mod ReadBack
 pub mod OwnHeader
+pub mod TakenRows

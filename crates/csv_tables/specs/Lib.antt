@@ -3,3 +3,4 @@ pub mod TableFiles
 pub mod Faults
 pub mod Columns
 pub mod WrittenFiles
+pub mod Taken

@@ -7,6 +7,7 @@ ghost use Rattle.std.specs.Str.{is_utf8};
 ghost use Rattle.csv.specs.Records.{fields_of};
 ghost use Rattle.line_grammar.specs.Faults.{UnlessMemory};
 ghost use Rattle.schema_core.specs.Schemas.{admits};
+ghost use Rattle.row_takers.specs.Taken.{texts_in};
 ghost use Rattle.csv_tables.specs.Columns.{ArePlacesOf};
 ghost use Rattle.csv_tables.specs.Faults.{IsFirstFault, table_tells};
 ghost use Rattle.csv_tables.specs.TableFiles.{column_fault, column_place, domain_fault, header_fault, lacking_fault, record_fault, row_of, text_fault};
@@ -15,7 +16,7 @@ ghost use Rattle.csv_tables.specs.declared.fault.TableFault.TheVariants as fault
 use crate::fault::TableFault;
 use crate::fields::{has_longer_field, is_text, place_of, utf8_field};
 use csv::ByteRecord;
-use schema_core::{Attr, Limits, List, Table, Text, Texts};
+use schema_core::{Attr, Limits, Table, Text};
 use std::alloc::Global;
 
 /// Where the fields of a record go: for each attribute of the table the place of its column.
@@ -50,32 +51,37 @@ impl<'a> Columns<'a> {
     }
 
     /// The row of the record of that number, its fields in the order of the attributes.
-    pub fn row(
+    pub fn row<'f>(
         &self,
         alloc: Global,
         limits: &Limits,
         at: usize,
-        fields: &ByteRecord,
-    ) -> Result<Texts, TableFault>
+        fields: &'f ByteRecord,
+    ) -> Result<Vec<&'f str>, TableFault>
         ensures fault { IsFirstFault (record_fault self.now.table.now limits.now (fields_of self.now.header) at (fields_of fields.now)) result }
-        ensures row { IfOk result (λ row. row ≡ row_of self.now.table.now.attrs (fields_of self.now.header) (fields_of fields.now)) }
+        ensures row { IfOk result (λ row. texts_in row.items ≡ row_of self.now.table.now.attrs (fields_of self.now.header) (fields_of fields.now)) }
         ensures few { OnOk result (at ≤ limits.now.rows) }
     {
         check_fields(limits, self.header.len(), at, fields)?;
         self.cells(alloc, at, fields)
     }
 
-    fn cells(&self, alloc: Global, at: usize, fields: &ByteRecord) -> Result<Texts, TableFault>
+    fn cells<'f>(
+        &self,
+        alloc: Global,
+        at: usize,
+        fields: &'f ByteRecord,
+    ) -> Result<Vec<&'f str>, TableFault>
         requires width { length (fields_of fields.now) ≡ length (fields_of self.now.header) }
         requires text { list_all is_utf8 (fields_of fields.now) ≡ true }
         ensures fault { IsFirstFault (domain_fault self.now.table.now.attrs (fields_of self.now.header) at (fields_of fields.now)) result }
-        ensures row { IfOk result (λ row. row ≡ row_of self.now.table.now.attrs (fields_of self.now.header) (fields_of fields.now)) }
+        ensures row { IfOk result (λ row. texts_in row.items ≡ row_of self.now.table.now.attrs (fields_of self.now.header) (fields_of fields.now)) }
     {
         let mut row = Vec::with_capacity(alloc, self.places.len())?;
         for (i, attr) in self.table.attrs.as_slice().iter().enumerate() {
-            row.push(cell(alloc, attr, at, fields, self.places[i])?)?;
+            row.push(cell(attr, at, fields, self.places[i])?)?;
         }
-        Ok(List::from(row))
+        Ok(row)
     }
 }
 
@@ -167,16 +173,15 @@ fn check_fields(
 }
 
 // The field at the place, if the domain of the attribute has it.
-fn cell(
-    alloc: Global,
+fn cell<'f>(
     attr: &Attr,
     at: usize,
-    fields: &ByteRecord,
+    fields: &'f ByteRecord,
     place: usize,
-) -> Result<Text, TableFault>
+) -> Result<&'f str, TableFault>
     requires inside { place < length (fields_of fields.now) }
     requires text { list_all is_utf8 (fields_of fields.now) ≡ true }
-    ensures value { IfOk result (λ text. text ≡ slice_index_or (fields_of fields.now) place []) }
+    ensures value { IfOk result (λ text. text.now ≡ slice_index_or (fields_of fields.now) place []) }
     ensures domain { let is_admitted = admits attr.now.domain (slice_index_or (fields_of fields.now) place []) in
         UnlessMemory table_tells (λ _. is_admitted ≡ true) (λ f. (is_admitted ≡ false) × (f ≡ fault.NotInDomain at attr.now.name)) result }
 {
@@ -185,5 +190,5 @@ fn cell(
         let attr = attr.name.clone()?;
         return Err(TableFault::NotInDomain { at, attr });
     }
-    Ok(Text::new(alloc, text)?)
+    Ok(text)
 }

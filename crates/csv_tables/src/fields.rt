@@ -32,7 +32,7 @@ pub(crate) fn utf8_field(fields: &ByteRecord, place: usize) -> &str
     requires text { list_all is_utf8 (fields_of fields.now) ≡ true }
     ensures { result.now ≡ slice_index_or (fields_of fields.now) place [] }
 {
-    field_text(fields, place).unwrap()
+    unsafe { str::from_utf8_unchecked(field_bytes(fields, place)) }
 }
 
 /// Whether each field is UTF-8.

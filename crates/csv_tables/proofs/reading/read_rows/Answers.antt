@@ -1,25 +1,16 @@
-use Rattle.std.proofs.Common.{◌≤◌, ◌+◌, ◌∙◌, ℕ, refl, arith}
-use Rattle.std.proofs.lemmas.List.{append-nil, length-map}
+use Rattle.std.proofs.Common.{◌≡◌, ◌∷◌, ◌∙◌, sym}
 use Rattle.csv.specs.Records.{fields_of}
-use Rattle.csv_tables.specs.TableFiles.{row_of}
-use Rattle.csv_tables.proofs.ValidRows.{all-rows, few-records}
+use Rattle.csv_tables.specs.Records.{file_records}
+use Rattle.csv_tables.proofs.TakenRows.{header-taken, takes-rows}
 use Rattle.csv_tables.proofs.reading.read_rows.Goals as goal
 
--- a count from one
-one-less : (n m : ℕ) → 1 + n ≤ m + 1 → n ≤ m
-one-less n m h = omega arith
-
-pub returns-clause-valid : goal.returns-clause-valid
-returns-clause-valid c =
-    let none = rw c.if-branch.false at c.in_ok-next.ensures in
-    let faultless = c.records.invariant.no_fault ∙ rw none refl in
-    let rows = rw (none, append-nil c.records.rows) at c.records.invariant.so_far in
-    rw rows (all-rows c.args.columns.now.table.now c.args.limits.now (fields_of c.args.columns.now.header) 1 c.args.records faultless)
-
-pub returns-clause-few : goal.returns-clause-few
-returns-clause-few c =
-    let start : 1 ≤ c.args.limits.now.rows + 1 = omega arith in
-    let none = rw c.if-branch.false at c.in_ok-next.ensures in
-    let rows = rw (none, append-nil c.records.rows) at c.records.invariant.so_far in
-    let few = few-records c.args.columns.now.table.now c.args.limits.now (fields_of c.args.columns.now.header) 1 c.args.records (c.records.invariant.no_fault ∙ rw none refl) start in
-    rw (rows, length-map c.args.records (row_of c.args.columns.now.table.now.attrs (fields_of c.args.columns.now.header))) (one-less _ _ few)
+pub returns : goal.returns
+returns g c =
+    let are : file_records c.args.bytes.now ≡ fields_of c.next.new.row ∷ c.next.new.self =
+    sym c.new-records.ensures.records ∙ header-taken _ _ _ _ c.if-not-branch.false c.in_ok-next.ensures in
+    let columns = c.in_ok-columns.ensures.columns in
+    let fault = rw (columns.0, columns.1) at c.hand_over.ensures.fault in
+    let taken = rw (columns.0, columns.1) at c.hand_over.ensures.taken in
+    record {
+      read = takes-rows g.T.RowTaker c.args.table.now c.args.limits.now c.args.bytes.now _ _ are c.in_ok-columns.ensures.fault c.args.taker.now c.hand_over.new.taker c.hand_over.result fault taken;
+    }

@@ -1,5 +1,7 @@
-use Rattle.std.proofs.Common.{◌<◌, ◌∙◌, sym, ap, length}
+use Rattle.std.proofs.Common.{◌<◌, ◌∙◌, ◌∷◌, [], Bor, List, ℕ, sym, ap, length}
+use Rattle.std.proofs.lemmas.List.{map-append}
 use Rattle.std.proofs.lemmas.Result.{err_from_is_err_and}
+use Rattle.row_takers.specs.Taken.{texts_in}
 use Rattle.schema_core.specs.Schemas.{admits}
 use Rattle.csv.specs.Records.{fields_of}
 use Rattle.csv_tables.proofs.RowFacts.{domain_fault-passes, domain_fault-refuses, field_of-is, refusal-tells, row_of-more}
@@ -32,6 +34,6 @@ loop-i-preserved c =
           c.loop-i.invariant.admitted
           ∙ domain_fault-passes attrs header fields c.args.at c.loop-i.i c.attr-item.result inside this (ap (admits c.attr-item.result.domain) field ∙ c.in_ok-cell.ensures.domain);
       so_far =
-          rw (c.in_ok-push.ensures.items, c.in_ok-cell.ensures.value, ← field)
-          (sym (row_of-more attrs header fields c.args.at c.loop-i.i c.attr-item.result inside this c.loop-i.row.items) ∙ c.loop-i.invariant.so_far);
+          rw (c.in_ok-push.ensures.items, map-append (λ (text : Bor (List ℕ)). text.now) c.loop-i.row.items (c.in_ok-cell.field-0 ∷ []), c.in_ok-cell.ensures.value, ← field)
+          (sym (row_of-more attrs header fields c.args.at c.loop-i.i c.attr-item.result inside this (texts_in c.loop-i.row.items)) ∙ c.loop-i.invariant.so_far);
     }
