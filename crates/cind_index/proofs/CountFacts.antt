@@ -17,7 +17,7 @@ use Rattle.std.proofs.lemmas.Map.Made.{length-from_same_keys}
 use Rattle.marked_map.specs.MarkedMap.{HaveDistinctKeys}
 use Rattle.cfd_semantics.specs.declared.inclusion.InclusionRow.{InclusionRow}
 use Rattle.cfd_semantics.specs.Orphan.{SideEntry, orphaned}
-use Rattle.cfd_semantics.specs.EntrySets.{HasOneARow}
+use Rattle.cfd_semantics.specs.EntrySets.{HasOneARow, IsOrphan}
 use Rattle.cfd_semantics.proofs.Members.{contains-here, contains-there, contains_nothing, contains_cases}
 use Rattle.cfd_semantics.proofs.InclusionLaw.{found_by_any, any_from_found, both_true}
 use Rattle.cfd_semantics.proofs.Sets.{one_a_row}
@@ -102,6 +102,37 @@ orphans_all rows t count unanswered so = holds_as (has (rows_on rows Left) t.xp)
     always : (b : Bool) → (b && true) ≡ b
     always true = refl
     always false = refl
+
+-- ---- two lists of the same numbers
+
+-- they are as long, where none stands twice
+pub as_long : (xs ys : List ℕ) → IsDistinct nat_eq xs → IsDistinct nat_eq ys → ((n : ℕ) → Contains xs n ↔ Contains ys n) → length xs ≡ length ys
+as_long xs ys once also same =
+    length-from_same_keys nat_eq_equiv xs ys once also
+    (λ row. same_test (list_any (nat_eq row) xs) (list_any (nat_eq row) ys) (among xs ys (λ n there. (same n).0 there) row) (among ys xs (λ n there. (same n).1 there) row))
+  where
+    among : (xs ys : List ℕ) → ((n : ℕ) → Contains xs n → Contains ys n) → (row : ℕ) → list_any (nat_eq row) xs ≡ true → list_any (nat_eq row) ys ≡ true
+    among xs ys all row is = let found = found_by_any (nat_eq row) xs is in any_from_found (nat_eq row) ys found.0 (all found.0 found.1) found.2
+
+    same_test : (a b : Bool) → (a ≡ true → b ≡ true) → (b ≡ true → a ≡ true) → a ≡ b
+    same_test true b one other = sym (one refl)
+    same_test false true one other = other refl
+    same_test false false one other = refl
+
+-- the list of the orphans is as long as one that has each of them once
+pub orphans_as_many : (t : InclusionRow ℕ) (lefts rights : SideEntry ℕ → Bool) (found : List ℕ) → IsDistinct nat_eq found → ((row : ℕ) → Contains found row ↔ IsOrphan nat_eq t lefts rights row) → IsOrphanCount lefts rights (length found) t
+orphans_as_many t lefts rights found once exactly ls rs is_left is_right =
+    as_long found (orphaned nat_eq t ls rs) once
+    (IsDistinct-from_apart nat_eq (orphaned nat_eq t ls rs) (λ i j d before within. differ (get_or (orphaned nat_eq t ls rs) i d) (get_or (orphaned nat_eq t ls rs) j d) (orphaned_rise nat_eq t lefts rights ls rs is_left is_right i j d before within)))
+    (λ n. ((λ there. (orphans_of_sets nat_eq t lefts rights ls rs is_left is_right n).1 ((exactly n).0 there)), (λ there. (exactly n).1 ((orphans_of_sets nat_eq t lefts rights ls rs is_left is_right n).0 there))))
+  where
+    differ : (m n : ℕ) → m < n → nat_eq m n ≡ false
+    differ m n less = grind (arith, nat_tests, less)
+
+-- a test holds of one number of rows alone
+pub same_many : (held : ℕ → Bool) (one other : ℕ) → HoldsSoMany held one → HoldsSoMany held other → one ≡ other
+same_many held one other so also =
+    sym so.as_many ∙ as_long so.rows also.rows so.once also.once (λ row. ((λ there. (also.exactly row).1 ((so.exactly row).0 there)), (λ there. (so.exactly row).1 ((also.exactly row).0 there)))) ∙ also.as_many
 
 -- ---- two lists without a common number
 
@@ -194,27 +225,10 @@ module _ (m : KeyedRows) (distinct : HaveDistinctKeys same_key m) (t : Inclusion
       ]
 
   module _ (tableau : List (InclusionRow ℕ)) (right : AreMarkedRight tableau m) where
-    -- the list of the orphans is as long
     pub count_of_orphans : (count : ℕ) → Contains tableau t → CountsBelow m t m.marked count → IsOrphanCount (lefts m) (rights m) count t
     count_of_orphans count inside so_far ls rs is_left is_right =
-        so.as_many
-        ∙ length-from_same_keys nat_eq_equiv so.found (orphaned nat_eq t ls rs) so.once rising (λ row. same_test (list_any (nat_eq row) so.found) (list_any (nat_eq row) (orphaned nat_eq t ls rs))
-        (among so.found (orphaned nat_eq t ls rs) (λ n there. (orphans_of_sets nat_eq t (lefts m) (rights m) ls rs is_left is_right n).1 ((orphans_below m distinct tableau right t n inside).0 ((so.exactly n).0 there))) row)
-        (among (orphaned nat_eq t ls rs) so.found (λ n there. (so.exactly n).1 ((orphans_below m distinct tableau right t n inside).1 ((orphans_of_sets nat_eq t (lefts m) (rights m) ls rs is_left is_right n).0 there))) row))
+        so.as_many ∙ orphans_as_many t (lefts m) (rights m) so.found so.once
+        (λ n. ((λ there. (orphans_below m distinct tableau right t n inside).0 ((so.exactly n).0 there)), (λ is. (so.exactly n).1 ((orphans_below m distinct tableau right t n inside).1 is)))) ls rs is_left is_right
       where
         so : SoManyBelow m t m.marked count
         so = so_far (λ e f one other same. one_a_row (λ (s : SideEntry ℕ). s.row) ls is_left.rising e f ((is_left.members e).0 one) ((is_left.members f).0 other) same)
-
-        differ : (m n : ℕ) → m < n → nat_eq m n ≡ false
-        differ m n less = grind (arith, nat_tests, less)
-
-        rising : IsDistinct nat_eq (orphaned nat_eq t ls rs)
-        rising = IsDistinct-from_apart nat_eq (orphaned nat_eq t ls rs) (λ i j d before within. differ (get_or (orphaned nat_eq t ls rs) i d) (get_or (orphaned nat_eq t ls rs) j d) (orphaned_rise nat_eq t (lefts m) (rights m) ls rs is_left is_right i j d before within))
-
-        among : (xs ys : List ℕ) → ((n : ℕ) → Contains xs n → Contains ys n) → (row : ℕ) → list_any (nat_eq row) xs ≡ true → list_any (nat_eq row) ys ≡ true
-        among xs ys all row is = let found = found_by_any (nat_eq row) xs is in any_from_found (nat_eq row) ys found.0 (all found.0 found.1) found.2
-
-        same_test : (a b : Bool) → (a ≡ true → b ≡ true) → (b ≡ true → a ≡ true) → a ≡ b
-        same_test true b one other = sym (one refl)
-        same_test false true one other = other refl
-        same_test false false one other = refl
