@@ -1,20 +1,21 @@
 -- The numbers of orphans, row by row of the tableau, and what becomes of them when the rows of a key change.
-use Rattle.std.proofs.Common.{◌≡◌, ◌≢◌, ℕ, suc, ◌+◌, ◌<◌, ◌≤◌, ◌⊎◌, Bool, true, false, not, ◌&&◌, ◌||◌, List, [], ◌∷◌, ◌++◌, length, map, filter, set, get_or, slice_get, Some, refl, sym, ap, ◌∙◌, subst, inl, inr, arith}
-use Rattle.std.specs.Prelude.{IsTrue, nat_eq, AllPairs, Contains}
+use Rattle.std.proofs.Common.{◌≡◌, ◌≢◌, ℕ, ◌+◌, ◌<◌, ◌≤◌, ◌⊎◌, Bool, true, false, not, ◌&&◌, ◌||◌, List, [], ◌∷◌, ◌++◌, length, map, filter, get_or, slice_get, Some, refl, sym, ap, ◌∙◌, subst, inl, inr, arith}
+use Rattle.std.specs.Prelude.{IsTrue, nat_eq, Contains}
 use Rattle.std.specs.Option.{ForSome}
 use Rattle.std.specs.List.{list_any}
 use Rattle.std.specs.Map.{values_of}
 use Rattle.std.specs.Str.{bytes_eq}
 use Rattle.std.proofs.lemmas.Bool.Decides.{Decides-eqb}
-use Rattle.std.proofs.lemmas.List.{get_or-map, length-map, length-append}
-use Rattle.std.proofs.lemmas.List.Elements.{All-weaker, All-contains_itself}
+use Rattle.std.proofs.lemmas.List.{length-map, length-append}
 use Rattle.std.proofs.lemmas.List.Filters.{length-filter_both}
-use Rattle.std.proofs.lemmas.List.Kept.{AllPairs-cons, AllPairs-filter}
+use Rattle.std.proofs.lemmas.List.Kept.{AllPairs-filter}
 use Rattle.std.proofs.lemmas.Map.Made.{AllPairs-from_IsDistinct, IsDistinct-from_AllPairs}
+use Rattle.std.proofs.lemmas.Option.{same_Some, slice_get_within}
 use Rattle.marked_map.specs.MarkedMap.{HaveDistinctKeys, IsAbsent}
 use Rattle.cfd_semantics.specs.Orphan.{SideEntry, answers, is_orphan}
 use Rattle.cfd_semantics.specs.EntrySets.{IsUnanswered}
-use Rattle.cfd_semantics.proofs.Members.{contains-here, contains-there, contains-map, contains_from_map}
+use Rattle.cfd_semantics.specs.declared.inclusion.InclusionRow.{InclusionRow}
+use Rattle.cfd_semantics.proofs.Members.{contains-here, contains-map, contains_from_map}
 use Rattle.cfd_semantics.proofs.InclusionLaw.{both_true}
 use Rattle.cfd_semantics.proofs.SetFacts.{contains-filter, contains_from_filter, orphan_of_sets}
 use Rattle.cind_index.specs.declared.side.Side.{Side}
@@ -22,78 +23,23 @@ use Rattle.cind_index.specs.declared.side.Side.TheVariants.{Left, Right}
 use Rattle.cind_index.specs.declared.key_rows.KeyRows.TheVariants.{NoRows}
 use Rattle.cind_index.specs.declared.totals.Change.TheVariants.{Comes, Goes}
 use Rattle.cind_index.specs.declared.totals.Totals.{Totals}
-use Rattle.cind_index.specs.KeysHeld.{Ids, KeyedRows, is_under, held, lefts, rights, HoldTheSame}
-use Rattle.cind_index.specs.Orphans.{IsOrphanCount}
-use Rattle.cind_index.proofs.MapFacts.{equal_lists, same_list, flip_lists}
-use Rattle.cind_index.proofs.PairFacts.{contains_from_at, never, clash, set_here, set_same, push_more, push_last}
-use Rattle.cind_index.proofs.RowFacts.{append_members, some_row}
-use Rattle.cind_index.proofs.KeyFacts.{same_key, value_there, written, written_distinct, entry_there, pushed, entry_new}
-use Rattle.cind_index.proofs.CountFacts.{holds_none, same_many}
-use Rattle.std.proofs.lemmas.Bool.{cases_lt}
-use Rattle.std.proofs.lemmas.List.{get_or-set_same, get_or-set_other, length-set}
-use Rattle.std.proofs.lemmas.Option.{same_Some, slice_get_within, slice_get-get_or}
-use Rattle.cfd_semantics.specs.declared.inclusion.InclusionRow.{InclusionRow}
 use Rattle.cind_index.specs.declared.key_rows.KeyRows.{KeyRows}
 use Rattle.cind_index.specs.declared.totals.Change.{Change}
+use Rattle.cind_index.specs.KeysHeld.{Ids, KeyedRows, is_under, held, lefts, rights, HoldTheSame}
+use Rattle.cind_index.specs.Orphans.{IsOrphanCount}
 use Rattle.cind_index.specs.RowsHeld.{has, has_some, rows_on, is_orphaned, HoldsSoMany}
-use Rattle.cind_index.specs.Totals.{AreUnanswered, HaveSoMany, AreTotals, Changes, told, AreZero, AreChanged, IsChanged}
+use Rattle.cind_index.specs.Totals.{AreUnanswered, HaveSoMany, AreTotals, Changes, told, AreZero, IsChanged}
+use Rattle.cind_index.proofs.MapFacts.{equal_lists, same_list, flip_lists}
+use Rattle.cind_index.proofs.PairFacts.{never, clash, set_here, set_same, push_more, push_last}
+use Rattle.cind_index.proofs.RowFacts.{append_members, some_row}
+use Rattle.cind_index.proofs.KeyFacts.{same_key, value_there, written, written_distinct, entry_there, pushed, entry_new}
+use Rattle.cind_index.proofs.CountFacts.{once_append, once_map, holds_none, same_many}
 
--- the number of a row of the tableau is changed by how many orphans it has under the key
-abbrev pub IsChangedFor : Change → KeyRows → InclusionRow ℕ → ℕ → ℕ → Type 0
-IsChangedFor change rows t old new = (orphans : ℕ) × HoldsSoMany (is_orphaned rows t) orphans × IsChanged change old orphans new
-
-module _ (change : Change) (tableau : List (InclusionRow ℕ)) (rows : KeyRows) (old : List ℕ) where
-  -- the first numbers are changed, and the others are what they were
-  pub record ChangedBelow (new : List ℕ) (n : ℕ) : Type 0 where
-    pub long : length new ≡ length old
-    pub done : (k : ℕ) (t : InclusionRow ℕ) → k < n → slice_get tableau k ≡ Some t → IsChangedFor change rows t (get_or old k 0) (get_or new k 0)
-    pub rest : (k : ℕ) → n ≤ k → get_or new k 0 ≡ get_or old k 0
-
-  pub none_changed : ChangedBelow old 0
-  none_changed = record { long = refl; done = λ k t low at. absurd (omega (arith, low)); rest = λ k high. refl }
-
-  pub changed_more : (new : List ℕ) (n count : ℕ) (t : InclusionRow ℕ) → slice_get tableau n ≡ Some t → n < length new → ChangedBelow new n → IsChangedFor change rows t (get_or new n 0) count → ChangedBelow (set new n count) (n + 1)
-  changed_more new n count t at within so_far own = record {
-    long = length-set new n count ∙ so_far.long;
-    done = λ k s low there. elim (cases_lt k n) [
-      | inl earlier ↦ subst (IsChangedFor change rows s (get_or old k 0)) (sym (get_or-set_other new n k count 0 (λ e. omega (arith, earlier, e)))) (so_far.done k s earlier there)
-      | inr late ↦
-          let e : n ≡ k = omega (arith, low, late) in
-          let same : t ≡ s = same_Some t s (sym at ∙ ap (slice_get tableau) e ∙ there) in
-          let here = subst (λ m. IsChangedFor change rows t m (get_or (set new n count) n 0)) (so_far.rest n (omega arith)) (subst (IsChangedFor change rows t (get_or new n 0)) (sym (get_or-set_same new n count 0 within)) own) in
-          subst (λ i. IsChangedFor change rows s (get_or old i 0) (get_or (set new n count) i 0)) e (subst (λ r. IsChangedFor change rows r (get_or old n 0) (get_or (set new n count) n 0)) same here)
-    ];
-    rest = λ k high. get_or-set_other new n k count 0 (λ e. omega (arith, high, e)) ∙ so_far.rest k (omega (arith, high));
-  }
-
-  pub all_changed : (new : List ℕ) (n : ℕ) → length tableau ≤ n → ChangedBelow new n → AreChanged change tableau rows old new
-  all_changed new n all so_far = record { long = so_far.long; each = λ k t at. so_far.done k t (let low = slice_get_within tableau k t at in omega (arith, low, all)) at }
-
--- ---- entries, each once
-
--- no entry stands twice
-abbrev pub AreOnce : {X : Type 0} → List X → Type 0
-AreOnce xs = AllPairs (λ x y. x ≢ y) xs
-
-once_append : {X : Type 0} (xs ys : List X) → AreOnce xs → AreOnce ys → ((x : X) → Contains xs x → Contains ys x → ⊥) → AreOnce (xs ++ ys)
-once_append [] ys one other apart = other
-once_append {X} (x ∷ xs) ys one other apart =
-    AllPairs-cons (λ x y. x ≢ y) x (xs ++ ys)
-    (All-weaker (Contains (xs ++ ys)) (λ y. x ≢ y) (λ y inside same. elim ((append_members xs ys y).0 inside) [
-      | inl (i, low, is) ↦ one 0 (suc i) y (omega arith) (omega (arith, low)) (same ∙ sym is)
-      | inr right ↦ apart x (contains-here x xs) (subst (Contains ys) (sym same) right)
-    ]) (xs ++ ys) (All-contains_itself (xs ++ ys)))
-    (once_append xs ys (λ i j d before within. one (suc i) (suc j) d (omega (arith, before)) (omega (arith, within))) other (λ y left right. apart y (contains-there y x xs left) right))
-
--- so are their pictures, where no two have the same one
-once_map : {X Y : Type 0} (f : X → Y) (xs : List X) → ((x z : X) → Contains xs x → Contains xs z → f x ≡ f z → x ≡ z) → AreOnce xs → AreOnce (map f xs)
-once_map f [] apart once = λ i j d before within. absurd (omega (arith, within))
-once_map {X} {Y} f (x ∷ xs) apart once = λ i j d before within.
-    let long = length-map (x ∷ xs) f in
-    let here : j < length (x ∷ xs) = omega (arith, within, long) in
-    let there : i < length (x ∷ xs) = omega (arith, here, before) in
-    λ same. once i j x before here (apart (get_or (x ∷ xs) i x) (get_or (x ∷ xs) j x) (contains_from_at (x ∷ xs) (get_or (x ∷ xs) i x) i (slice_get-get_or (x ∷ xs) i x there)) (contains_from_at (x ∷ xs) (get_or (x ∷ xs) j x) j (slice_get-get_or (x ∷ xs) j x here))
-    (sym (get_or-map f (x ∷ xs) i x d there) ∙ same ∙ get_or-map f (x ∷ xs) j x d here))
+-- the first numbers are changed by how many orphans their rows have under a key, and the others are what they were
+pub record ChangedBelow (change : Change) (tableau : List (InclusionRow ℕ)) (rows : KeyRows) (old new : List ℕ) (n : ℕ) : Type 0 where
+  pub long : length new ≡ length old
+  pub done : (k : ℕ) (t : InclusionRow ℕ) → k < n → slice_get tableau k ≡ Some t → (orphans : ℕ) × HoldsSoMany (is_orphaned rows t) orphans × IsChanged change (get_or old k 0) orphans (get_or new k 0)
+  pub rest : (k : ℕ) → n ≤ k → get_or new k 0 ≡ get_or old k 0
 
 -- ---- unanswered entries
 

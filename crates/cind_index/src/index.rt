@@ -41,7 +41,8 @@ pub struct CindIndex {
 }
 
 impl CindIndex {
-    /// An index without entries, which takes no memory yet. Its keys are looked up by a hash with `hash_keys`.
+    /// An index without entries. It takes memory for its totals alone, and does without them where that is refused. Its keys
+    /// are looked up by a hash with `hash_keys`.
     pub fn new(
         alloc: Global,
         hash_keys: HashKeys,
