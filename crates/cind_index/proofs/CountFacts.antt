@@ -1,23 +1,25 @@
 -- How many orphans a row of the tableau has, told without a list of them.
-use Rattle.std.proofs.Common.{◌≡◌, ℕ, ◌+◌, ◌<◌, ◌↔◌, ◌⊎◌, Bool, true, false, not, ◌&&◌, List, [], ◌∷◌, ◌++◌, length, get_or, slice_get, Option, Some, refl, sym, ap, ◌∙◌, subst, inl, inr, arith}
-use Rattle.std.specs.Prelude.{◌==◌, nat_eq, Contains}
+use Rattle.std.proofs.Common.{◌≡◌, ◌≢◌, ℕ, suc, ◌+◌, ◌<◌, ◌↔◌, ◌⊎◌, Bool, true, false, not, ◌&&◌, List, [], ◌∷◌, ◌++◌, length, map, get_or, slice_get, Option, Some, refl, sym, ap, ◌∙◌, subst, inl, inr, arith}
+use Rattle.std.specs.Prelude.{◌==◌, nat_eq, AllPairs, Contains}
 use Rattle.std.specs.Option.{option_map_or}
-use Rattle.std.specs.List.{list_any, IsDistinct, AllByRecursion}
+use Rattle.std.specs.List.{list_any, IsDistinct}
 use Rattle.std.specs.List.Sorted.{IsStrictlySortedBy}
 use Rattle.std.specs.Ordering.{nat_cmp}
 use Rattle.std.specs.Str.{bytes_eq}
 use Rattle.std.specs.BTreeSet.{BTreeSet}
 use Rattle.std.proofs.lemmas.Bool.{cases_lt}
-use Rattle.std.proofs.lemmas.Bool.Decides.{nat_tests}
+use Rattle.std.proofs.lemmas.Bool.Decides.{nat_tests, Decides-eqb}
 use Rattle.std.proofs.lemmas.Cmp.{nat_eq_equiv}
-use Rattle.std.proofs.lemmas.List.{length-append}
-use Rattle.std.proofs.lemmas.Option.{same_Some}
-use Rattle.std.proofs.lemmas.Map.Keys.{IsDistinct-from_apart, IsDistinct-cons, IsDistinct-head, IsDistinct-tail, below_from_sorted}
-use Rattle.std.proofs.lemmas.Map.Made.{length-from_same_keys}
+use Rattle.std.proofs.lemmas.List.{get_or-map, length-map, length-append}
+use Rattle.std.proofs.lemmas.List.Elements.{All-weaker, All-contains_itself}
+use Rattle.std.proofs.lemmas.List.Kept.{AllPairs-cons}
+use Rattle.std.proofs.lemmas.Option.{same_Some, slice_get-get_or}
+use Rattle.std.proofs.lemmas.Map.Keys.{IsDistinct-from_apart, below_from_sorted}
+use Rattle.std.proofs.lemmas.Map.Made.{length-from_same_keys, AllPairs-from_IsDistinct, IsDistinct-from_AllPairs}
 use Rattle.marked_map.specs.MarkedMap.{HaveDistinctKeys}
 use Rattle.cfd_semantics.specs.declared.inclusion.InclusionRow.{InclusionRow}
 use Rattle.cfd_semantics.specs.Orphan.{SideEntry, orphaned}
-use Rattle.cfd_semantics.specs.EntrySets.{HasOneARow}
+use Rattle.cfd_semantics.specs.EntrySets.{HasOneARow, IsOrphan}
 use Rattle.cfd_semantics.proofs.Members.{contains-here, contains-there, contains_nothing, contains_cases}
 use Rattle.cfd_semantics.proofs.InclusionLaw.{found_by_any, any_from_found, both_true}
 use Rattle.cfd_semantics.proofs.Sets.{one_a_row}
@@ -30,6 +32,7 @@ use Rattle.cind_index.specs.RowsHeld.{is_in, has, has_some, rows_on, is_orphaned
 use Rattle.cind_index.specs.KeysHeld.{KeyedRows, lefts, rights, AreMarkedRight}
 use Rattle.cind_index.specs.Orphans.{IsOrphanCount}
 use Rattle.cind_index.proofs.MapFacts.{same_list}
+use Rattle.cind_index.proofs.PairFacts.{contains_from_at}
 use Rattle.cind_index.proofs.RowFacts.{append_members, set_members, same_number, number_itself}
 use Rattle.cind_index.proofs.KeyFacts.{Pair, same_key, key_there}
 use Rattle.cind_index.proofs.OrphanFacts.{OrphanAt, FoundBelow, found_none, entry_at, orphans_below}
@@ -103,25 +106,66 @@ orphans_all rows t count unanswered so = holds_as (has (rows_on rows Left) t.xp)
     always true = refl
     always false = refl
 
--- ---- two lists without a common number
+-- ---- two lists of the same numbers
 
-distinct_append : (xs ys : List ℕ) → IsDistinct nat_eq xs → IsDistinct nat_eq ys → ((n : ℕ) → Contains xs n → Contains ys n → ⊥) → IsDistinct nat_eq (xs ++ ys)
-distinct_append [] ys one other apart = other
-distinct_append (x ∷ xs) ys one other apart =
-    IsDistinct-cons nat_eq x (xs ++ ys) (both xs ys (IsDistinct-head nat_eq x xs one) (others ys (λ n inside same. apart x (contains-here x xs) (subst (Contains ys) (sym same) inside))))
-    (distinct_append xs ys (IsDistinct-tail nat_eq x xs one) other (λ n left right. apart n (contains-there n x xs left) right))
+-- they are as long, where none stands twice
+pub as_long : (xs ys : List ℕ) → IsDistinct nat_eq xs → IsDistinct nat_eq ys → ((n : ℕ) → Contains xs n ↔ Contains ys n) → length xs ≡ length ys
+as_long xs ys once also same =
+    length-from_same_keys nat_eq_equiv xs ys once also
+    (λ row. same_test (list_any (nat_eq row) xs) (list_any (nat_eq row) ys) (among xs ys (λ n there. (same n).0 there) row) (among ys xs (λ n there. (same n).1 there) row))
   where
-    both : (ms ns : List ℕ) → AllByRecursion (λ y. nat_eq x y ≡ false) ms → AllByRecursion (λ y. nat_eq x y ≡ false) ns → AllByRecursion (λ y. nat_eq x y ≡ false) (ms ++ ns)
-    both [] ns left right = right
-    both (m ∷ ms) ns left right = (left.0, both ms ns left.1 right)
+    among : (xs ys : List ℕ) → ((n : ℕ) → Contains xs n → Contains ys n) → (row : ℕ) → list_any (nat_eq row) xs ≡ true → list_any (nat_eq row) ys ≡ true
+    among xs ys all row is = let found = found_by_any (nat_eq row) xs is in any_from_found (nat_eq row) ys found.0 (all found.0 found.1) found.2
 
-    isnt : (m n : ℕ) → ((m ≡ n) → ⊥) → (b : Bool) → nat_eq m n ≡ b → b ≡ false
-    isnt m n differ true is = absurd (differ (grind (arith, nat_tests, is)))
-    isnt m n differ false is = refl
+    same_test : (a b : Bool) → (a ≡ true → b ≡ true) → (b ≡ true → a ≡ true) → a ≡ b
+    same_test true b one other = sym (one refl)
+    same_test false true one other = other refl
+    same_test false false one other = refl
 
-    others : (ns : List ℕ) → ((n : ℕ) → Contains ns n → x ≡ n → ⊥) → AllByRecursion (λ y. nat_eq x y ≡ false) ns
-    others [] differ = tt
-    others (n ∷ ns) differ = (isnt x n (λ same. differ n (contains-here n ns) same) (nat_eq x n) refl, others ns (λ m inside same. differ m (contains-there m n ns inside) same))
+-- the list of the orphans is as long as one that has each of them once
+pub orphans_as_many : (t : InclusionRow ℕ) (lefts rights : SideEntry ℕ → Bool) (found : List ℕ) → IsDistinct nat_eq found → ((row : ℕ) → Contains found row ↔ IsOrphan nat_eq t lefts rights row) → IsOrphanCount lefts rights (length found) t
+orphans_as_many t lefts rights found once exactly ls rs is_left is_right =
+    as_long found (orphaned nat_eq t ls rs) once
+    (IsDistinct-from_apart nat_eq (orphaned nat_eq t ls rs) (λ i j d before within. differ (get_or (orphaned nat_eq t ls rs) i d) (get_or (orphaned nat_eq t ls rs) j d) (orphaned_rise nat_eq t lefts rights ls rs is_left is_right i j d before within)))
+    (λ n. ((λ there. (orphans_of_sets nat_eq t lefts rights ls rs is_left is_right n).1 ((exactly n).0 there)), (λ there. (exactly n).1 ((orphans_of_sets nat_eq t lefts rights ls rs is_left is_right n).0 there))))
+  where
+    differ : (m n : ℕ) → m < n → nat_eq m n ≡ false
+    differ m n less = grind (arith, nat_tests, less)
+
+-- a test holds of one number of rows alone
+pub same_many : (held : ℕ → Bool) (one other : ℕ) → HoldsSoMany held one → HoldsSoMany held other → one ≡ other
+same_many held one other so also =
+    sym so.as_many ∙ as_long so.rows also.rows so.once also.once (λ row. ((λ there. (also.exactly row).1 ((so.exactly row).0 there)), (λ there. (so.exactly row).1 ((also.exactly row).0 there)))) ∙ also.as_many
+
+-- ---- lists in which nothing stands twice
+
+abbrev pub AreOnce : {X : Type 0} → List X → Type 0
+AreOnce xs = AllPairs (λ x y. x ≢ y) xs
+
+pub once_append : {X : Type 0} (xs ys : List X) → AreOnce xs → AreOnce ys → ((x : X) → Contains xs x → Contains ys x → ⊥) → AreOnce (xs ++ ys)
+once_append [] ys one other apart = other
+once_append {X} (x ∷ xs) ys one other apart =
+    AllPairs-cons (λ x y. x ≢ y) x (xs ++ ys)
+    (All-weaker (Contains (xs ++ ys)) (λ y. x ≢ y) (λ y inside same. elim ((append_members xs ys y).0 inside) [
+      | inl (i, low, is) ↦ one 0 (suc i) y (omega arith) (omega (arith, low)) (same ∙ sym is)
+      | inr right ↦ apart x (contains-here x xs) (subst (Contains ys) (sym same) right)
+    ]) (xs ++ ys) (All-contains_itself (xs ++ ys)))
+    (once_append xs ys (λ i j d before within. one (suc i) (suc j) d (omega (arith, before)) (omega (arith, within))) other (λ y left right. apart y (contains-there y x xs left) right))
+
+-- so are their pictures, where no two have the same one
+pub once_map : {X Y : Type 0} (f : X → Y) (xs : List X) → ((x z : X) → Contains xs x → Contains xs z → f x ≡ f z → x ≡ z) → AreOnce xs → AreOnce (map f xs)
+once_map f [] apart once = λ i j d before within. absurd (omega (arith, within))
+once_map {X} {Y} f (x ∷ xs) apart once = λ i j d before within.
+    let long = length-map (x ∷ xs) f in
+    let here : j < length (x ∷ xs) = omega (arith, within, long) in
+    let there : i < length (x ∷ xs) = omega (arith, here, before) in
+    λ same. once i j x before here (apart (get_or (x ∷ xs) i x) (get_or (x ∷ xs) j x) (contains_from_at (x ∷ xs) (get_or (x ∷ xs) i x) i (slice_get-get_or (x ∷ xs) i x there)) (contains_from_at (x ∷ xs) (get_or (x ∷ xs) j x) j (slice_get-get_or (x ∷ xs) j x here))
+    (sym (get_or-map f (x ∷ xs) i x d there) ∙ same ∙ get_or-map f (x ∷ xs) j x d here))
+
+-- two lists without a common number
+distinct_append : (xs ys : List ℕ) → IsDistinct nat_eq xs → IsDistinct nat_eq ys → ((n : ℕ) → Contains xs n → Contains ys n → ⊥) → IsDistinct nat_eq (xs ++ ys)
+distinct_append xs ys one other apart =
+    IsDistinct-from_AllPairs Decides-eqb (xs ++ ys) (once_append xs ys (AllPairs-from_IsDistinct Decides-eqb xs one) (AllPairs-from_IsDistinct Decides-eqb ys other) apart)
 
 -- ---- key by key
 
@@ -194,27 +238,10 @@ module _ (m : KeyedRows) (distinct : HaveDistinctKeys same_key m) (t : Inclusion
       ]
 
   module _ (tableau : List (InclusionRow ℕ)) (right : AreMarkedRight tableau m) where
-    -- the list of the orphans is as long
     pub count_of_orphans : (count : ℕ) → Contains tableau t → CountsBelow m t m.marked count → IsOrphanCount (lefts m) (rights m) count t
     count_of_orphans count inside so_far ls rs is_left is_right =
-        so.as_many
-        ∙ length-from_same_keys nat_eq_equiv so.found (orphaned nat_eq t ls rs) so.once rising (λ row. same_test (list_any (nat_eq row) so.found) (list_any (nat_eq row) (orphaned nat_eq t ls rs))
-        (among so.found (orphaned nat_eq t ls rs) (λ n there. (orphans_of_sets nat_eq t (lefts m) (rights m) ls rs is_left is_right n).1 ((orphans_below m distinct tableau right t n inside).0 ((so.exactly n).0 there))) row)
-        (among (orphaned nat_eq t ls rs) so.found (λ n there. (so.exactly n).1 ((orphans_below m distinct tableau right t n inside).1 ((orphans_of_sets nat_eq t (lefts m) (rights m) ls rs is_left is_right n).0 there))) row))
+        so.as_many ∙ orphans_as_many t (lefts m) (rights m) so.found so.once
+        (λ n. ((λ there. (orphans_below m distinct tableau right t n inside).0 ((so.exactly n).0 there)), (λ is. (so.exactly n).1 ((orphans_below m distinct tableau right t n inside).1 is)))) ls rs is_left is_right
       where
         so : SoManyBelow m t m.marked count
         so = so_far (λ e f one other same. one_a_row (λ (s : SideEntry ℕ). s.row) ls is_left.rising e f ((is_left.members e).0 one) ((is_left.members f).0 other) same)
-
-        differ : (m n : ℕ) → m < n → nat_eq m n ≡ false
-        differ m n less = grind (arith, nat_tests, less)
-
-        rising : IsDistinct nat_eq (orphaned nat_eq t ls rs)
-        rising = IsDistinct-from_apart nat_eq (orphaned nat_eq t ls rs) (λ i j d before within. differ (get_or (orphaned nat_eq t ls rs) i d) (get_or (orphaned nat_eq t ls rs) j d) (orphaned_rise nat_eq t (lefts m) (rights m) ls rs is_left is_right i j d before within))
-
-        among : (xs ys : List ℕ) → ((n : ℕ) → Contains xs n → Contains ys n) → (row : ℕ) → list_any (nat_eq row) xs ≡ true → list_any (nat_eq row) ys ≡ true
-        among xs ys all row is = let found = found_by_any (nat_eq row) xs is in any_from_found (nat_eq row) ys found.0 (all found.0 found.1) found.2
-
-        same_test : (a b : Bool) → (a ≡ true → b ≡ true) → (b ≡ true → a ≡ true) → a ≡ b
-        same_test true b one other = sym (one refl)
-        same_test false true one other = other refl
-        same_test false false one other = refl

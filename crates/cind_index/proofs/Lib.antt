@@ -8,3 +8,4 @@ pub mod WatchFacts
 pub mod OrphanFacts
 pub mod OwnEntries
 pub mod CountFacts
+pub mod TotalFacts

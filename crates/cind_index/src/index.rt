@@ -6,10 +6,12 @@ ghost use Rattle.row_store.specs.Watch.{IsWide};
 ghost use Rattle.cfd_semantics.specs.Orphan.{SideEntry, left_entry_of};
 ghost use Rattle.cfd_semantics.specs.EntrySets.{IsOrphan, IsUnanswered};
 ghost use Rattle.cind_index.specs.KeysHeld.{lefts, rights, AreMarkedRight, HaveRoom};
+ghost use Rattle.cind_index.specs.Totals.{AreTotals};
 ghost use Rattle.cind_index.specs.Orphans.{AreOrphans, IsDirtyCount, IsOrphanCount};
 
 use crate::ids::{Ids, has_ids, write_ids};
 use crate::keys::Keys;
+use crate::totals::Totals;
 use cfd_semantics::{Inclusion, InclusionRow};
 use hash_keys::HashKeys;
 use marked_map::MarkedMap;
@@ -29,15 +31,18 @@ pub struct CindIndex {
     pub(crate) right: usize,
     pub(crate) rule: Inclusion<ValueId>,
     pub(crate) keys: Keys,
+    pub(crate) totals: Totals,
     // Room for one key and for pattern values, so that an entry is taken away without memory.
     pub(crate) key: Ids,
     pub(crate) pattern: Ids,
     ghost marks: { AreMarkedRight rule.rows keys },
+    ghost counted: { AreTotals rule.rows keys totals },
     ghost room: { 0 < length keys.pairs → HaveRoom rule key pattern },
 }
 
 impl CindIndex {
-    /// An index without entries, which takes no memory yet. Its keys are looked up by a hash with `hash_keys`.
+    /// An index without entries. It takes memory for its totals alone, and does without them where that is refused. Its keys
+    /// are looked up by a hash with `hash_keys`.
     pub fn new(
         alloc: Global,
         hash_keys: HashKeys,
@@ -51,10 +56,12 @@ impl CindIndex {
         ensures no_left { (entry : SideEntry ℕ) → lefts result.keys entry ≡ false }
         ensures no_right { (entry : SideEntry ℕ) → rights result.keys entry ≡ false }
     {
+        let totals = Totals::new(alloc, rule.rows.as_slice().len());
         CindIndex {
             left,
             right,
             rule,
+            totals,
             keys: MarkedMap::with_hasher(alloc, hash_keys),
             key: Ids::new(alloc),
             pattern: Ids::new(alloc),
@@ -112,13 +119,26 @@ impl CindIndex {
         Ok(found)
     }
 
-    /// How many orphans a row of the tableau has, without the list of them. Each dirty key counts as a probe, and its rows
-    /// aren't gone over. A number beyond the last of its type is told as want of memory.
+    /// How many orphans a row of the tableau has, without the list of them. A tableau of few rows has its numbers kept as
+    /// running totals, and no key is looked at. Else each dirty key is gone over and counts as a probe, though its rows
+    /// aren't, and a number beyond the last of its type is told as want of memory.
     pub fn orphan_count<L: Ledger>(
         &self,
         k: usize,
         steps: &mut Steps<L>,
     ) -> Result<usize, AllocError>
+        requires { k < length self.now.rule.rows }
+        ensures count { IfOk result (λ count. ForSome (slice_get self.now.rule.rows k) (IsOrphanCount (lefts self.now.keys) (rights self.now.keys) count)) }
+        ensures probes { steps.new ≤ steps.old + self.now.keys.marked }
+    {
+        match self.totals.of_row(k) {
+            Some(count) => Ok(count),
+            None => self.walk_count(k, steps),
+        }
+    }
+
+    // How many orphans a row of the tableau has, by all dirty keys.
+    fn walk_count<L: Ledger>(&self, k: usize, steps: &mut Steps<L>) -> Result<usize, AllocError>
         requires { k < length self.now.rule.rows }
         ensures count { IfOk result (λ count. ForSome (slice_get self.now.rule.rows k) (IsOrphanCount (lefts self.now.keys) (rights self.now.keys) count)) }
         ensures probes { steps.new ≤ steps.old + self.now.keys.marked }

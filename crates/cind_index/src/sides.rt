@@ -127,7 +127,16 @@ impl CindIndex {
         let key = Ids::from_slice(*self.key.allocator(), self.key.as_slice())?;
         let tableau = self.rule.rows.as_slice();
         let pattern = self.pattern.as_slice();
-        put_entry(&mut self.keys, tableau, side, key, pattern, row, steps)
+        put_entry(
+            &mut self.keys,
+            &mut self.totals,
+            tableau,
+            side,
+            key,
+            pattern,
+            row,
+            steps,
+        )
     }
 
     /// Takes back what was added on the left, by the place of its key.
@@ -141,7 +150,15 @@ impl CindIndex {
         write_ids(&mut self.pattern, tuple, self.rule.xp.as_slice());
         let tableau = self.rule.rows.as_slice();
         let pattern = self.pattern.as_slice();
-        take_at(&mut self.keys, tableau, place, Side::Left, pattern, row);
+        take_at(
+            &mut self.keys,
+            &mut self.totals,
+            tableau,
+            place,
+            Side::Left,
+            pattern,
+            row,
+        );
     }
 
     /// Takes away what a row gave for one side with its old tuple and doesn't give with the new one.
@@ -174,6 +191,7 @@ impl CindIndex {
         let pattern = self.pattern.as_slice();
         take_entry(
             &mut self.keys,
+            &mut self.totals,
             tableau,
             side,
             &self.key,

@@ -1,6 +1,6 @@
 use Rattle.std.proofs.Common.{◌+◌, ◌≤◌}
 use Rattle.cind_index.proofs.CountFacts.{CountsBelow}
-use Rattle.cind_index.proofs.index.CindIndex.orphan_count.Given as goal
+use Rattle.cind_index.proofs.index.CindIndex.walk_count.Given as goal
 
 -- how many stand under the keys that were passed
 abbrev pub invariant-loop-place : goal.invariant-loop-place
