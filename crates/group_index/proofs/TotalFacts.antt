@@ -1,9 +1,9 @@
 -- What a change of one group makes of the numbers of violations that are kept.
-use Rattle.std.proofs.Common.{◌≡◌, ◌≢◌, ℕ, zero, suc, ◌+◌, ◌-◌, ◌<◌, ◌≤◌, ◌⊎◌, Bool, true, false, cond, not, ◌&&◌, ◌||◌, List, [], ◌∷◌, ◌++◌, length, get_or, take, slice_get, swap, Option, Some, None, Result, Ok, Err, OnOk, OnErr, refl, sym, ap, ◌∙◌, subst, inl, inr, arith}
+use Rattle.std.proofs.Common.{◌≡◌, ◌≢◌, ℕ, zero, suc, ◌+◌, ◌-◌, ◌<◌, ◌≤◌, ◌⊎◌, Bool, true, false, cond, not, ◌&&◌, ◌||◌, List, [], ◌∷◌, ◌++◌, length, take, slice_get, swap, Option, Some, None, Result, Ok, Err, OnOk, OnErr, refl, sym, ap, ◌∙◌, subst, inl, inr, arith}
 use Rattle.std.specs.Prelude.{nat_eq, count_by, sum_by, filter, swap_remove, AllPairs, Contains, Vec}
 use Rattle.std.specs.Bool.{Decides}
 use Rattle.std.specs.Cmp.{IsEquivalence}
-use Rattle.std.specs.List.{list_any, IsDistinct, AllByRecursion}
+use Rattle.std.specs.List.{IsDistinct, AllByRecursion}
 use Rattle.std.specs.List.Sorted.{IsPermutation}
 use Rattle.std.specs.Map.{keys_of}
 use Rattle.std.proofs.lemmas.Bool.{cases_lt}
@@ -34,12 +34,16 @@ use Rattle.group_index.specs.declared.totals.Change.{Change}
 use Rattle.group_index.specs.Pairs.{Pair, pairs_of, is_pair, has_pair, is_mixed, IsSpread, IsPut, IsTaken, IsAlone, HaveTheSame}
 use Rattle.group_index.specs.Groups.{KeyedGroup, KeyedGroups, is_in}
 use Rattle.group_index.specs.Leads.{CountsListed, CountsMatching, AreSoMany}
-use Rattle.group_index.specs.Totals.{is_set, listed_among, tally, total, IsOnce, AreTotals, AreTotalsOf, IsKeptFor, IsExtent, HasExtentAt, are_several, DifferAtMostBy, part, part_at, AreChangedOrGone}
+use Rattle.group_index.specs.Totals.{is_set, listed_among, tally, total, IsOnce, AreTotals, AreTotalsOf, IsKeptFor, IsExtent, HasExtentAt, are_several, part, part_at, AreChangedOrGone}
 use Rattle.group_index.proofs.GroupFacts.{same_key, set_value_at, key_at, no_key, stands_at, clash, isnt}
 use Rattle.group_index.proofs.PairFacts.{is_pair_flip, same_pair}
 use Rattle.group_index.proofs.CountFacts.{none_mixed, alike_unmixed, several_mixed, counts_mixed, counts_others, CountedSoFar, none_counted, counted_more, counted}
 use Rattle.group_index.proofs.CollectFacts.{contains_either}
 use Rattle.group_index.proofs.TestCounts.{counted_sides}
+
+-- no pair but this one came or went
+abbrev pub DifferAtMostBy : Pair → List Pair → List Pair → Type 0
+DifferAtMostBy p old new = (q : Pair) → is_pair q p ≡ false → has_pair new q ≡ has_pair old q
 
 -- ---- a test that the pair which comes or goes doesn't pass
 
@@ -200,8 +204,8 @@ module _ (rows : List (TableauRow ℕ)) (change : Change) (row : ℕ) (pairs : L
   pub followed_set : IsExtent (pairs_of w) change.after → DifferAtMostBy (change.a, row) (pairs_of v) (pairs_of w)
       → (before after : Option (Vec ℕ Global)) → AreChangedOrGone rows x change before after → AreTotals rows pairs before → AreTotals rows (set_value_at pairs place w) after
   followed_set is_new differ = followed rows x change row (pairs_of v) (pairs_of w) is_old is_new differ pairs (set_value_at pairs place w)
-    (λ t. subst (λ y. total t (set_value_at pairs place w) + tally t y (pairs_of v) ≡ total t pairs + tally t y (pairs_of w)) own (sum_by-set (counts_at t) pairs place key v w at))
-    (λ at_it inside. elim (contains_set pairs place key v w at at_it inside) [ inl is ↦ inl (subst IsOnce is is_new.once) | inr there ↦ inr there ])
+      (λ t. subst (λ y. total t (set_value_at pairs place w) + tally t y (pairs_of v) ≡ total t pairs + tally t y (pairs_of w)) own (sum_by-set (counts_at t) pairs place key v w at))
+      (λ at_it inside. elim (contains_set pairs place key v w at at_it inside) [ inl is ↦ inl (subst IsOnce is is_new.once) | inr there ↦ inr there ])
 
   -- the group is taken away, whatever its last pairs
   pub followed_removed : (left : List KeyedGroup) → ((t : TableauRow ℕ) → sum_by (counts_at t) left + counts_at t (key, w) ≡ sum_by (counts_at t) (set_value_at pairs place w)) → ((it : KeyedGroup) → Contains left it → Contains pairs it)

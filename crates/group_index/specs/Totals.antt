@@ -11,7 +11,7 @@ use Rattle.group_index.specs.declared.spread.Spread.{Spread}
 use Rattle.group_index.specs.declared.spread.Spread.TheVariants.{Nothing, Alike, Mixed}
 use Rattle.group_index.specs.declared.totals.Extent.{Extent}
 use Rattle.group_index.specs.declared.totals.Change.{Change}
-use Rattle.group_index.specs.Pairs.{Pair, pairs_of, is_pair, has_pair, is_mixed, IsSpread}
+use Rattle.group_index.specs.Pairs.{Pair, pairs_of, is_mixed, IsSpread}
 
 -- the cell is a set, for whose rows no number is kept
 abbrev pub is_set : Pattern ℕ → Bool
@@ -71,12 +71,8 @@ are_several Nothing = false
 are_several (Alike a) = false
 are_several Mixed = true
 
--- no pair but this one came or went
-abbrev pub DifferAtMostBy : Pair → List Pair → List Pair → Type 0
-DifferAtMostBy p old new = (q : Pair) → is_pair q p ≡ false → has_pair new q ≡ has_pair old q
-
--- The part of a group that a pair with the A id can change the number by: all pairs where they are listed as it is, and none
--- where it isn't listed itself.
+-- What a group counts for as far as a pair with the A id can change that: for `_` what it counts for, for a constant all its
+-- pairs where that pair has another A id, and none where it has that one.
 abbrev pub part : Pattern ℕ → ℕ → Extent → ℕ
 part Any a extent = cond (are_several extent.spread) extent.rows 0
 part (Is constant) a extent = cond (nat_eq a constant) 0 extent.rows
@@ -86,7 +82,7 @@ part (NotIn members) a extent = 0
 abbrev pub part_at : TableauRow ℕ → List ℕ → ℕ → Extent → ℕ
 part_at t x a extent = cond (all_match nat_eq t.x x) (part t.a a extent) 0
 
--- the number once a group with the key changed
+-- the number of the tableau row once a group with the key changed
 abbrev pub count_after : TableauRow ℕ → List ℕ → Change → ℕ → ℕ
 count_after t x change count = (count + part_at t x change.a change.after) - part_at t x change.a change.before
 
@@ -94,7 +90,7 @@ count_after t x change count = (count + part_at t x change.a change.after) - par
 abbrev pub AreChanged : List (TableauRow ℕ) → List ℕ → Change → List ℕ → List ℕ → Type 0
 AreChanged rows x change old new = (k : ℕ) (t : TableauRow ℕ) (count : ℕ) → slice_get rows k ≡ Some t → slice_get old k ≡ Some count → slice_get new k ≡ Some (count_after t x change count)
 
--- where they are kept still
+-- the same as long as they are kept
 abbrev pub AreChangedOrGone : List (TableauRow ℕ) → List ℕ → Change → Option (Vec ℕ Global) → Option (Vec ℕ Global) → Type 0
 AreChangedOrGone rows x change old None = Unit {0}
 AreChangedOrGone rows x change None (Some new) = ⊥

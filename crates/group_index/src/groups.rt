@@ -75,7 +75,11 @@ fn put_at(
     let before = extent_at(groups, place);
     let put = groups.value_at_mut(place).put(alloc, a, row);
     let after = extent_at(groups, place);
-    totals.follow(rows.as_slice(), groups.key_at(place).as_slice(), Change { a, before, after });
+    totals.follow(
+        rows.as_slice(),
+        groups.key_at(place).as_slice(),
+        Change { a, before, after },
+    );
     settle_again(groups, rows, place, before, after);
     put
 }
@@ -160,13 +164,7 @@ fn settle(groups: &mut Groups, rows: &Tableau, place: usize)
 
 // The same for a group that was marked rightly as long as its A ids were spread like that: no tableau row is looked at where
 // they still are.
-fn settle_again(
-    groups: &mut Groups,
-    rows: &Tableau,
-    place: usize,
-    before: Extent,
-    after: Extent,
-)
+fn settle_again(groups: &mut Groups, rows: &Tableau, place: usize, before: Extent, after: Extent)
     requires within { place < length groups.old.pairs }
     requires others { AreMarkedBut rows.now groups.old place }
     requires mark { IsMarkedBy rows.now groups.old place before.spread }

@@ -1,7 +1,7 @@
 //! How many violations each tableau row has, kept as rows come into the groups and go.
 //!
-//! A pair that comes or goes changes the numbers by what the size of its group and the A ids there tell, so no pair of the
-//! group is looked at. That is so where the right cell is `_` or a constant; for a set nothing is kept.
+//! A row that comes or goes changes the numbers by what the size of its group and the spread of the A ids there tell, so the
+//! other rows of the group aren't gone over. That is so where the right cell is `_` or a constant; for a set nothing is kept.
 ghost use Rattle.std.specs.Prelude.{◌≡◌, [], IfSome};
 ghost use Rattle.group_index.specs.Pairs.{pairs_of};
 ghost use Rattle.group_index.specs.Totals.{AreChanged, AreChangedOrGone, AreTotals, IsExtent, IsKeptFor, count_after, part};
@@ -50,6 +50,19 @@ pub(crate) struct Change {
     pub(crate) a: ValueId,
     pub(crate) before: Extent,
     pub(crate) after: Extent,
+}
+
+impl Change {
+    // The number of a tableau row once a group with this key changed.
+    fn count_after(self, row: &IdRow, x: &[ValueId], count: usize) -> Option<usize>
+        ensures { IfSome result (λ new. new ≡ count_after row.now x.now self count) }
+    {
+        if !matches_all(row.x.as_slice(), x) {
+            return Some(count);
+        }
+        let more = count.checked_add(part(&row.a, self.a, self.after))?;
+        more.checked_sub(part(&row.a, self.a, self.before))
+    }
 }
 
 /// How many violations each tableau row has. None where the tableau has many rows, so that a change costs a look at a few at
@@ -107,21 +120,9 @@ fn changed(
     Some(counts)
 }
 
-impl Change {
-    // The number of a tableau row once a group with this key changed.
-    fn count_after(self, row: &IdRow, x: &[ValueId], count: usize) -> Option<usize>
-        ensures { IfSome result (λ new. new ≡ count_after row.now x.now self count) }
-    {
-        if !matches_all(row.x.as_slice(), x) {
-            return Some(count);
-        }
-        let more = count.checked_add(part(&row.a, self.a, self.after))?;
-        more.checked_sub(part(&row.a, self.a, self.before))
-    }
-}
-
-// How many rows of the group are listed beside one with this A id, as far as such a row can change their number: where the
-// cell is a constant, those with that A id aren't listed, and the others are whatever comes beside them.
+// How many rows of a group are listed, as far as a row with this A id that comes or goes can change that. Where the cell is
+// `_`, all are or none is. Where it is a constant, a row that has it is never listed, and others always are: so the number of
+// all rows tells by how much that of the listed ones changes.
 fn part(cell: &IdCell, a: ValueId, extent: Extent) -> usize
     ensures { result ≡ part cell.now a extent }
 {
@@ -133,13 +134,7 @@ fn part(cell: &IdCell, a: ValueId, extent: Extent) -> usize
                 0
             }
         }
-        Pattern::Is(constant) => {
-            if a == *constant {
-                0
-            } else {
-                extent.rows
-            }
-        }
+        Pattern::Is(constant) => { if a == *constant { 0 } else { extent.rows } }
         Pattern::In(_) | Pattern::NotIn(_) => 0,
     }
 }

@@ -1,7 +1,6 @@
-use Rattle.std.proofs.Common.{subst, sym, ap, ◌∙◌}
+use Rattle.std.proofs.Common.{subst, sym, ◌∙◌}
 use Rattle.std.proofs.lemmas.Option.{same_Some}
 use Rattle.group_index.specs.declared.group.Group.{Group}
-use Rattle.group_index.specs.Groups.{KeyedGroup}
 use Rattle.group_index.specs.Pairs.{pairs_of}
 use Rattle.group_index.specs.Totals.{IsExtent}
 use Rattle.group_index.proofs.GroupFacts.{value_at}

@@ -6,7 +6,7 @@ use Rattle.group_index.specs.Groups.{KeyedGroup}
 use Rattle.group_index.specs.Pairs.{pairs_of, IsTaken}
 use Rattle.group_index.specs.Totals.{AreChangedOrGone}
 use Rattle.group_index.proofs.AnswerFacts.{kept_answer}
-use Rattle.group_index.proofs.GroupFacts.{set_value_at, set_here, equal_ids, pair_at, value_stands, set_as_long, content_taken}
+use Rattle.group_index.proofs.GroupFacts.{set_value_at, set_here, equal_ids, pair_at, set_as_long, content_taken}
 use Rattle.group_index.proofs.MarkFacts.{marked_but_written}
 use Rattle.group_index.proofs.RemovedFacts.{content_absent, content_removed, marked_removed, left_was_there}
 use Rattle.group_index.proofs.SpreadFacts.{marked_as_before}
