@@ -50,7 +50,7 @@ contains_right : {X : Type 0} (xs ys : List X) (x : X) → Contains ys x → Con
 contains_right [] ys x inside = inside
 contains_right (z ∷ zs) ys x inside = contains-there x z (zs ++ ys) (contains_right zs ys x inside)
 
-contains_either : {X : Type 0} (xs ys : List X) (x : X) → Contains (xs ++ ys) x → Contains xs x ⊎ Contains ys x
+pub contains_either : {X : Type 0} (xs ys : List X) (x : X) → Contains (xs ++ ys) x → Contains xs x ⊎ Contains ys x
 contains_either [] ys x inside = inr inside
 contains_either (z ∷ zs) ys x inside = elim (contains_cases x z (zs ++ ys) inside) [
   | inl is ↦ inl (subst (Contains (z ∷ zs)) is (contains-here z zs))
@@ -110,6 +110,16 @@ module _ (groups : KeyedGroups) (t : TableauRow ℕ) where
 
   longer : (count : ℕ) (w : Violation) → ListedAt count w → ListedAt (count + 1) w
   longer count w it = record { place = it.place; group = it.group; own = it.own; below = omega (arith, it.below); at = it.at; member = it.member; row = it.row; listed = it.listed }
+
+-- the dirty groups are among the first ones
+abbrev pub DirtyStandBelow : List (TableauRow ℕ) → KeyedGroups → ℕ → Type 0
+DirtyStandBelow rows groups count = (place : ℕ) (at : KeyedGroup) → slice_get groups.pairs place ≡ Some at → is_dirty_at rows at ≡ true → place < count
+
+pub marked_stand_below : (rows : List (TableauRow ℕ)) (groups : KeyedGroups) → AreMarked rows groups → DirtyStandBelow rows groups groups.marked
+marked_stand_below rows groups are place at stands dirty = elim (cases_lt place groups.marked) [
+  | inl below ↦ below
+  | inr past ↦ absurd (clash (is_dirty_at rows at) dirty (are.unmarked place at past stands))
+]
 
 module _ (groups : KeyedGroups) (distinct : HaveDistinctKeys same_key groups) (t : TableauRow ℕ) (settled : HasOneARow (λ (e : Entry ℕ). e.row) (is_in groups.pairs)) where
   -- two pairs with one row are one, in one group
@@ -211,10 +221,10 @@ module _ (groups : KeyedGroups) (distinct : HaveDistinctKeys same_key groups) (t
       listed_more (inl both) = listed_all both.0 both.1
       listed_more (inr both) = listed_none both.0 both.1
 
-  -- ---- all marked groups
+  -- ---- all groups that are dirty
 
-  pub collected : (rows : List (TableauRow ℕ)) (found : List Violation) → Contains rows t → AreMarked rows groups → ListedSoFar groups t groups.marked found → AreCollected t groups found
-  collected rows found inside are so_far = record {
+  pub collected : (rows : List (TableauRow ℕ)) (count : ℕ) (found : List Violation) → Contains rows t → DirtyStandBelow rows groups count → ListedSoFar groups t count found → AreCollected t groups found
+  collected rows count found inside dirty_below so_far = record {
     exactly = λ w. (
       (λ member. let it = so_far.from w member in (entry_in it.group.0 it.own, entry_of_pair groups it.place it.group.0 it.group.1 it.at it.own it.member, sym it.row, it.listed)),
       (λ (e, held, row, listed). so_far.all w (stands e held row listed)),
@@ -226,23 +236,20 @@ module _ (groups : KeyedGroups) (distinct : HaveDistinctKeys same_key groups) (t
       violates e held None is = (t, inside, single e (record { held = held; same = same_ids e.x e.x refl }) is)
       violates e held (Some row) least = (t, inside, pair e least.partner.0 (record { held = held; same = same_ids e.x e.x refl }) least.partner.1)
 
-      stands : {w : Violation} (e : Entry ℕ) → is_in groups.pairs e ≡ true → e.row ≡ w.row → IsListedWith nat_eq t (is_in groups.pairs) e w.partner → ListedAt groups t groups.marked w
+      stands : {w : Violation} (e : Entry ℕ) → is_in groups.pairs e ≡ true → e.row ≡ w.row → IsListedWith nat_eq t (is_in groups.pairs) e w.partner → ListedAt groups t count w
       stands {w} e held row listed =
           let it = place_from_dirty (any_with rows) groups distinct e.x (violates e held w.partner listed) in
           let same : ◌≡◌ {A = Entry ℕ} e (entry_in it.group.0 (e.a, e.row)) = λ k. record { x = sym it.key k; a = e.a; row = e.row } in
-          elim (cases_lt it.place groups.marked) [
-            | inr past ↦ absurd (clash (is_dirty_at rows it.group) it.dirty (are.unmarked it.place it.group past it.at))
-            | inl below ↦ record {
-              place = it.place;
-              group = it.group;
-              own = (e.a, e.row);
-              below = below;
-              at = it.at;
-              member = pair_of_entry groups it.place it.group.0 it.group.1 it.at distinct e it.key held;
-              row = sym row;
-              listed = subst (λ f. IsListedWith nat_eq t (is_in groups.pairs) f w.partner) same listed;
-            }
-          ]
+          record {
+            place = it.place;
+            group = it.group;
+            own = (e.a, e.row);
+            below = dirty_below it.place it.group it.at it.dirty;
+            at = it.at;
+            member = pair_of_entry groups it.place it.group.0 it.group.1 it.at distinct e it.key held;
+            row = sym row;
+            listed = subst (λ f. IsListedWith nat_eq t (is_in groups.pairs) f w.partner) same listed;
+          }
 
 -- ---- in order
 

@@ -25,7 +25,7 @@ use Rattle.group_index.specs.declared.group.Group.{Group}
 use Rattle.group_index.specs.declared.spread.Spread.{Spread}
 use Rattle.group_index.specs.declared.spread.Spread.TheVariants.{Nothing, Alike, Mixed}
 use Rattle.group_index.specs.Pairs.{Pair, pairs_of, is_mixed, IsSpread}
-use Rattle.group_index.specs.Groups.{KeyedGroups, is_in, AreMarked}
+use Rattle.group_index.specs.Groups.{KeyedGroups, is_in}
 use Rattle.group_index.specs.Leads.{AreLeads, IsAmong, IsLeastOther, CountsListed, CountsMatching, AreSoMany, listed_by, partner_by}
 use Rattle.group_index.proofs.GroupFacts.{same_key, clash}
 use Rattle.group_index.proofs.PairFacts.{none_pass}
@@ -33,7 +33,7 @@ use Rattle.group_index.proofs.SpreadFacts.{unmixed}
 use Rattle.group_index.proofs.LeadFacts.{partner_of_leads}
 use Rattle.group_index.proofs.ListedFacts.{with_partner}
 use Rattle.group_index.proofs.TestCounts.{counted_same, counted_all, counted_none, length-given}
-use Rattle.group_index.proofs.CollectFacts.{ListedSoFar, nothing_listed, listed_more, collected, get_row, as_many_rows}
+use Rattle.group_index.proofs.CollectFacts.{ListedSoFar, nothing_listed, listed_more, DirtyStandBelow, collected, get_row, as_many_rows}
 
 -- ---- every group has leads
 
@@ -259,11 +259,11 @@ counted_more groups distinct t settled place key v at count more so_far (inr (un
   as_many = let before = so_far.as_many in omega (arith, before, none);
 }
 
-pub counted : (groups : KeyedGroups) (distinct : HaveDistinctKeys same_key groups) (t : TableauRow ℕ) (settled : HasOneARow (λ (e : Entry ℕ). e.row) (is_in groups.pairs)) (rows : List (TableauRow ℕ)) (count : ℕ)
-    → Contains rows t → AreMarked rows groups → CountedSoFar groups t groups.marked count → AreSoMany t groups count
-counted groups distinct t settled rows count inside are so_far = record {
+pub counted : (groups : KeyedGroups) (distinct : HaveDistinctKeys same_key groups) (t : TableauRow ℕ) (settled : HasOneARow (λ (e : Entry ℕ). e.row) (is_in groups.pairs)) (rows : List (TableauRow ℕ)) (last count : ℕ)
+    → Contains rows t → DirtyStandBelow rows groups last → CountedSoFar groups t last count → AreSoMany t groups count
+counted groups distinct t settled rows last count inside dirty_below so_far = record {
   found = so_far.found;
-  collected = collected groups distinct t settled rows so_far.found inside are so_far.listed;
+  collected = collected groups distinct t settled rows last so_far.found inside dirty_below so_far.listed;
   as_many = so_far.as_many;
 }
 

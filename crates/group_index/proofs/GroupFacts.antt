@@ -118,6 +118,12 @@ is_in_from (g ∷ gs) e (suc place) group at holds =
 abbrev pub set_value_at : {K V : Type 0} → List (K × V) → ℕ → V → List (K × V)
 set_value_at ps i w = (with_value (record { pairs = ps; marked = 0 }) i w).pairs
 
+-- at each place something stands
+pub stands_at : {X : Type 0} (xs : List X) (i : ℕ) → i < length xs → (x : X) × (slice_get xs i ≡ Some x)
+stands_at [] i within = absurd (omega arith)
+stands_at (x ∷ xs) zero within = (x, refl)
+stands_at (x ∷ xs) (suc i) within = stands_at xs i (omega arith)
+
 module _ {K V : Type 0} where
   pub pair_at : (ps : List (K × V)) (i : ℕ) (k : K) (v : V) → slice_get (keys_of ps) i ≡ Some k → slice_get (values_of ps) i ≡ Some v → slice_get ps i ≡ Some (k, v)
   pair_at [] i k v key value = absurd (none-some k key)
@@ -139,6 +145,11 @@ module _ {K V : Type 0} where
   key_at [] i p at = absurd (none-some p at)
   key_at (q ∷ qs) zero p at = ap (λ (r : K × V). Some r.0) (same_Some q p at)
   key_at (q ∷ qs) (suc i) p at = key_at qs i p at
+
+  pub value_at : (ps : List (K × V)) (i : ℕ) (p : K × V) → slice_get ps i ≡ Some p → slice_get (values_of ps) i ≡ Some p.1
+  value_at [] i p at = absurd (none-some p at)
+  value_at (q ∷ qs) zero p at = ap (λ (r : K × V). Some r.1) (same_Some q p at)
+  value_at (q ∷ qs) (suc i) p at = value_at qs i p at
 
   pub set_here : (ps : List (K × V)) (i : ℕ) (k : K) (v w : V) → slice_get ps i ≡ Some (k, v) → slice_get (set_value_at ps i w) i ≡ Some (k, w)
   set_here [] i k v w at = absurd (none-some (k, v) at)

@@ -14,5 +14,6 @@ pub mod DirtyPlaces
 pub mod CollectFacts
 pub mod CountFacts
 pub mod TestCounts
+pub mod TotalFacts
 pub mod OwnEntries
 pub mod TableauFacts

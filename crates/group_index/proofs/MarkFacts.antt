@@ -1,7 +1,9 @@
 -- The marked groups are the dirty ones: what a change of one group, a mark and a removal leave of that.
-use Rattle.std.proofs.Common.{◌≡◌, ◌≢◌, ℕ, ◌-◌, ◌<◌, ◌≤◌, true, false, List, length, slice_get, swap, Some, sym, ap, ◌∙◌, subst, inl, inr, arith}
+use Rattle.std.proofs.Common.{◌≡◌, ◌≢◌, ℕ, ◌-◌, ◌<◌, ◌≤◌, true, false, List, length, slice_get, swap, Some, refl, sym, ap, ◌∙◌, subst, inl, inr, arith}
 use Rattle.std.proofs.lemmas.Bool.{cases_lt, cases_eq}
 use Rattle.std.proofs.lemmas.Option.{same_Some, slice_get_within}
+use Rattle.std.specs.List.Sorted.{IsPermutation}
+use Rattle.std.proofs.lemmas.List.Sorted.{IsPermutation-refl, IsPermutation-swap}
 use Rattle.marked_map.specs.MarkedMap.{with_mark, without_mark}
 use Rattle.marked_map.proofs.MarkedMapLemmas.{slice_get-swap_to, slice_get-swap_from, slice_get-swap_else}
 use Rattle.cfd_semantics.specs.declared.dependency.TableauRow.{TableauRow}
@@ -120,4 +122,20 @@ pub content_unmarked : (old new : KeyedGroups) (place : ℕ) → place < length 
 content_unmarked old new place within already unmarks fits e = elim (cases_lt place old.marked) [
   | inr high ↦ ap (λ (m : KeyedGroups). is_in m.pairs e) (already high)
   | inl low ↦ ap (λ (m : KeyedGroups). is_in m.pairs e) (unmarks low) ∙ content_swapped old.pairs place (old.marked - 1) within (omega (arith, low, fits low)) e
+]
+
+-- ---- and groups only change places
+
+pub moved_marked : (old new : KeyedGroups) (place : ℕ) → place < length old.pairs → (place < old.marked → new ≡ old) → (old.marked ≤ place → new ≡ with_mark old place) → IsPermutation old.pairs new.pairs
+moved_marked old new place within already marks = elim (cases_lt place old.marked) [
+  | inl low ↦ subst (λ (m : KeyedGroups). IsPermutation old.pairs m.pairs) (sym (already low)) (IsPermutation-refl old.pairs)
+  | inr high ↦ subst (λ (m : KeyedGroups). IsPermutation old.pairs m.pairs) (sym (marks high)) (IsPermutation-swap old.pairs (swap old.pairs place old.marked) place old.marked within (omega (arith, within, high)) refl)
+]
+
+pub moved_unmarked : (old new : KeyedGroups) (place : ℕ) → place < length old.pairs → (old.marked ≤ place → new ≡ old) → (place < old.marked → new ≡ without_mark old place) → (place < old.marked → old.marked ≤ length old.pairs) → IsPermutation old.pairs new.pairs
+moved_unmarked old new place within already unmarks fits = elim (cases_lt place old.marked) [
+  | inr high ↦ subst (λ (m : KeyedGroups). IsPermutation old.pairs m.pairs) (sym (already high)) (IsPermutation-refl old.pairs)
+  | inl low ↦
+      subst (λ (m : KeyedGroups). IsPermutation old.pairs m.pairs) (sym (unmarks low))
+      (IsPermutation-swap old.pairs (swap old.pairs place (old.marked - 1)) place (old.marked - 1) within (omega (arith, low, fits low)) refl)
 ]

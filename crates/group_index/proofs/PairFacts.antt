@@ -83,7 +83,7 @@ taken_when false P it = it
 pub has_from : (pairs : List Pair) (p : Pair) → Contains pairs p → has_pair pairs p ≡ true
 has_from pairs p inside = any_from_found (is_pair p) pairs p inside (grind (arith, nat_tests))
 
-same_pair : (p q : Pair) → is_pair p q ≡ true → q ≡ p
+pub same_pair : (p q : Pair) → is_pair p q ≡ true → q ≡ p
 same_pair p q is = let one : q.0 ≡ p.0 = grind (arith, nat_tests, is) in let other : q.1 ≡ p.1 = grind (arith, nat_tests, is) in λ i. (one i, other i)
 
 pub member_from : (pairs : List Pair) (p : Pair) → has_pair pairs p ≡ true → Contains pairs p

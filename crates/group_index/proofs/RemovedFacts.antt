@@ -1,8 +1,9 @@
 -- A group whose last pair is taken goes with its key.
 use Rattle.std.proofs.Common.{◌≡◌, ◌≢◌, ℕ, Bool, true, false, not, ◌&&◌, List, slice_get, Some, refl, sym, ap, ◌∙◌, inl, inr}
+use Rattle.std.specs.Prelude.{Contains}
 use Rattle.std.specs.Str.{bytes_eq}
 use Rattle.std.proofs.lemmas.Bool.{cases_lt, cases_eq}
-use Rattle.std.proofs.lemmas.Option.{same_Some}
+use Rattle.std.proofs.lemmas.Option.{same_Some, slice_get-get_or, slice_get_within, get_or_from_slice_get}
 use Rattle.smallvec.specs.SmallVec.{SmallVec}
 use Rattle.marked_map.specs.MarkedMap.{IsAbsent, HaveDistinctKeys, KeepsOthers}
 use Rattle.cfd_semantics.specs.declared.dependency.TableauRow.{TableauRow}
@@ -60,6 +61,11 @@ module _ (old new : KeyedGroups) (place : ℕ) (key : SmallVec ℕ) (v w : Group
     | inl below ↦ let was = (others.marked g (left_is_other i g stands)).1 (i, below, stands) in record { before = was.0; apart = away i was.0 g stands was.2; stood = was_there i was.0 g stands was.2 }
     | inr past ↦ let was = (others.unmarked g (left_is_other i g stands)).1 (i, past, stands) in record { before = was.0; apart = away i was.0 g stands was.2; stood = was_there i was.0 g stands was.2 }
   ]
+
+  pub left_was_there : (g : KeyedGroup) → Contains new.pairs g → Contains old.pairs g
+  left_was_there g (i, within, is) =
+      let was = stood i g (slice_get-get_or new.pairs i g within ∙ ap Some is) in
+      (was.before, slice_get_within old.pairs was.before g was.stood, get_or_from_slice_get old.pairs was.before g g was.stood)
 
   -- another group is still there
   still : (j : ℕ) (g : KeyedGroup) → j ≢ place → slice_get old.pairs j ≡ Some g → (i : ℕ) × (slice_get new.pairs i ≡ Some g)

@@ -33,6 +33,20 @@ pub counted_none : {X : Type 0} (xs : List X) → count_by (λ x. false) xs ≡ 
 counted_none [] = refl
 counted_none (x ∷ xs) = let first = counted-cons (λ y. false) x xs in let rest = counted_none xs in omega (arith, first, rest)
 
+-- those that don't pass a test, and those that do
+pub counted_sides : {X : Type 0} (test : X → Bool) (xs : List X) → count_by (λ x. not (test x)) xs + count_by test xs ≡ length xs
+counted_sides test [] = refl
+counted_sides test (x ∷ xs) =
+    let out = counted-cons (λ y. not (test y)) x xs in
+    let is = counted-cons test x xs in
+    let rest = counted_sides test xs in
+    let one = either (test x) in
+    omega (arith, out, is, rest, one)
+  where
+    either : (b : Bool) → one_if (not b) + one_if b ≡ 1
+    either true = refl
+    either false = refl
+
 -- what is given of the items is as long as there are items that give something
 pub length-given : {X Y : Type 0} (h : X → Option Y) (xs : List X) → length (filter_map h xs) ≡ count_by (λ x. is_some (h x)) xs
 length-given h [] = refl

@@ -7,9 +7,11 @@ use Rattle.cfd_semantics.specs.declared.dependency.TableauRow.{TableauRow}
 use Rattle.cfd_semantics.specs.Violation.{Entry}
 use Rattle.group_index.specs.declared.group.Group.{Group}
 use Rattle.group_index.specs.declared.spread.Spread.{Spread}
+use Rattle.group_index.specs.declared.totals.Totals.{Totals}
 use Rattle.group_index.specs.GroupSet.{GroupsMade, GroupSet, is_entry}
 use Rattle.group_index.specs.Answers.{IsPartnerOf}
 use Rattle.group_index.specs.Pairs.{Pair, pairs_of, is_dirty, IsSpread}
+use Rattle.group_index.specs.Totals.{AreTotals}
 
 -- a key with its group, and all of them
 abbrev pub KeyedGroup : Type 0
@@ -50,9 +52,10 @@ pub record AreMarked (rows : List (TableauRow ℕ)) (groups : KeyedGroups) : Typ
   pub marked : (place : ℕ) (at : KeyedGroup) → place < groups.marked → slice_get groups.pairs place ≡ Some at → IsTrue (is_dirty_at rows at)
   pub unmarked : (place : ℕ) (at : KeyedGroup) → groups.marked ≤ place → slice_get groups.pairs place ≡ Some at → is_dirty_at rows at ≡ false
 
--- what an index keeps true of its parts: its marks, and that it has room for a key once there are groups
-pub record IsGroupIndex (rows : List (TableauRow ℕ)) (x : List ℕ) (groups : KeyedGroups) (key : SmallVec ℕ) : Type 0 where
+-- what an index keeps true of its parts: its marks, its totals, and that it has room for a key once there are groups
+pub record IsGroupIndex (rows : List (TableauRow ℕ)) (x : List ℕ) (groups : KeyedGroups) (kept : Totals) (key : SmallVec ℕ) : Type 0 where
   pub marks : AreMarked rows groups
+  pub totals : AreTotals rows groups.pairs kept.counts
   pub room : 0 < length groups.pairs → length x ≤ key.capacity
 
 -- the same of all groups but the one at a place

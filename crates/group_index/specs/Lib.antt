@@ -2,6 +2,7 @@ pub mod GroupSet
 pub mod Answers
 pub mod Pairs
 pub mod Keys
+pub mod Totals
 pub mod Groups
 pub mod Leads
 pub mod Laws

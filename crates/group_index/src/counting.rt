@@ -1,6 +1,6 @@
-//! How many violations a tableau row has, group by group and without a list of them. Where the right cell is `_`, all rows of
-//! a group have partners or none has, so that a group is counted whole; where it is a constant, only the rows with another
-//! A id are gone over; where it is a set, all rows are.
+//! How many violations a tableau row has, group by group and without a list of them: for rows of which no total is kept.
+//! Where the right cell is `_`, all rows of a group have partners or none has, so that a group is counted whole; where it is a
+//! constant, only the rows with another A id are gone over; where it is a set, all rows are.
 ghost use Rattle.std.specs.Prelude.{◌≡◌, ◌≢◌, ◌+◌, ◌<◌, ◌≤◌, ℕ, if◌then◌else◌, is_some, length, count_by, slice_get, AllPairs, IfOk};
 ghost use Rattle.cfd_semantics.specs.declared.dependency.TableauRow.{TableauRow};
 ghost use Rattle.cfd_semantics.specs.EntrySets.{HasOneARow};

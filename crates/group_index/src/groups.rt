@@ -1,5 +1,7 @@
 //! The groups by their keys, with the dirty ones marked.
 ghost use Rattle.std.specs.Prelude.{◌≡◌, ◌+◌, ◌<◌, ◌≤◌, ℕ, List, length, OnOk, OnErr};
+ghost use Rattle.std.specs.List.Sorted.{IsPermutation};
+ghost use Rattle.group_index.specs.Totals.{AreTotals, HasExtentAt};
 ghost use Rattle.group_index.specs.Groups.{AreMarked, AreMarkedBut, IsMarkedBy, HasKeyAt, IsEntered, IsLeft, HoldTheSame, IsPartnerIn};
 
 use crate::group::Group;
@@ -8,6 +10,7 @@ use crate::key::{Key, matches_all};
 use crate::leads::Leads;
 use crate::spread::Spread;
 use crate::tableau::Tableau;
+use crate::totals::{Change, Extent, Totals};
 use marked_map::MarkedMap;
 use probe_steps::Steps;
 use row_store::RowId;
@@ -20,14 +23,17 @@ pub(crate) type Groups = MarkedMap<Key, Group>;
 /// Puts a row into the group of its key, in one probe.
 pub(crate) fn put_entry<L: Ledger>(
     groups: &mut Groups,
+    totals: &mut Totals,
     rows: &Tableau,
     key: Key,
     a: ValueId,
     row: RowId,
     steps: &mut Steps<L>,
 ) -> Result<(), AllocError>
-    requires { AreMarked rows.now groups.old }
+    requires marks { AreMarked rows.now groups.old }
+    requires totals { AreTotals rows.now groups.old.pairs totals.old.counts }
     ensures marks { AreMarked rows.now groups.new }
+    ensures totals { AreTotals rows.now groups.new.pairs totals.new.counts }
     ensures ok { OnOk result (IsEntered groups.old groups.new (record { x = key.items; a = a; row = row })) }
     ensures err { OnErr result (HoldTheSame groups.old groups.new) }
     ensures probes { steps.new ≡ steps.old + 1 }
@@ -36,15 +42,22 @@ pub(crate) fn put_entry<L: Ledger>(
     let before = groups.len();
     let place = groups.enter(key, Group::One(a, row), steps)?;
     if place == before {
+        let change = Change {
+            a,
+            before: Extent::nothing(),
+            after: extent_at(groups, place),
+        };
+        totals.follow(rows.as_slice(), groups.key_at(place).as_slice(), change);
         settle(groups, rows, place);
         return Ok(());
     }
-    put_at(groups, rows, place, alloc, a, row)
+    put_at(groups, totals, rows, place, alloc, a, row)
 }
 
 // Puts a row into the group at a place.
 fn put_at(
     groups: &mut Groups,
+    totals: &mut Totals,
     rows: &Tableau,
     place: usize,
     alloc: Global,
@@ -53,36 +66,53 @@ fn put_at(
 ) -> Result<(), AllocError>
     requires within { place < length groups.old.pairs }
     requires marks { AreMarked rows.now groups.old }
+    requires totals { AreTotals rows.now groups.old.pairs totals.old.counts }
     ensures marks { AreMarked rows.now groups.new }
+    ensures totals { AreTotals rows.now groups.new.pairs totals.new.counts }
     ensures ok { OnOk result ((x : List ℕ) → HasKeyAt groups.old place x → IsEntered groups.old groups.new (record { x = x; a = a; row = row })) }
     ensures err { OnErr result (HoldTheSame groups.old groups.new) }
 {
-    let before = Spread::of(groups.value_at(place));
+    let before = extent_at(groups, place);
     let put = groups.value_at_mut(place).put(alloc, a, row);
-    settle_again(groups, rows, place, before);
+    let after = extent_at(groups, place);
+    totals.follow(
+        rows.as_slice(),
+        groups.key_at(place).as_slice(),
+        Change { a, before, after },
+    );
+    settle_again(groups, rows, place, before, after);
     put
 }
 
 /// Takes a row away from the group of its key, in one probe and without memory.
 pub(crate) fn take_entry<L: Ledger>(
     groups: &mut Groups,
+    totals: &mut Totals,
     rows: &Tableau,
     key: &Key,
     a: ValueId,
     row: RowId,
     steps: &mut Steps<L>,
 )
-    requires { AreMarked rows.now groups.old }
+    requires marks { AreMarked rows.now groups.old }
+    requires totals { AreTotals rows.now groups.old.pairs totals.old.counts }
     ensures marks { AreMarked rows.now groups.new }
+    ensures totals { AreTotals rows.now groups.new.pairs totals.new.counts }
     ensures left { IsLeft groups.old groups.new (record { x = key.now.items; a = a; row = row }) }
     ensures probes { steps.new ≡ steps.old + 1 }
 {
     if let Some(place) = groups.find(key, steps) {
-        let before = Spread::of(groups.value_at(place));
+        let before = extent_at(groups, place);
+        // The number of marked groups is what says that there are so many.
+        let _marked = groups.marked();
         if groups.value_at_mut(place).take(a, row) {
             groups.remove_at(place);
+            let after = Extent::nothing();
+            totals.follow(rows.as_slice(), key.as_slice(), Change { a, before, after });
         } else {
-            settle_again(groups, rows, place, before);
+            let after = extent_at(groups, place);
+            totals.follow(rows.as_slice(), key.as_slice(), Change { a, before, after });
+            settle_again(groups, rows, place, before, after);
         }
     }
 }
@@ -108,12 +138,21 @@ pub(crate) fn least_partner<L: Ledger>(
     Leads::of(groups.value_at(place), &row.a).partner_of(a)
 }
 
+// What the totals go by of the group at the place.
+fn extent_at(groups: &Groups, place: usize) -> Extent
+    requires { place < length groups.now.pairs }
+    ensures { HasExtentAt groups.now.pairs place result }
+{
+    Extent::of(groups.value_at(place))
+}
+
 // Marks the group at the place where it is dirty, and takes its mark off where it isn't.
 fn settle(groups: &mut Groups, rows: &Tableau, place: usize)
     requires within { place < length groups.old.pairs }
     requires others { AreMarkedBut rows.now groups.old place }
     ensures marks { AreMarked rows.now groups.new }
     ensures same { HoldTheSame groups.old groups.new }
+    ensures moved { IsPermutation groups.old.pairs groups.new.pairs }
 {
     let spread = Spread::of(groups.value_at(place));
     if spread.is_dirty(rows, groups.key_at(place).as_slice()) {
@@ -125,14 +164,16 @@ fn settle(groups: &mut Groups, rows: &Tableau, place: usize)
 
 // The same for a group that was marked rightly as long as its A ids were spread like that: no tableau row is looked at where
 // they still are.
-fn settle_again(groups: &mut Groups, rows: &Tableau, place: usize, before: Spread)
+fn settle_again(groups: &mut Groups, rows: &Tableau, place: usize, before: Extent, after: Extent)
     requires within { place < length groups.old.pairs }
     requires others { AreMarkedBut rows.now groups.old place }
-    requires mark { IsMarkedBy rows.now groups.old place before }
+    requires mark { IsMarkedBy rows.now groups.old place before.spread }
+    requires extent { HasExtentAt groups.old.pairs place after }
     ensures marks { AreMarked rows.now groups.new }
     ensures same { HoldTheSame groups.old groups.new }
+    ensures moved { IsPermutation groups.old.pairs groups.new.pairs }
 {
-    if Spread::of(groups.value_at(place)) != before {
+    if after.spread != before.spread {
         settle(groups, rows, place);
     }
 }

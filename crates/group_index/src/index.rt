@@ -11,6 +11,7 @@ use crate::counting::count;
 use crate::groups::{Groups, least_partner, put_entry, take_entry};
 use crate::key::{Key, make_room, same_entry, write_key};
 use crate::tableau::Tableau;
+use crate::totals::Totals;
 use crate::violations::collect;
 use cfd_semantics::{Pattern, TableauRow, Violation};
 use hash_keys::HashKeys;
@@ -38,6 +39,7 @@ pub struct GroupIndex {
     a: usize,
     tableau: Tableau,
     groups: Groups,
+    totals: Totals,
     // Room for the key of one group, so that a row is taken away without memory.
     key: Key,
 }
@@ -51,7 +53,7 @@ impl Model for GroupIndex {
 
     ghost view = { λ i. record { made = record { table = i.table; dependency = record { x = i.x; a = i.a; rows = i.tableau } }; entries = entries_in i.groups.pairs; dirty = i.groups.marked } };
 
-    ghost invariant = { λ i. IsGroupIndex i.tableau i.x i.groups i.key };
+    ghost invariant = { λ i. IsGroupIndex i.tableau i.x i.groups i.totals i.key };
 }
 
 impl GroupIndex {
@@ -66,11 +68,13 @@ impl GroupIndex {
     ) -> GroupIndex
         ensures { result ≡ record { made = record { table = table; dependency = record { x = x.items; a = a; rows = rows.items } }; entries = []; dirty = 0 } }
     {
+        let totals = Totals::new(alloc, rows.as_slice());
         GroupIndex {
             table,
             x: List::from(x),
             a,
             tableau: Tableau::new(alloc, rows),
+            totals,
             groups: MarkedMap::with_hasher(alloc, keys),
             key: SmallVec::new(alloc),
         }
@@ -112,9 +116,10 @@ impl GroupIndex {
         Ok(List::from(found))
     }
 
-    /// How many violations a tableau row has, without the list of them. Each dirty group counts as a probe. Its rows are
-    /// gone over only where the right cell is a set; where it is a constant, those with another A id are, and where it is
-    /// `_`, none is. A number beyond the last of its type is told as want of memory.
+    /// How many violations a tableau row has, without the list of them. That is kept as a running total, and answered at
+    /// once, where the tableau has few rows and the right cell is no set. Else each dirty group is gone over, and counts as a
+    /// probe. Its rows are looked at only where the right cell is a set; where it is a constant, those with another A id
+    /// are, and where it is `_`, none is. A number beyond the last of its type is told as want of memory.
     pub fn violation_count<L: Ledger>(
         &self,
         k: usize,
@@ -125,7 +130,13 @@ impl GroupIndex {
         ensures count { IfOk result (IsCountOfTheList self.now k) }
         ensures probes { steps.new ≤ steps.old + self.now.dirty }
     {
-        count(&self.groups, self.tableau.as_slice(), k, steps)
+        // The length is what says that the keys are distinct.
+        let _len = self.groups.len();
+        let rows = self.tableau.as_slice();
+        match self.totals.of_row(&rows[k], k) {
+            Some(count) => Ok(count),
+            None => count(&self.groups, rows, k, steps),
+        }
     }
 
     /// The least row with which a row makes a pair violation of a tableau row.
@@ -197,6 +208,7 @@ impl Watch for GroupIndex {
         write_key(&mut key, new, x);
         put_entry(
             &mut self.groups,
+            &mut self.totals,
             &self.tableau,
             key,
             new.as_slice()[a],
@@ -224,6 +236,7 @@ impl Watch for GroupIndex {
         write_key(&mut self.key, old, x);
         take_entry(
             &mut self.groups,
+            &mut self.totals,
             &self.tableau,
             &self.key,
             old.as_slice()[a],

@@ -5,6 +5,9 @@
 //! A change of a row costs a hash and a search in its group, which takes logarithmic time however many rows that has, and a
 //! look at each tableau row only where the group comes, or where its A ids become alike, mixed, or another one. The dirty
 //! groups are marked, and only they are gone through for the violations.
+//!
+//! How many violations a tableau row has is kept as a running total where the tableau has few rows and the row no set at its
+//! right, and is answered without a look at any group; else each dirty group is gone over.
 #![tactic(auto)]
 
 mod counting;
@@ -16,6 +19,7 @@ mod key;
 mod leads;
 mod spread;
 mod tableau;
+mod totals;
 mod violations;
 
 pub use index::{GroupIndex, IdCell, IdRow};

@@ -15,7 +15,7 @@ use text_lists::List;
 use value_pool::ValueId;
 
 /// A tableau of fewer rows is gone over as it is.
-const FEW: usize = 9;
+pub(crate) const FEW: usize = 9;
 
 /// The rows of a tableau.
 #[derive(Drop)]

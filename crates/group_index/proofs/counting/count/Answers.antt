@@ -4,6 +4,7 @@ use Rattle.cfd_semantics.specs.declared.dependency.TableauRow.{TableauRow}
 use Rattle.group_index.specs.Pairs.{pairs_of}
 use Rattle.group_index.specs.Leads.{CountsMatching}
 use Rattle.group_index.proofs.CountFacts.{CountedSoFar, none_counted, counted_more, counted}
+use Rattle.group_index.proofs.CollectFacts.{marked_stand_below}
 use Rattle.group_index.proofs.counting.count.Goals as goal
 
 pub loop-place-init : goal.loop-place-init
@@ -29,4 +30,4 @@ returns-clause-count g c t is =
     let last : c.loop-place.place ≡ c.args.groups.now.marked = omega (arith, c.loop-place-test.false, c.loop-place.auto.place-end, c.marked-place-end.ensures.marked) in
     let all : CountedSoFar c.args.groups.now t c.args.groups.now.marked c.loop-place.count =
     subst (λ (r : TableauRow _). CountedSoFar c.args.groups.now r c.args.groups.now.marked c.loop-place.count) same (subst (λ n. CountedSoFar c.args.groups.now row n c.loop-place.count) last c.loop-place.invariant.counted) in
-    counted c.args.groups.now c.len-len.ensures.distinct t c.requires.settled c.args.rows.now c.loop-place.count (c.args.k, c.requires.row, own) c.requires.marks all
+    counted c.args.groups.now c.len-len.ensures.distinct t c.requires.settled c.args.rows.now c.args.groups.now.marked c.loop-place.count (c.args.k, c.requires.row, own) (marked_stand_below c.args.rows.now c.args.groups.now c.requires.marks) all

@@ -1,7 +1,7 @@
 use Rattle.std.proofs.Common.{sym, ap, ◌∙◌, arith}
 use Rattle.group_index.specs.Pairs.{is_dirty, pairs_of}
 use Rattle.group_index.proofs.GroupFacts.{pair_at}
-use Rattle.group_index.proofs.MarkFacts.{marked_where_dirty, unmarked_where_clean, content_marked, content_unmarked}
+use Rattle.group_index.proofs.MarkFacts.{marked_where_dirty, unmarked_where_clean, content_marked, content_unmarked, moved_marked, moved_unmarked}
 use Rattle.group_index.proofs.groups.settle.Goals as goal
 
 pub returns-then-is_dirty-clause-marks : goal.returns-then-is_dirty-clause-marks
@@ -29,3 +29,13 @@ pub returns-else-is_dirty-clause-same : goal.returns-else-is_dirty-clause-same
 returns-else-is_dirty-clause-same c =
     let e = c.unmark_at.ensures in
     content_unmarked c.args.groups.now c.unmark_at.new.self c.args.place c.requires.within (λ high. (e.already high).1) (λ low. (e.unmarks low).1) (λ low. omega (arith, (e.unmarks low).0, e.within, e.len))
+
+pub returns-then-is_dirty-clause-moved : goal.returns-then-is_dirty-clause-moved
+returns-then-is_dirty-clause-moved c =
+    let e = c.mark_at.ensures in
+    moved_marked c.args.groups.now c.mark_at.new.self c.args.place c.requires.within (λ low. (e.already low).1) (λ high. (e.marks high).1)
+
+pub returns-else-is_dirty-clause-moved : goal.returns-else-is_dirty-clause-moved
+returns-else-is_dirty-clause-moved c =
+    let e = c.unmark_at.ensures in
+    moved_unmarked c.args.groups.now c.unmark_at.new.self c.args.place c.requires.within (λ high. (e.already high).1) (λ low. (e.unmarks low).1) (λ low. omega (arith, (e.unmarks low).0, e.within, e.len))

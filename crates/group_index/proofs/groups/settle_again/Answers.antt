@@ -1,10 +1,15 @@
 use Rattle.std.proofs.Common.{◌∙◌, sym, subst}
+use Rattle.std.proofs.lemmas.List.Sorted.{IsPermutation-refl}
 use Rattle.group_index.specs.Groups.{IsMarkedBy}
-use Rattle.group_index.proofs.GroupFacts.{value_stands}
+use Rattle.group_index.proofs.GroupFacts.{stands_at}
 use Rattle.group_index.proofs.SpreadFacts.{marked_by_spread, same_spread, unflip}
 use Rattle.group_index.proofs.groups.settle_again.Goals as goal
 
 pub returns-else-ne-clause-marks : goal.returns-else-ne-clause-marks
 returns-else-ne-clause-marks c =
-    let at = value_stands c.args.groups.now.pairs c.args.place c.value_at.result.now c.value_at.ensures in
-    marked_by_spread c.args.rows.now c.args.groups.now c.args.place (at.0, c.value_at.result.now) c.of.result at.1 c.of.ensures (subst (IsMarkedBy c.args.rows.now c.args.groups.now c.args.place) (sym (same_spread c.of.result c.args.before (unflip _ (sym c.ne.ensures ∙ c.if-ne.false)))) c.requires.mark) c.requires.others
+    let at = stands_at c.args.groups.now.pairs c.args.place c.requires.within in
+    marked_by_spread c.args.rows.now c.args.groups.now c.args.place at.0 c.args.after.spread at.1 (c.requires.extent at.0 at.1).spread
+    (subst (IsMarkedBy c.args.rows.now c.args.groups.now c.args.place) (sym (same_spread c.args.after.spread c.args.before.spread (unflip _ (sym c.ne.ensures ∙ c.if-ne.false)))) c.requires.mark) c.requires.others
+
+pub returns-else-ne-clause-moved : goal.returns-else-ne-clause-moved
+returns-else-ne-clause-moved c = IsPermutation-refl c.args.groups.now.pairs

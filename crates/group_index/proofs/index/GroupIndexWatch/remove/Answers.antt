@@ -57,5 +57,6 @@ invariant_of-self g c =
     let room = c.self.invariant.room (some_group made c.self.inside.groups c.args.self.now c.args.table c.args.row c.self.view_is c.if-table-self.false (ids_of c.args.old.now) (ids_behind c.args.new) wide c.requires.present) in
     record {
       marks = c.take_entry.ensures.marks;
+      totals = c.take_entry.ensures.totals;
       room = λ _. subst (λ n. length c.self.inside.x ≤ n) (sym c.write_key.ensures.room) room;
     }
