@@ -22,7 +22,8 @@ use Rattle.bench_core.specs.declared.edit.EditFault.TheVariants.{UnknownRow, Unk
 use Rattle.bench_core.specs.declared.edit.EditFault.{EditFault}
 use Rattle.bench_core.specs.Stored.{Stored, StoredRow, text_of, row_of, table_state, HaveTexts, RowsHaveTexts}
 use Rattle.bench_core.proofs.Entries.{below-stored, found, put-last, put-there, taken}
-use Rattle.bench_core.proofs.Named.{AreIds, stored-rows-kept, entries-remove}
+use Rattle.row_takers.proofs.Kept.{AreIds}
+use Rattle.bench_core.proofs.Named.{stored-rows-kept, entries-remove}
 use Rattle.bench_core.proofs.RowsById.{length-texts_of}
 use Rattle.bench_core.proofs.Steps.{after_set-done}
 

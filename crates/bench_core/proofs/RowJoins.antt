@@ -1,23 +1,17 @@
 -- The indexes that take a table which is loaded.
-use Rattle.std.proofs.Common.{◌≡◌, ℕ, zero, suc, ◌<◌, List, [], ◌∷◌, ◌++◌, map, length, get_or, Option, Some, None, refl, sym, ap, subst, ◌∙◌, arith, inl, inr}
+use Rattle.std.proofs.Common.{◌≡◌, ℕ, zero, suc, List, [], ◌∷◌, ◌++◌, length, Option, refl, sym, ap, ◌∙◌, arith, inl, inr}
 use Rattle.std.specs.List.{slice_get}
 use Rattle.std.specs.Option.{option_and_then}
 use Rattle.std.proofs.lemmas.Bool.Decides.{nat_tests}
 use Rattle.std.proofs.lemmas.Bool.{cases_eq}
-use Rattle.std.proofs.lemmas.Option.{none-some, same_Some}
-use Rattle.std.proofs.lemmas.List.{length-map}
-use Rattle.std.proofs.lemmas.List.Elements.{All-get_or}
 use Rattle.std.specs.FinMap as finmap
-use Rattle.value_pool.specs.Pool.{KeepsIds}
 use Rattle.rule_model.specs.Books.{Book}
-use Rattle.row_store.specs.Store.{Rows, Store}
 use Rattle.bench_index.specs.Loading.{AllLoad, HaveNoRows, IsWithoutRows, with_table}
 use Rattle.bench_index.specs.declared.all_indexes.AllIndexes.{AllIndexes}
 use Rattle.bench_core.specs.Stored.{Stored}
 use Rattle.bench_core.specs.Indexed.{IsIndexed, tuples_of}
 use Rattle.bench_core.proofs.InStepWith.{indexed-alike}
 use Rattle.bench_core.proofs.TuplesAt.{last-there, tuple-there}
-use Rattle.bench_core.proofs.Walks.{get-with_tuple, get-with_tuple_apart}
 
 -- the table after the last one has no rows
 without-next : (tables : List Stored) → IsWithoutRows (length tables) (tuples_of tables)
