@@ -46,8 +46,8 @@ pub in_order-more : (so_far : List (List ℕ)) (ids : List ℕ) (table more : St
 in_order-more so_far ids table more is more-is after =
     let place : table.next ≡ 1 + length so_far = let next = is.next-is in omega arith in
     let below : All (λ (row : StoredRow). row.0 < table.next) (enumerate_from 1 so_far) = λ k d lt.
-      let there : k < length so_far = rw (length-enumerate_from 1 so_far) at lt in
-      rw (get_or-enumerate_from 1 so_far k d there) (omega arith) in
+    let there : k < length so_far = rw (length-enumerate_from 1 so_far) at lt in
+    rw (get_or-enumerate_from 1 so_far k d there) (omega arith) in
     record {
       entries-are =
           ap finmap.entries more-is

@@ -4,7 +4,6 @@ use Rattle.std.specs.List.{enumerate_from}
 use Rattle.std.specs.FinMap as finmap
 use Rattle.row_store.specs.Store.{Store, Rows}
 use Rattle.bench_core.specs.State.{Row, TableState, State}
-
 -- the text with an id, and ids that have texts
 pub use Rattle.row_takers.specs.Taken.{text_of, HaveTexts}
 

@@ -9,7 +9,7 @@ use Rattle.row_store.specs.Tuple.{Tuple, ids_of}
 use Rattle.row_takers.specs.Taken as taken
 use Rattle.row_takers.specs.Taken.{rows_in}
 use Rattle.bench_index.specs.Loading.{HaveNoRows}
-use Rattle.bench_core.specs.Loading.{ tables_in}
+use Rattle.bench_core.specs.Loading.{tables_in}
 use Rattle.bench_core.specs.Stored.{stored, state_of}
 use Rattle.bench_core.proofs.Filled.{held-fresh, length-state, named-more, state-more, tuples-wide}
 use Rattle.bench_core.proofs.Loads.{IsNext, is-next, loaded-all, loaded-bench, loaded-full, place_in_weights, turn-full, turned}
