@@ -1,16 +1,31 @@
 -- The entries of the rows of a table, as the rows with their texts: one that is looked up, and one that is put, changed or
 -- taken away.
-use Rattle.std.proofs.Common.{◌≡◌, ℕ, ◌<◌, Bool, true, false, cond, not, List, [], ◌∷◌, ◌++◌, map, filter, None, All, IsSome, option_map, refl, subst, arith, inl, inr, nat_cmp, is_lt, ◌&&◌}
+use Rattle.std.proofs.Common.{◌≡◌, ℕ, ◌<◌, Bool, true, false, cond, not, List, [], ◌∷◌, ◌++◌, map, filter, None, All, IsSome, option_map, refl, subst, ap, ◌∙◌, arith, inl, inr, nat_cmp, is_lt, ◌&&◌}
 use Rattle.std.specs.Prelude.{T}
 use Rattle.std.specs.List.{find}
 use Rattle.std.specs.Ordering.{eq_by_cmp}
 use Rattle.std.proofs.lemmas.Bool.Decides.{nat_tests}
 use Rattle.std.proofs.lemmas.Grind.{common_steps}
 use Rattle.std.proofs.lemmas.Bool.{cases_eq, cases_lt}
+use Rattle.std.proofs.lemmas.List.{get_or-map, length-map, map-append}
 use Rattle.std.proofs.lemmas.List.Elements.{All-head, All-tail}
 use Rattle.std.specs.FinMap.Entries as entry
 use Rattle.bench_core.specs.State.{Row, has_id}
 use Rattle.bench_core.specs.Stored.{StoredRow, row_of, text_of}
+
+-- ---- rows below an id
+
+-- stored rows lie as far below as the rows with their texts
+pub below-stored : (texts : List (List ℕ)) (id : ℕ) (rows : List StoredRow) → All (λ (row : Row). row.0 < id) (map (row_of texts) rows) → All (λ (row : StoredRow). row.0 < id) rows
+below-stored texts id rows below = λ k d lt. rw (get_or-map (row_of texts) rows k d (row_of texts d) lt) at (below k (row_of texts d) (rw length-map lt))
+
+-- a row above all others goes last
+pub put-above : (id : ℕ) (values : List ℕ) (rows : List StoredRow) → All (λ (row : StoredRow). row.0 < id) rows → entry.put nat_cmp id values rows ≡ rows ++ (id, values) ∷ []
+put-above id values [] below = refl
+put-above id values (row ∷ rows) below =
+    let first = All-head (λ (row : StoredRow). row.0 < id) row rows below in
+    let ih = put-above id values rows (All-tail (λ (row : StoredRow). row.0 < id) row rows below) in
+    grind (arith, nat_tests, first, ih)
 
 -- ---- a row that is looked up
 
@@ -27,11 +42,7 @@ module _ (texts : List (List ℕ)) where
 
   -- a row above all others goes last
   pub put-last : (id : ℕ) (values : List ℕ) (rows : List StoredRow) → All (λ (row : Row). row.0 < id) (map (row_of texts) rows) → map (row_of texts) (entry.put nat_cmp id values rows) ≡ map (row_of texts) rows ++ (id, map (text_of texts) values) ∷ []
-  put-last id values [] below = refl
-  put-last id values (row ∷ rows) below =
-      let first = All-head (λ (row : Row). row.0 < id) (row_of texts row) (map (row_of texts) rows) below in
-      let ih = put-last id values rows (All-tail (λ (row : Row). row.0 < id) (row_of texts row) (map (row_of texts) rows) below) in
-      grind (arith, nat_tests, first, ih)
+  put-last id values rows below = ap (map (row_of texts)) (put-above id values rows (below-stored texts id rows below)) ∙ map-append (row_of texts) rows ((id, values) ∷ [])
 
   both_true : (a b : Bool) → T (a && b) → T a × T b
   both_true true b holds = (tt, holds)

@@ -1,7 +1,7 @@
 -- Loading tables one after another.
 use Rattle.std.proofs.Common.{map-id, ◌≡◌, ℕ, ◌+◌, ◌<◌, ◌≤◌, Bool, true, false, List, [], ◌∷◌, ◌++◌, length, take, map, get_or, All, Option, None, Some, arith, ap, sym, ◌∙◌, subst, inl, inr, zero-add, ◌-◌, ◌*◌, ◌^◌, ◌&&◌, ◌||◌, not, nat_le, nat_lt, slice_index, Ok, Err, min, suc, zero, zero-mul, refl}
 use Rattle.std.specs.List.{AllZip, enumerate_from, position, position_or_len, range_with_len}
-use Rattle.std.proofs.lemmas.List.{take-map, take-take, take-append-le, take_all, take_more, map-append, length-map, length-append}
+use Rattle.std.proofs.lemmas.List.{take-map, take-take, take-append-le, take_all, take_more, map-append, length-map, length-append, get_or-map}
 use Rattle.std.proofs.lemmas.List.Sums.{fails_before_first, position_or_len_is, sum_by-cons}
 use Rattle.std.proofs.lemmas.List.FromFn.{length-map-range_with_len, get_or-map-range_with_len, length-enumerate_from, get_or-enumerate_from, length-range_with_len, get_or-range_with_len}
 use Rattle.std.proofs.lemmas.Option.{none-some}
@@ -112,11 +112,11 @@ loaded-states (t ∷ ts) cell_bytes last_id (r ∷ rs) fit few =
     (loaded-state t cell_bytes last_id r fit.0 (omega arith), loaded-states ts cell_bytes last_id rs fit.1 (omega arith))
 
 -- the same in the words of a loop that holds what it loaded so far
-pub first_over-here : (rules : Book) (limits : Limits) (tables so_far : List Tuples) (x : Tuples) (loaded : State) (n : ℕ) → length so_far < length tables → map (λ t. t) so_far ≡ take (length so_far) tables → x ≡ get_or tables (length so_far) x
+pub first_over-here : (rules : Book) (limits : Limits) (tables so_far : List Tuples) (x : Tuples) (loaded : State) (n : ℕ) → length so_far < length tables → so_far ≡ take (length so_far) tables → x ≡ get_or tables (length so_far) x
     → loaded ≡ map loaded_table so_far → n ≡ length loaded → IsClear rules limits loaded → is_over rules limits (loaded ++ loaded_table x ∷ []) ≡ true → first_over rules limits (map loaded_table tables) ≡ Some n
 first_over-here rules limits tables so_far x loaded n there front next is n-is clear over =
     let place : n ≡ length so_far = n-is ∙ (ap length is ∙ length-map so_far loaded_table) in
-    let first = first_over-some rules limits tables so_far x there (sym (map-id so_far) ∙ front) next (subst (IsClear rules limits) is clear) (subst (λ (ts : State). is_over rules limits (ts ++ loaded_table x ∷ []) ≡ true) is over) in
+    let first = first_over-some rules limits tables so_far x there front next (subst (IsClear rules limits) is clear) (subst (λ (ts : State). is_over rules limits (ts ++ loaded_table x ∷ []) ≡ true) is over) in
     rw place first
 
 -- all tables together are not too many, where no front is
@@ -233,11 +233,24 @@ module _ {rules : Book} {limits : Limits} {so_far : List Tuples} {state : State}
 
 -- ---- one turn of the loop
 
+-- the table is the next one after those so far
+pub record IsNext (tables so_far : List Tuples) (x : Tuples) : Type 0 where
+  pub there : length so_far < length tables
+  pub front : so_far ≡ take (length so_far) tables
+  pub next : x ≡ get_or tables (length so_far) x
+
+-- the same of what a loop goes over, seen as tables
+pub is-next : {X : Type 0} (view : X → Tuples) (all so_far : List X) (x : X) → length so_far < length all → map (λ t. t) so_far ≡ take (length so_far) all → x ≡ get_or all (length so_far) x → IsNext (map view all) (map view so_far) (view x)
+is-next view all so_far x there front next = record {
+  there = rw (length-map so_far view, length-map all view) there;
+  front = ap (map view) (sym (map-id so_far) ∙ front) ∙ sym (take-map view (length so_far) all) ∙ ap (λ n. take n (map view all)) (sym (length-map so_far view));
+  next = rw (length-map so_far view) (ap view next ∙ sym (get_or-map view all (length so_far) x (view x) there));
+}
+
 module _ {rules : Book} {limits : Limits} {so_far : List Tuples} {state : State} {weights : List ℕ} {rows cells : ℕ} (held : IsSoFar rules limits so_far state weights rows cells)
-    (allowed : AreLimits limits) (tables : List Tuples) (each : length tables ≡ length rules.schema.tables) (x : Tuples) (n k : ℕ) (n-is : n ≡ length state) (k-is : k ≡ length x)
-    (there : length so_far < length tables) (front : map (λ t. t) so_far ≡ take (length so_far) tables) (next : x ≡ get_or tables (length so_far) x) where
+    (allowed : AreLimits limits) (tables : List Tuples) (each : length tables ≡ length rules.schema.tables) (x : Tuples) (is : IsNext tables so_far x) (n k : ℕ) (n-is : n ≡ length state) (k-is : k ≡ length x) where
   within : length state < length rules.schema.tables
-  within = rw (held.loaded-is, length-map so_far loaded_table, ← each) there
+  within = rw (held.loaded-is, length-map so_far loaded_table, ← each) is.there
 
   pub place_in_weights : n < length weights
   place_in_weights = rw n-is (in_weights held allowed within x)
@@ -247,7 +260,7 @@ module _ {rules : Book} {limits : Limits} {so_far : List Tuples} {state : State}
   loaded-full has tested full =
       let room : has ≡ not (is_over rules limits (state ++ loaded_table x ∷ [])) = (rw (k-is, n-is) at tested) ∙ room-is held allowed within x in
       let over : is_over rules limits (state ++ loaded_table x ∷ []) ≡ true = not-false (is_over rules limits (state ++ loaded_table x ∷ [])) (sym room ∙ full) in
-      rw (first_over-here rules limits tables so_far x state n there front next held.loaded-is n-is held.clear over) refl
+      rw (first_over-here rules limits tables so_far x state n is.there is.front is.next held.loaded-is n-is held.clear over) refl
 
   module _ (has : Bool) (tested : has ≡ (nat_le (rows + k) limits.rows && nat_le (cells + k * slice_index weights n) limits.index_cells)) (free : has ≡ true) where
     room : (nat_le (rows + length x) limits.rows && nat_le (cells + length x * slice_index weights (length state)) limits.index_cells) ≡ true
@@ -264,11 +277,11 @@ module _ {rules : Book} {limits : Limits} {so_far : List Tuples} {state : State}
 
 -- each row of the next table has as many texts as the table has attributes
 pub turn-full : {rules : Book} {limits : Limits} {so_far : List Tuples} {state : State} {weights : List ℕ} {rows cells : ℕ} → IsSoFar rules limits so_far state weights rows cells → (cell_bytes : ℕ) (tables : List Tuples) → AreTables rules.schema cell_bytes tables
-    → (x : Tuples) → length so_far < length tables → x ≡ get_or tables (length so_far) x → (n : ℕ) → n ≡ length state → All (λ (texts : List (List ℕ)). length texts ≡ length (attrs_at rules.schema n)) x
-turn-full {rules} {so_far = so_far} held cell_bytes tables fit x there next n is =
+    → (x : Tuples) → IsNext tables so_far x → (n : ℕ) → n ≡ length state → All (λ (texts : List (List ℕ)). length texts ≡ length (attrs_at rules.schema n)) x
+turn-full {rules} {so_far = so_far} held cell_bytes tables fit x turn n is =
     let place : n ≡ length so_far = is ∙ ap length held.loaded-is ∙ length-map so_far loaded_table in
-    let (table, found, fits) = side_by_side (λ (table : Table) (rows : Tuples). All (IsRowOf table.attrs cell_bytes) rows) rules.schema.tables tables (length so_far) x fit there in
-    let wide = All-weaker (IsRowOf table.attrs cell_bytes) (λ (texts : List (List ℕ)). length texts ≡ length table.attrs) (λ row of. AllZip-long _ _ _ of.domains) x (subst (All (IsRowOf table.attrs cell_bytes)) (sym next) fits) in
+    let (table, found, fits) = side_by_side (λ (table : Table) (rows : Tuples). All (IsRowOf table.attrs cell_bytes) rows) rules.schema.tables tables (length so_far) x fit turn.there in
+    let wide = All-weaker (IsRowOf table.attrs cell_bytes) (λ (texts : List (List ℕ)). length texts ≡ length table.attrs) (λ row of. AllZip-long _ _ _ of.domains) x (subst (All (IsRowOf table.attrs cell_bytes)) (sym turn.next) fits) in
     rw (place, found) wide
 
 -- the bench of tables that are loaded
@@ -290,8 +303,8 @@ pub loaded-bench : (rules : Book) (limits : Limits) (tables : List Tuples) (stat
 loaded-bench rules limits tables state allowed fit is = loaded_as rules limits tables state allowed fit (first_over rules limits (map loaded_table tables)) refl is
 
 -- where the loop ends, all tables are loaded
-pub loaded-all : {rules : Book} {limits : Limits} {so_far : List Tuples} {state : State} {weights : List ℕ} {rows cells : ℕ} → IsSoFar rules limits so_far state weights rows cells → (tables : List Tuples) → map (λ t. t) so_far ≡ tables → loaded rules limits tables ≡ Ok state
+pub loaded-all : {rules : Book} {limits : Limits} {so_far : List Tuples} {state : State} {weights : List ℕ} {rows cells : ℕ} → IsSoFar rules limits so_far state weights rows cells → (tables : List Tuples) → so_far ≡ tables → loaded rules limits tables ≡ Ok state
 loaded-all {rules} {limits} {so_far} {state} held tables all =
-    let same : state ≡ map loaded_table tables = held.loaded-is ∙ ap (map loaded_table) (sym (map-id so_far) ∙ all) in
+    let same : state ≡ map loaded_table tables = held.loaded-is ∙ ap (map loaded_table) all in
     let none : first_over rules limits (map loaded_table tables) ≡ None = first_over-none rules limits (map loaded_table tables) (subst (IsClear rules limits) same held.clear) in
     rw (none, same) refl

@@ -7,13 +7,14 @@ use Rattle.std.specs.declared.cmp.Ordering.TheVariants.{Less, Equal, Greater}
 use Rattle.std.proofs.lemmas.Bool.Decides.{nat_tests}
 use Rattle.std.proofs.lemmas.List.{map-append, take_more}
 use Rattle.std.proofs.lemmas.List.Elements.{All-nil, All-cons, All-head, All-tail, All-push, All-filter, All-weaker, All-same, All-set}
-use Rattle.std.proofs.lemmas.Option.{slice_get-get_or, slice_get_within, get_or_from_slice_get}
+use Rattle.std.proofs.lemmas.Option.{slice_get_within, get_or_from_slice_get}
 use Rattle.std.specs.FinMap as finmap
 use Rattle.std.specs.FinMap.{nat_cmp-IsAntisymmetric}
 use Rattle.std.specs.FinMap.Entries as entry
 use Rattle.row_store.specs.Store.{Rows}
 use Rattle.row_store.specs.Tuple.{ids_if}
 use Rattle.value_pool.specs.Pool.{HasId, KeepsIds}
+use Rattle.row_takers.proofs.Kept.{AreIds, have-kept, texts-kept}
 use Rattle.edit_log.specs.declared.change.Change.{Change}
 use Rattle.bench_core.specs.Stored.{Stored, StoredRow, text_of, row_of, table_state, state_of, HaveTexts, RowsHaveTexts}
 use Rattle.bench_core.specs.Changes.{with_tuple, before_change, after_change, at_table, taken_back, made_again, before_all, states_before, states_after, history_of, IsChange}
@@ -21,33 +22,16 @@ use Rattle.bench_core.specs.Changes.{with_tuple, before_change, after_change, at
 abbrev pub AreNamed : List (List ℕ) → List Stored → Type 0
 AreNamed texts tables = All (λ (table : Stored). RowsHaveTexts texts table.rows) tables
 
-pub kept-twice : (one two three : List (List ℕ)) → KeepsIds one two → KeepsIds two three → KeepsIds one three
-kept-twice one two three first second text id has = second text id (first text id has)
-
 -- ---- what is stored keeps its texts
 
 module _ (old new : List (List ℕ)) (kept : KeepsIds old new) where
-  still : (value : ℕ) → value < length old → HasId new (text_of old value) value
-  still value within = kept (text_of old value) value (slice_get-get_or old value [] within)
-
-  text-kept : (value : ℕ) → value < length old → text_of new value ≡ text_of old value
-  text-kept value within = get_or_from_slice_get new value (text_of old value) [] (still value within)
-
-  pub have-kept : (values : List ℕ) → HaveTexts old values → HaveTexts new values
-  have-kept values have = All-weaker (λ value. value < length old) (λ value. value < length new) (λ value within. slice_get_within new value (text_of old value) (still value within)) values have
-
-  pub texts-kept : (values : List ℕ) → HaveTexts old values → map (text_of new) values ≡ map (text_of old) values
-  texts-kept [] have = refl
-  texts-kept (value ∷ values) have =
-      λ i. text-kept value (All-head (λ value. value < length old) value values have) i ∷ texts-kept values (All-tail (λ value. value < length old) value values have) i
-
   pub stored-rows-kept : (rows : List StoredRow) → All (λ (row : StoredRow). HaveTexts old row.1) rows → map (row_of new) rows ≡ map (row_of old) rows
   stored-rows-kept [] have = refl
   stored-rows-kept (row ∷ rows) have =
-      λ i. (row.0, texts-kept row.1 (All-head (λ (row : StoredRow). HaveTexts old row.1) row rows have) i) ∷ stored-rows-kept rows (All-tail (λ (row : StoredRow). HaveTexts old row.1) row rows have) i
+      λ i. (row.0, texts-kept old new kept row.1 (All-head (λ (row : StoredRow). HaveTexts old row.1) row rows have) i) ∷ stored-rows-kept rows (All-tail (λ (row : StoredRow). HaveTexts old row.1) row rows have) i
 
   pub rows-kept : (rows : Rows) → RowsHaveTexts old rows → RowsHaveTexts new rows
-  rows-kept rows have = All-weaker (λ (row : StoredRow). HaveTexts old row.1) (λ (row : StoredRow). HaveTexts new row.1) (λ row. have-kept row.1) (finmap.entries rows) have
+  rows-kept rows have = All-weaker (λ (row : StoredRow). HaveTexts old row.1) (λ (row : StoredRow). HaveTexts new row.1) (λ row. have-kept old new kept row.1) (finmap.entries rows) have
 
   pub table-kept : (table : Stored) → RowsHaveTexts old table.rows → table_state new table ≡ table_state old table
   table-kept table have = λ i. record { rows = stored-rows-kept (finmap.entries table.rows) have i; next_id = table.next }
@@ -63,8 +47,8 @@ module _ (old new : List (List ℕ)) (kept : KeepsIds old new) where
   pub change-kept : (change : Change) → IsChange old change → IsChange new change
   change-kept change is = record {
     there = is.there;
-    old = λ values at. have-kept values (is.old values at);
-    new = λ values at. have-kept values (is.new values at);
+    old = λ values at. have-kept old new kept values (is.old values at);
+    new = λ values at. have-kept old new kept values (is.new values at);
   }
 
   pub changes-kept : (changes : List Change) → All (IsChange old) changes → All (IsChange new) changes
@@ -151,11 +135,7 @@ module _ (old new : List (List ℕ)) (kept : KeepsIds old new) where
 pub text-of-id : (texts : List (List ℕ)) (text : List ℕ) (id : ℕ) → HasId texts text id → text_of texts id ≡ text
 text-of-id texts text id has = get_or_from_slice_get texts id text [] has
 
--- ids of the texts so far
-pub record AreIds (texts : List (List ℕ)) (ids : List ℕ) (so_far : List (List ℕ)) : Type 0 where
-  pub same : map (text_of texts) ids ≡ so_far
-  pub named : HaveTexts texts ids
-
+-- ids of the texts so far, with one more
 pub ids-more : (old new : List (List ℕ)) (ids : List ℕ) (all : List (List ℕ)) (i id : ℕ) (text : List ℕ) → AreIds old ids (take i all) → KeepsIds old new → HasId new text id → i < length all → text ≡ get_or all i text → AreIds new (ids ++ id ∷ []) (take (i + 1) all)
 ids-more old new ids all i id text are kept has within is = record {
   same =

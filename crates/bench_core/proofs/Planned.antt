@@ -6,7 +6,7 @@ use Rattle.std.specs.Cmp.{nat_cmp_total}
 use Rattle.std.proofs.lemmas.Bool.{cases_eq}
 use Rattle.std.proofs.lemmas.Bool.Decides.{nat_tests}
 use Rattle.std.proofs.lemmas.Option.{none-some, same_Some}
-use Rattle.std.proofs.lemmas.List.{length-map, get_or-map}
+use Rattle.std.proofs.lemmas.List.{length-map}
 use Rattle.std.proofs.lemmas.List.Elements.{All-head, All-tail}
 use Rattle.std.specs.FinMap as finmap
 use Rattle.std.specs.FinMap.Entries as entry
@@ -21,8 +21,9 @@ use Rattle.bench_core.specs.declared.edit.Applied.TheVariants.{Inserted, Changed
 use Rattle.bench_core.specs.declared.edit.EditFault.TheVariants.{UnknownRow, UnknownAttr}
 use Rattle.bench_core.specs.declared.edit.EditFault.{EditFault}
 use Rattle.bench_core.specs.Stored.{Stored, StoredRow, text_of, row_of, table_state, HaveTexts, RowsHaveTexts}
-use Rattle.bench_core.proofs.Entries.{found, put-last, put-there, taken}
-use Rattle.bench_core.proofs.Named.{AreIds, stored-rows-kept, entries-remove}
+use Rattle.bench_core.proofs.Entries.{below-stored, found, put-last, put-there, taken}
+use Rattle.row_takers.proofs.Kept.{AreIds}
+use Rattle.bench_core.proofs.Named.{stored-rows-kept, entries-remove}
 use Rattle.bench_core.proofs.RowsById.{length-texts_of}
 use Rattle.bench_core.proofs.Steps.{after_set-done}
 
@@ -35,7 +36,7 @@ for_none P y is = absurd (none-some y is)
 -- ---- a row that is there
 
 -- what holds of all rows holds of one that is found
-found-has : (P : ℕ → List ℕ → Type 0) (id : ℕ) (values : List ℕ) (rows : List StoredRow) → All (λ (row : StoredRow). P row.0 row.1) rows → entry.find nat_cmp id rows ≡ Some values → P id values
+pub found-has : (P : ℕ → List ℕ → Type 0) (id : ℕ) (values : List ℕ) (rows : List StoredRow) → All (λ (row : StoredRow). P row.0 row.1) rows → entry.find nat_cmp id rows ≡ Some values → P id values
 found-has P id values [] all is = absurd (none-some values is)
 found-has P id values (row ∷ rows) all is =
     let first = All-head (λ (row : StoredRow). P row.0 row.1) row rows all in
@@ -66,8 +67,7 @@ module _ (texts : List (List ℕ)) (table : Stored) (id : ℕ) where
 pub below-row : (texts : List (List ℕ)) (table : Stored) (id : ℕ) (ids : List ℕ) → All (λ (row : Row). row.0 < table.next) (map (row_of texts) (finmap.entries table.rows)) → finmap.get table.rows id ≡ Some ids → id < table.next
 below-row texts table id ids below at =
     let rows = finmap.entries table.rows in
-    let stored_below : All (λ (row : StoredRow). row.0 < table.next) rows = λ k d lt. rw (get_or-map (row_of texts) rows k d (row_of texts d) lt) at (below k (row_of texts d) (rw length-map lt)) in
-    found-has (λ id ids. id < table.next) id ids rows stored_below (at-entries texts table id (Some ids) at)
+    found-has (λ id ids. id < table.next) id ids rows (below-stored texts table.next rows below) (at-entries texts table id (Some ids) at)
 
 -- its tuple is as wide as its table
 pub wide : (texts : List (List ℕ)) (stored : Stored) (id cell_bytes last_id : ℕ) (table : Table) (ids : List ℕ) → IsTableState cell_bytes last_id table (table_state texts stored) → finmap.get stored.rows id ≡ Some ids

@@ -1,6 +1,10 @@
 -- The state that tables are loaded to.
 use Rattle.std.specs.Prelude.{ℕ, ◌+◌, List, length, take, map, All, Option, Some, None, Result}
 use Rattle.std.specs.List.{AllZip, enumerate_from, position, range_with_len}
+use Rattle.std.specs.declared.vec.Vec.{Vec}
+use Rattle.std.specs.declared.alloc.Global.{Global}
+use Rattle.row_store.specs.Tuple.{Tuple}
+use Rattle.row_takers.specs.Taken.{rows_in}
 use Rattle.schema_core.specs.Rows.{IsRowOf}
 use Rattle.text_lists.specs.declared.limits.Limits.{Limits}
 use Rattle.schema_core.specs.declared.schema.Table.{Table}
@@ -15,6 +19,10 @@ use Rattle.bench_core.specs.declared.edit.LoadFault.TheVariants.{RowsFull, Memor
 -- the rows of a table file
 abbrev pub Tuples : Type 0
 Tuples = List (List (List ℕ))
+
+-- tables of a pool, as texts
+abbrev pub tables_in : List (List ℕ) → List (Vec Tuple Global) → List Tuples
+tables_in texts tables = map (λ (table : Vec Tuple Global). rows_in texts table.items) tables
 
 -- there is a list of rows for each table of the schema, and they are rows of it
 abbrev pub AreTables : Schema → ℕ → List Tuples → Type 0

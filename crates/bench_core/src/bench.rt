@@ -24,6 +24,7 @@ use hash_keys::HashKeys;
 use master_index::MasterIndex;
 use probe_steps::Steps;
 use row_store::{RowId, RowStore};
+use row_takers::PooledTables;
 use rule_model::RuleBook;
 use schema_core::{Limits, List, Texts};
 use std::alloc::{AllocError, Global};
@@ -70,7 +71,28 @@ impl Bench {
         ensures valid { IfOk result (λ bench. IsHistory bench.rules bench.limits bench.history) }
         ensures probes { IfOk result (λ bench. steps.new ≤ steps.old + load_probes rules bench.history.present) }
     {
-        let (project, index) = Project::load(alloc, keys, rules, tables, limits, steps)?;
+        let tables = PooledTables::of_texts(alloc, keys, tables)?;
+        Bench::of_tables(alloc, rules, tables, limits, steps)
+    }
+
+    /// Takes tables that were read, in the order of the schema. Their rows get the ids 1, 2, 3 in order, and the bench keeps
+    /// their pool. Rows of a table that wasn't ended are left out.
+    pub fn of_tables<L: Ledger>(
+        alloc: Global,
+        rules: RuleBook,
+        tables: PooledTables,
+        limits: Limits,
+        steps: &mut Steps<L>,
+    ) -> Result<Bench, LoadFault>
+        requires limits { AreLimits limits }
+        requires tables { AreTables rules.schema limits.cell_bytes tables.tables }
+        ensures loaded { GivesUnlessMemory full_table (loaded rules limits tables.tables) (λ bench. bench.history.present) result }
+        ensures fresh { IfOk result (λ bench. HasNoPast bench.history × HasNothingUndone bench.history) }
+        ensures made_with { IfOk result (λ bench. (bench.rules ≡ rules) × (bench.limits ≡ limits)) }
+        ensures valid { IfOk result (λ bench. IsHistory bench.rules bench.limits bench.history) }
+        ensures probes { IfOk result (λ bench. steps.new ≤ steps.old + load_probes rules bench.history.present) }
+    {
+        let (project, index) = Project::load(alloc, rules, tables, limits, steps)?;
         Ok(Bench { project, index })
     }
 

@@ -8,7 +8,7 @@ ghost use Rattle.cli_output.specs.Fetching.{Fetches, Reads, about};
 ghost use Rattle.cli_output.specs.RuleFiles.{spelled};
 ghost use Rattle.project_forms.specs.Project.{LeadsTo, fetch_bench, fetch_commands, fetch_project, flaw_of, read_of, script_line, tables_of};
 
-use crate::tables::{fetch_tables, load};
+use crate::tables::{fetch_pooled, load};
 use bench_core::Bench;
 use cli_output::{Cause, LineFlaw, Stop, fetch_file, fetch_rules, fetch_schema, refused};
 use hash_keys::HashKeys;
@@ -63,8 +63,9 @@ pub fn fetch_bench<S: Shelf, L: Ledger>(
     ensures fetches { Fetches (fetch_bench limits.now rules) tables_of 64 result (S.told shelf.old) (S.told shelf.new) left.old left.new }
     ensures probes { IfOk result (λ bench. steps.new ≤ steps.old + load_probes bench.rules bench.history.present) }
 {
-    let tables = fetch_tables(alloc, shelf, rules.schema().tables.as_slice(), limits, left)?;
-    load(alloc, keys, rules, tables, limits, steps)
+    let schema = rules.schema();
+    let tables = fetch_pooled(alloc, keys, shelf, schema.tables.as_slice(), limits, left)?;
+    load(alloc, rules, tables, limits, steps)
 }
 
 fn fetch_commands<S: Shelf>(

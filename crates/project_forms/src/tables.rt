@@ -9,9 +9,10 @@ ghost use Rattle.cli_output.specs.Fetching.{Fetches, Reads};
 ghost use Rattle.project_forms.specs.Project.{bench_of, fetch_tables, tables_of};
 
 use bench_core::{Bench, LoadFault};
-use cli_output::{Cause, Stop, fetch_table, refused};
+use cli_output::{Cause, Stop, fetch_rows, fetch_table, refused};
 use hash_keys::HashKeys;
 use probe_steps::Steps;
+use row_takers::PooledTables;
 use rule_model::RuleBook;
 use schema_core::{Limits, List, Schema, Table, Texts};
 use shelf_io::Shelf;
@@ -38,22 +39,42 @@ pub fn fetch_tables<S: Shelf>(
     Ok(all)
 }
 
+/// The same for a bench: the texts of all tables go to one pool as they are read.
+pub fn fetch_pooled<S: Shelf>(
+    alloc: Global,
+    keys: HashKeys,
+    shelf: &mut S,
+    tables: &[Table],
+    limits: &Limits,
+    left: &mut u64,
+) -> Result<PooledTables, Stop>
+    requires { AreLimits limits.now }
+    ensures tables { Fetches (fetch_tables limits.now tables.now) (λ all. all.tables) (length tables.now) result (S.told shelf.old) (S.told shelf.new) left.old left.new }
+    ensures valid { IfOk result (λ all. AllZip (λ table rows. All (IsRowOf table.attrs limits.now.cell_bytes) rows) tables.now all.tables) }
+{
+    let mut all = PooledTables::new(alloc, keys);
+    for table in tables {
+        fetch_rows(alloc, shelf, table, limits, left, &mut all)?;
+        all.end_table()?;
+    }
+    Ok(all)
+}
+
 /// The bench of tables that were read.
 pub fn load<L: Ledger>(
     alloc: Global,
-    keys: HashKeys,
     rules: RuleBook,
-    tables: List<List<Texts>>,
+    tables: PooledTables,
     limits: &Limits,
     steps: &mut Steps<L>,
 ) -> Result<Bench, Stop>
     requires limits { AreLimits limits.now }
-    requires tables { AreTables rules.schema limits.now.cell_bytes tables }
-    ensures reads { Reads (bench_of rules limits.now (loaded rules limits.now tables)) tables_of result }
+    requires tables { AreTables rules.schema limits.now.cell_bytes tables.tables }
+    ensures reads { Reads (bench_of rules limits.now (loaded rules limits.now tables.tables)) tables_of result }
     ensures probes { IfOk result (λ bench. steps.new ≤ steps.old + load_probes bench.rules bench.history.present) }
 {
     let names = file_names(alloc, rules.schema())?;
-    match Bench::load(alloc, keys, rules, tables, *limits, steps) {
+    match Bench::of_tables(alloc, rules, tables, *limits, steps) {
         Ok(bench) => Ok(bench),
         Err(LoadFault::RowsFull { table }) => {
             let name = &names.as_slice()[table];

@@ -1,5 +1,6 @@
 use Rattle.value_pool.specs.Pool.{HasId}
-use Rattle.bench_core.proofs.Named.{ids-more, kept-twice}
+use Rattle.row_takers.proofs.Kept.{kept-twice}
+use Rattle.bench_core.proofs.Named.{ids-more}
 use Rattle.bench_core.proofs.tuples.intern_all.Goals as goal
 
 pub loop-text-preserved : goal.loop-text-preserved

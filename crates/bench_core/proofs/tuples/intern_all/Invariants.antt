@@ -1,6 +1,6 @@
 use Rattle.std.proofs.Common.{take}
 use Rattle.value_pool.specs.Pool.{KeepsIds}
-use Rattle.bench_core.proofs.Named.{AreIds}
+use Rattle.row_takers.proofs.Kept.{AreIds}
 use Rattle.bench_core.proofs.tuples.intern_all.Given as goal
 
 abbrev pub invariant-loop-text : goal.invariant-loop-text

@@ -4,7 +4,7 @@ use Rattle.row_store.specs.Tuple.{ids_of, ids_behind}
 use Rattle.bench_core.specs.Edited.{after_fix, require_row, refusal_of}
 use Rattle.bench_core.specs.Stored.{HaveTexts, stored, table_state}
 use Rattle.bench_core.proofs.Steps.{handed_on}
-use Rattle.bench_core.proofs.Named.{AreIds, have-kept}
+use Rattle.row_takers.proofs.Kept.{AreIds, have-kept}
 use Rattle.bench_core.proofs.Planned.{fix-absent, fix-refused, fix-done, have-texts, below-row, for_some}
 use Rattle.bench_core.proofs.target.Target.fix.Goals as goal
 

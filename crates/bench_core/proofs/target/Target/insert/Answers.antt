@@ -2,7 +2,7 @@ use Rattle.std.proofs.Common.{◌≡◌, Ok, true, nat_le, le-leb, ◌∙◌}
 use Rattle.row_store.specs.Tuple.{ids_of}
 use Rattle.bench_core.specs.Edited.{require_row}
 use Rattle.bench_core.specs.Stored.{stored}
-use Rattle.bench_core.proofs.Named.{AreIds}
+use Rattle.row_takers.proofs.Kept.{AreIds}
 use Rattle.bench_core.proofs.Planned.{insert-done}
 use Rattle.bench_core.proofs.target.Target.insert.Goals as goal
 

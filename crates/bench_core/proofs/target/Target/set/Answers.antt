@@ -6,7 +6,7 @@ use Rattle.row_store.specs.Tuple.{ids_of, ids_behind}
 use Rattle.bench_core.specs.Edited.{after_set, require_text, refusal_of}
 use Rattle.bench_core.specs.Stored.{HaveTexts, stored, table_state}
 use Rattle.bench_core.proofs.Steps.{handed_on}
-use Rattle.bench_core.proofs.Named.{have-kept}
+use Rattle.row_takers.proofs.Kept.{have-kept}
 use Rattle.bench_core.proofs.Planned.{set-absent, set-no-attr, set-refused, set-done, have-texts, below-row, for_some, wide}
 use Rattle.bench_core.proofs.target.Target.set.Goals as goal
 

@@ -1,0 +1,9 @@
+use Rattle.std.proofs.Common.{◌≡◌, []}
+use Rattle.project_forms.proofs.TableLoop.{IsUnderWay}
+use Rattle.project_forms.proofs.tables.fetch_pooled.Given as goal
+
+abbrev pub invariant-loop-table : goal.invariant-loop-table
+invariant-loop-table g l = record {
+  under_way : IsUnderWay l.limits l.tables l.table-index l.all.tables (g.S.Shelf.told l.fn.shelf) (g.S.Shelf.told l.shelf) l.fn.left l.left;
+  none : l.all.rows ≡ [];
+}
