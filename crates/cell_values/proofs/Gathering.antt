@@ -8,7 +8,7 @@ use Rattle.std.proofs.lemmas.List.FromFn.{map-range_with_len_more}
 use Rattle.std.proofs.lemmas.List.Elements.{filter-append}
 use Rattle.text_lists.specs.Repeats.{AreDistinct, is_among}
 use Rattle.cfd_semantics.specs.declared.pattern.Pattern.{Pattern}
-use Rattle.rule_model.specs.Books.{is_set}
+use Rattle.cfd_semantics.specs.Pattern.{is_set}
 use Rattle.rule_model.specs.Declarations.{constants_of}
 use Rattle.value_pool.specs.Pool.{Interns}
 use Rattle.cell_values.specs.declared.values.Gathered.{Gathered}

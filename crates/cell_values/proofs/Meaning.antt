@@ -10,9 +10,8 @@ use Rattle.cell_values.proofs.Anys.{Any-nil, Any-here, Any-there, Any-cases}
 use Rattle.std.proofs.lemmas.Slice.Eq.{bytes_eq-Decides}
 use Rattle.cfd_semantics.specs.declared.pattern.Pattern.{Pattern}
 use Rattle.cfd_semantics.specs.declared.pattern.Pattern.TheVariants as patterns
-use Rattle.cfd_semantics.specs.Pattern.{matches}
+use Rattle.cfd_semantics.specs.Pattern.{is_set, matches}
 use Rattle.text_lists.specs.Repeats.{AreDistinct, is_among}
-use Rattle.rule_model.specs.Books.{is_set}
 use Rattle.rule_model.specs.Declarations.{constants_of}
 use Rattle.case_tree.specs.CaseTree.{IsTrueUnder}
 use Rattle.cell_values.specs.declared.values.CellValues.{CellValues}

@@ -14,7 +14,7 @@ use Rattle.text_lists.specs.Repeats.{AreDistinct, is_among}
 use Rattle.schema_core.specs.Schemas.{Admits, IsValidDomain}
 use Rattle.schema_core.specs.declared.schema.Domain.{Domain}
 use Rattle.schema_core.specs.declared.schema.Domain.TheVariants.{AnyText, Finite}
-use Rattle.rule_model.specs.Books.{is_set}
+use Rattle.cfd_semantics.specs.Pattern.{is_set}
 use Rattle.rule_model.specs.Declarations.{constants_of}
 use Rattle.rule_model.specs.Rules.{IsCellOf}
 use Rattle.cell_values.specs.declared.values.CellValues.{CellValues}

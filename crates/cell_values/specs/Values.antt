@@ -9,7 +9,7 @@ use Rattle.schema_core.specs.declared.schema.Attr.{Attr}
 use Rattle.schema_core.specs.declared.schema.Domain.{Domain}
 use Rattle.schema_core.specs.declared.schema.Domain.TheVariants.{AnyText, Finite}
 use Rattle.cfd_semantics.specs.declared.pattern.Pattern.{Pattern}
-use Rattle.rule_model.specs.Books.{is_set}
+use Rattle.cfd_semantics.specs.Pattern.{is_set}
 use Rattle.rule_model.specs.Declarations.{constants_of}
 use Rattle.cell_values.specs.declared.values.CellValues.{CellValues}
 use Rattle.cell_values.specs.declared.values.Gathered.{Gathered}

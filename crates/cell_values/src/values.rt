@@ -3,7 +3,7 @@
 ghost use Rattle.std.specs.Prelude.{◌≡◌, ◌==◌, ◌||◌, ◌+◌, ◌^◌, ◌<◌, ◌++◌, false, if◌then◌else◌, [], ◌∷◌, length, All, IfOk, OnOk, find, option_copied};
 ghost use Rattle.std.specs.List.{flat_map, list_any};
 ghost use Rattle.text_lists.specs.Repeats.{AreDistinct};
-ghost use Rattle.rule_model.specs.Books.{is_set};
+ghost use Rattle.cfd_semantics.specs.Pattern.{is_set};
 ghost use Rattle.schema_core.specs.Schemas.{IsValidAttr, IsValidDomain};
 ghost use Rattle.rule_model.specs.Declarations.{constants_of};
 ghost use Rattle.cell_values.specs.TableRules.{cells_at, cells_for, cells_in_row, cells_in_rule, occurs};

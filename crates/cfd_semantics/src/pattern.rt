@@ -11,6 +11,18 @@ pub enum Pattern<V> {
     NotIn(List<V>),
 }
 
+impl<V> Pattern<V> {
+    ghost use Rattle.std.specs.Prelude.{◌≡◌};
+    ghost use Rattle.cfd_semantics.specs.Pattern.{is_set};
+
+    /// Whether the cell is a set or the complement of one.
+    pub fn is_set(&self) -> bool
+        ensures { result ≡ is_set self.now }
+    {
+        matches!(self, Pattern::In(_) | Pattern::NotIn(_))
+    }
+}
+
 impl<V: PartialEq> Pattern<V> {
     ghost use Rattle.std.specs.Prelude.{◌≡◌};
     ghost use Rattle.cfd_semantics.specs.Pattern.{matches};

@@ -1,12 +1,11 @@
 -- Rule books: declarations without fault, and the rules that they stand for.
-use Rattle.std.specs.Prelude.{◌≡◌, ℕ, Bool, true, false, ◌||◌, ◌<◌, List, [], ◌∷◌, ◌++◌, length, take, All, slice_index_or, Option, None}
+use Rattle.std.specs.Prelude.{◌≡◌, ℕ, Bool, ◌||◌, ◌<◌, List, [], ◌∷◌, ◌++◌, length, take, All, slice_index_or, Option, None}
 use Rattle.std.specs.List.{flat_map, list_any}
 use Rattle.text_lists.specs.Limits.{AreLimits}
 use Rattle.schema_core.specs.Schemas.{IsValidSchema}
 use Rattle.text_lists.specs.declared.limits.Limits.{Limits}
 use Rattle.schema_core.specs.declared.schema.Schema.{Schema}
-use Rattle.cfd_semantics.specs.declared.pattern.Pattern.{Pattern}
-use Rattle.cfd_semantics.specs.declared.pattern.Pattern.TheVariants.{Any, Is, In, NotIn}
+use Rattle.cfd_semantics.specs.Pattern.{is_set}
 use Rattle.cfd_semantics.specs.declared.dependency.TableauRow.{TableauRow}
 use Rattle.rule_model.specs.declared.decl.Decl.{Decl}
 use Rattle.rule_model.specs.declared.dep.Dep.{Dep}
@@ -39,13 +38,6 @@ book_cinds book = flat_map (cinds_of book.schema) book.decls
 
 unfoldable pub book_edits : Book → List EditRule
 book_edits book = flat_map (edits_of book.schema) book.decls
-
--- a cell is a set or the complement of one
-abbrev pub is_set : Pattern (List ℕ) → Bool
-is_set Any = false
-is_set (Is value) = false
-is_set (In values) = true
-is_set (NotIn values) = true
 
 -- a tableau row, a dependency, a book has such a cell
 abbrev pub row_has_set : TableauRow (List ℕ) → Bool

@@ -2,28 +2,22 @@
 
 ghost use Rattle.std.specs.Prelude.{◌≡◌};
 ghost use Rattle.std.specs.List.{list_any};
-ghost use Rattle.rule_model.specs.Books.{is_set, row_has_set, dep_has_set};
+ghost use Rattle.cfd_semantics.specs.Pattern.{is_set};
+ghost use Rattle.rule_model.specs.Books.{row_has_set, dep_has_set};
 
 use crate::decl::Cell;
 use crate::dep::{Dep, DepRow};
-use cfd_semantics::Pattern;
-
-fn is_set(cell: &Cell) -> bool
-    ensures { result ≡ is_set cell.now }
-{
-    matches!(cell, Pattern::In(_) | Pattern::NotIn(_))
-}
 
 fn any_is_set(cells: &[Cell]) -> bool
     ensures { result ≡ list_any is_set cells.now }
 {
-    cells.iter().any(|cell| is_set(cell))
+    cells.iter().any(|cell| cell.is_set())
 }
 
 fn row_has_set(row: &DepRow) -> bool
     ensures { result ≡ row_has_set row.now }
 {
-    any_is_set(row.x.as_slice()) || is_set(&row.a)
+    any_is_set(row.x.as_slice()) || row.a.is_set()
 }
 
 fn dep_has_set(dep: &Dep) -> bool
