@@ -93,10 +93,17 @@ impl Model for Text {
 }
 
 impl Text {
+    /// Whether the text is one that takes no memory.
+    pub fn is_short(text: &str) -> bool
+        ensures { IsTrue result ↔ (length text.now ≤ SHORT_BYTES) }
+    {
+        text.len() <= SHORT_BYTES
+    }
+
     pub fn new(alloc: Global, text: &str) -> Result<Text, AllocError>
         ensures { IfOk result (λ t. t ≡ text.now) }
     {
-        if text.len() <= SHORT_BYTES {
+        if Text::is_short(text) {
             return Ok(Text::inside(text));
         }
         Ok(Text {

@@ -1,13 +1,14 @@
 -- What look-ups by equal bytes say of a list of texts.
-use Rattle.std.proofs.Common.{◌≡◌, ℕ, zero, suc, ◌<◌, ◌≤◌, Bool, true, false, cond, nat_lt, List, [], ◌∷◌, ◌++◌, length, slice_get, position, Option, Some, None, refl, sym, ap, ◌∙◌, subst, arith, lt-ltb, true≢false, IfSome, IfNone}
+use Rattle.std.proofs.Common.{◌≡◌, ℕ, zero, suc, ◌<◌, ◌≤◌, Bool, true, false, cond, nat_lt, List, [], ◌∷◌, ◌++◌, length, slice_get, position, ◌||◌, inl, inr, Option, Some, None, refl, sym, ap, ◌∙◌, subst, arith, lt-ltb, true≢false, IfSome, IfNone}
 use Rattle.std.specs.Cmp.Lexicographic.{bytes_decides}
 use Rattle.std.specs.List.{list_any, position_or_len, IsDistinct, AllByRecursion}
 use Rattle.std.specs.Str.{bytes_eq}
 use Rattle.indexmap.specs.IndexSet.{insert_key}
 use borrow.Author.Tests.{ltb-true}
+use Rattle.std.proofs.lemmas.Bool.{or_parts}
 use Rattle.std.proofs.lemmas.Option.{cond_some, none-some, same_Some}
 use native.Mathlib.Decide.{dec_lt}
-use Rattle.value_pool.specs.Pool.{HasId, IsNew, HaveOneId, KeepsIds}
+use Rattle.value_pool.specs.Pool.{HasId, IsNew, HaveOneId, Interns, KeepsIds}
 
 -- no text from here on is the one before it
 apart : (text : List ℕ) (texts : List (List ℕ)) (id : ℕ) → AllByRecursion (λ y. bytes_eq text y ≡ false) texts → ¬ HasId texts text id
@@ -66,25 +67,40 @@ module _ (text : List ℕ) where
         | no past ↦ IsNew-place texts (omega (arith, past))
       ]
 
-  -- a new text is equal to none that is there
-  list_any-IsNew : (texts : List (List ℕ)) → IsNew texts text → list_any (bytes_eq text) texts ≡ false
-  list_any-IsNew [] new = refl
-  list_any-IsNew (t ∷ ts) new = by (bytes_eq text t) refl (list_any-IsNew ts (λ id has. new (suc id) has))
+  -- a text that is equal to one of them has its id
+  HasId-any : (texts : List (List ℕ)) → list_any (bytes_eq text) texts ≡ true → (id : ℕ) × HasId texts text id
+  HasId-any [] any = absurd (true≢false (sym any))
+  HasId-any (t ∷ ts) any = by (bytes_eq text t) refl (HasId-any ts)
     where
-      by : (b : Bool) → bytes_eq text t ≡ b → list_any (bytes_eq text) ts ≡ false → list_any (bytes_eq text) (t ∷ ts) ≡ false
-      by true e rest = absurd (new 0 (ap Some (sym ((bytes_decides text t).0 e))))
-      by false e rest = rw e rest
+      by : (b : Bool) → bytes_eq text t ≡ b → (list_any (bytes_eq text) ts ≡ true → (id : ℕ) × HasId ts text id) → (id : ℕ) × HasId (t ∷ ts) text id
+      by true is rest = (0, ap Some (sym ((bytes_decides text t).0 is)))
+      by false is rest = let found = rest (sym (ap (λ b. b || list_any (bytes_eq text) ts) is) ∙ any) in (suc found.0, found.1)
 
-  -- what there is after an insertion of a new text
-  pub insert_key-IsNew : (texts : List (List ℕ)) → IsNew texts text → insert_key bytes_eq texts text ≡ texts ++ text ∷ []
-  insert_key-IsNew texts new = rw (list_any-IsNew texts new) refl
+  -- one that is equal to none of them is new
+  IsNew-none : (texts : List (List ℕ)) → list_any (bytes_eq text) texts ≡ false → IsNew texts text
+  IsNew-none [] none id has = none-some text has
+  IsNew-none (t ∷ ts) none zero has = true≢false (sym ((bytes_decides text t).1 (sym (same_Some t text has))) ∙ (or_parts (bytes_eq text t) (list_any (bytes_eq text) ts) none).0)
+  IsNew-none (t ∷ ts) none (suc id) has = IsNew-none ts (or_parts (bytes_eq text t) (list_any (bytes_eq text) ts) none).1 id has
+
+  -- what there is after an insertion
+  pub insert_key-Interns : (texts : List (List ℕ)) → Interns texts text (insert_key bytes_eq texts text)
+  insert_key-Interns texts = by (list_any (bytes_eq text) texts) refl
+    where
+      by : (b : Bool) → list_any (bytes_eq text) texts ≡ b → Interns texts text (cond b texts (texts ++ text ∷ []))
+      by true any = let found = HasId-any texts any in inl (found.0, found.1, refl)
+      by false none = inr (IsNew-none texts none, refl)
 
 -- a text that stands at a place, and is equal to another, is that one
 pub HasId-stored : (texts : List (List ℕ)) (text stored : List ℕ) (id : ℕ) → slice_get texts id ≡ Some stored → bytes_eq text stored ≡ true → HasId texts text id
 HasId-stored texts text stored id at same = at ∙ ap Some (sym ((bytes_decides text stored).0 same))
 
 -- a text that goes last leaves the ids of the others
-pub KeepsIds-push : (old : List (List ℕ)) (text : List ℕ) → KeepsIds old (old ++ text ∷ [])
+KeepsIds-push : (old : List (List ℕ)) (text : List ℕ) → KeepsIds old (old ++ text ∷ [])
 KeepsIds-push [] text other id has = absurd (none-some other has)
 KeepsIds-push (x ∷ xs) text other zero has = has
 KeepsIds-push (x ∷ xs) text other (suc id) has = KeepsIds-push xs text other id has
+
+-- so does any text that comes in
+pub KeepsIds-Interns : (old : List (List ℕ)) (text : List ℕ) (new : List (List ℕ)) → Interns old text new → KeepsIds old new
+KeepsIds-Interns old text new (inl (id, has, same)) = subst (KeepsIds old) (sym same) (λ other i there. there)
+KeepsIds-Interns old text new (inr (absent, grown)) = subst (KeepsIds old) (sym grown) (KeepsIds-push old text)

@@ -78,8 +78,11 @@ impl Pool {
         ensures kept { KeepsIds self.old self.new }
         ensures distinct { HaveOneId self.new }
     {
-        if let Some(id) = self.find(text) {
-            return Ok(id);
+        // A short text takes no memory, so it is hashed once, whether it is new or not.
+        if !Text::is_short(text) {
+            if let Some(id) = self.find(text) {
+                return Ok(id);
+            }
         }
         let owned = Text::new(*self.texts.allocator(), text)?;
         let (id, _) = self.texts.insert_full(owned)?;

@@ -12,7 +12,8 @@ use std::alloc::AllocError;
 use std::sync::ledger::Ledger;
 
 /// The number of lines of the list, which isn't made: 0 exactly where all rules are satisfied. A number beyond the last of
-/// its type is told as want of memory. It takes as many probes as the list.
+/// its type is told as want of memory. It takes as many probes as the list at most, and none for a rule whose numbers are
+/// kept.
 pub fn count<L: Ledger>(bench: &BenchQueries<'_>, steps: &mut Steps<L>) -> Result<usize, AllocError>
     ensures count { IfOk result (λ lines. lines ≡ length (listing bench.now.rules bench.now.history.present)) }
     ensures law { IfOk result (λ lines. lines ≡ 0 ↔ IsSatisfied bench.now.rules bench.now.history.present) }

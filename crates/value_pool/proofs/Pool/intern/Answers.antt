@@ -1,16 +1,16 @@
-use Rattle.std.proofs.Common.{◌≡◌, ◌∷◌, ◌++◌, [], inr, subst, sym, ◌∙◌}
-use Rattle.value_pool.specs.Pool.{HasId, IsNew, KeepsIds}
-use Rattle.value_pool.proofs.PoolLemmas.{distinct-HaveOneId, HasId-stored, KeepsIds-push, insert_key-IsNew}
+use Rattle.std.proofs.Common.{subst, sym, ◌∙◌}
+use Rattle.std.specs.Str.{bytes_eq}
+use Rattle.indexmap.specs.IndexSet.{insert_key}
+use Rattle.value_pool.specs.Pool.{HasId, Interns}
+use Rattle.value_pool.proofs.PoolLemmas.{distinct-HaveOneId, HasId-stored, KeepsIds-Interns, insert_key-Interns}
 use Rattle.value_pool.proofs.Pool.intern.Goals as goal
 
--- the new texts are the old ones with the text at the end
-grown : (c : goal.In_ok-id) → c.insert_full.new.self.keys ≡ c.args.self.now ++ c.args.text.now ∷ []
-grown c =
-    let texts = c.self.view_is in
+-- the new texts are the old ones with this one put in
+interned : (c : goal.In_ok-id) → Interns c.args.self.now c.args.text.now c.insert_full.new.self.keys
+interned c =
+    let texts = c.self-2.view_is in
     let text = c.in_ok-owned.ensures in
-    let new : IsNew c.self.inside.texts.keys c.in_ok-owned.owned = (λ id has. c.in_default.ensures.absent id (subst (λ t. HasId c.args.self.now t id) text (subst (λ ts. HasId ts c.in_ok-owned.owned id) texts has))) in
-    c.in_ok-id.ensures.keys ∙ insert_key-IsNew c.in_ok-owned.owned c.self.inside.texts.keys new
-    ∙ (λ j. texts j ++ text j ∷ [])
+    subst (Interns c.args.self.now c.args.text.now) (sym (c.in_ok-id.ensures.keys ∙ (λ j. insert_key bytes_eq (texts j) (text j)))) (insert_key-Interns c.args.text.now c.args.self.now)
 
 pub invariant_of-self-2 : goal.invariant_of-self-2
 invariant_of-self-2 c = distinct-HaveOneId _ c.in_ok-id.ensures.unique
@@ -23,10 +23,10 @@ returns-clause-id c =
     subst (λ t. HasId keys t c.in_ok-id.id) c.in_ok-owned.ensures has
 
 pub returns-clause-interned : goal.returns-clause-interned
-returns-clause-interned c = inr (c.in_default.ensures.absent, grown c)
+returns-clause-interned c = interned c
 
 pub returns-clause-kept : goal.returns-clause-kept
-returns-clause-kept c = subst (KeepsIds c.args.self.now) (sym (grown c)) (KeepsIds-push c.args.self.now c.args.text.now)
+returns-clause-kept c = KeepsIds-Interns c.args.self.now c.args.text.now c.insert_full.new.self.keys (interned c)
 
 pub returns-clause-distinct : goal.returns-clause-distinct
 returns-clause-distinct c = distinct-HaveOneId _ c.in_ok-id.ensures.unique
