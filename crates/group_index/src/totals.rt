@@ -87,7 +87,7 @@ impl Change {
 }
 
 /// How many violations each tableau row has. None where the tableau has many rows, so that a change costs a look at a few at
-/// most; where there was no memory for the numbers; and from when one went beyond its type on.
+/// most; where there was no memory for the numbers; and once one went beyond its type.
 #[derive(Drop)]
 pub(crate) struct Totals {
     counts: Option<Vec<usize>>,
