@@ -1,6 +1,6 @@
 -- What a change of one group makes of the numbers of violations that are kept.
 use Rattle.std.proofs.Common.{◌≡◌, ◌≢◌, ℕ, zero, suc, ◌+◌, ◌-◌, ◌<◌, ◌≤◌, ◌⊎◌, Bool, true, false, cond, not, ◌&&◌, ◌||◌, List, [], ◌∷◌, ◌++◌, length, take, slice_get, swap, Option, Some, None, Result, Ok, Err, OnOk, OnErr, refl, sym, ap, ◌∙◌, subst, inl, inr, arith}
-use Rattle.std.specs.Prelude.{nat_eq, count_by, sum_by, filter, swap_remove, AllPairs, Contains, Vec}
+use Rattle.std.specs.Prelude.{nat_eq, count_by, sum_by, filter, swap_remove, IsSomeAnd, AllPairs, Contains, Vec}
 use Rattle.std.specs.Bool.{Decides}
 use Rattle.std.specs.Cmp.{IsEquivalence}
 use Rattle.std.specs.List.{IsDistinct, AllByRecursion}
@@ -21,29 +21,22 @@ use Rattle.marked_map.proofs.MarkedMapLemmas.{slice_get-swap_to}
 use Rattle.cfd_semantics.specs.declared.pattern.Pattern.{Pattern}
 use Rattle.cfd_semantics.specs.declared.pattern.Pattern.TheVariants.{Any, Is, In, NotIn}
 use Rattle.cfd_semantics.specs.declared.dependency.TableauRow.{TableauRow}
-use Rattle.cfd_semantics.specs.Pattern.{all_match}
+use Rattle.cfd_semantics.specs.Pattern.{all_match, is_set}
 use Rattle.cfd_semantics.specs.Violation.{Entry}
 use Rattle.cfd_semantics.specs.EntrySets.{HasOneARow}
 use Rattle.cfd_semantics.proofs.Members.{contains-here, contains-there, contains_nothing, contains_cases}
 use Rattle.group_index.specs.declared.group.Group.{Group}
 use Rattle.group_index.specs.declared.group.Group.TheVariants.{One}
-use Rattle.group_index.specs.declared.spread.Spread.{Spread}
-use Rattle.group_index.specs.declared.spread.Spread.TheVariants.{Nothing, Alike, Mixed}
-use Rattle.group_index.specs.declared.totals.Extent.{Extent}
 use Rattle.group_index.specs.declared.totals.Change.{Change}
-use Rattle.group_index.specs.Pairs.{Pair, pairs_of, is_pair, has_pair, is_mixed, IsSpread, IsPut, IsTaken, IsAlone, HaveTheSame}
+use Rattle.group_index.specs.Pairs.{Pair, pairs_of, is_pair, has_pair, IsPut, IsTaken, IsAlone, HaveTheSame, DifferAtMostBy}
 use Rattle.group_index.specs.Groups.{KeyedGroup, KeyedGroups, is_in}
 use Rattle.group_index.specs.Leads.{CountsListed, CountsMatching, AreSoMany}
-use Rattle.group_index.specs.Totals.{is_set, listed_among, tally, total, IsOnce, AreTotals, AreTotalsOf, IsKeptFor, IsExtent, HasExtentAt, are_several, part, part_at, AreChangedOrGone}
+use Rattle.group_index.specs.Totals.{listed_among, tally, total, IsOnce, AreTotals, AreTotalsOf, IsKeptFor, IsExtent, IsChange, Follows, HasExtentAt, AreChangedOrGone}
 use Rattle.group_index.proofs.GroupFacts.{same_key, set_value_at, key_at, no_key, stands_at, clash, isnt}
 use Rattle.group_index.proofs.PairFacts.{is_pair_flip, same_pair}
-use Rattle.group_index.proofs.CountFacts.{none_mixed, alike_unmixed, several_mixed, counts_mixed, counts_others, CountedSoFar, none_counted, counted_more, counted}
+use Rattle.group_index.proofs.CountFacts.{counts_mixed, counts_others, CountedSoFar, none_counted, counted_more, counted}
 use Rattle.group_index.proofs.CollectFacts.{contains_either}
 use Rattle.group_index.proofs.TestCounts.{counted_sides}
-
--- no pair but this one came or went
-abbrev pub DifferAtMostBy : Pair → List Pair → List Pair → Type 0
-DifferAtMostBy p old new = (q : Pair) → is_pair q p ≡ false → has_pair new q ≡ has_pair old q
 
 -- ---- a test that the pair which comes or goes doesn't pass
 
@@ -84,46 +77,25 @@ module _ (p : Pair) (old new : List Pair) (once_old : AllPairs (λ p q. p ≢ q)
       members : (q : Pair) → has_pair (filter f new) q ≡ has_pair (filter f old) q
       members q = any-filter_same (is_pair q) f (f q) (λ r is. ap f (same_pair q r is)) new ∙ by q (f q) refl ∙ sym (any-filter_same (is_pair q) f (f q) (λ r is. ap f (same_pair q r is)) old)
 
-several : (spread : Spread) (pairs : List Pair) → IsSpread pairs spread → is_mixed pairs ≡ are_several spread
-several Nothing pairs told = none_mixed Nothing refl pairs told
-several (Alike a) pairs told = alike_unmixed (Alike a) a refl pairs told
-several Mixed pairs told = several_mixed Mixed refl pairs told
-
 -- ---- one group changes
 
-module _ (p : Pair) (old new : List Pair) (before after : Extent) (is_old : IsExtent old before) (is_new : IsExtent new after) (differ : DifferAtMostBy p old new) where
-  listed_changed : (cell : Pattern ℕ) → listed_among cell new + part cell p.0 before ≡ listed_among cell old + part cell p.0 after
-  listed_changed Any = let one = whole old before is_old in let other = whole new after is_new in omega (arith, one, other)
-    where
-      whole : (pairs : List Pair) (extent : Extent) → IsExtent pairs extent → cond (is_mixed pairs) (length pairs) 0 ≡ cond (are_several extent.spread) extent.rows 0
-      whole pairs extent is = ap (λ b. cond b (length pairs) 0) (several extent.spread pairs is.spread) ∙ ap (λ n. cond (are_several extent.spread) n 0) (sym is.rows)
-  listed_changed (Is constant) = by (nat_eq p.0 constant) refl
-    where
-      others : Pair → Bool
-      others q = not (nat_eq constant q.0)
+module _ (change : Change) (old new : List Pair) (is : IsChange change old new) (constant : ℕ) where
+  kept : (f : Pair → Bool) → f (change.a, is.differ.0) ≡ false → count_by f new ≡ count_by f old
+  kept = count_kept (change.a, is.differ.0) old new is.before.once is.after.once is.differ.1
 
-      by : (b : Bool) → nat_eq p.0 constant ≡ b → count_by others new + cond b 0 before.rows ≡ count_by others old + cond b 0 after.rows
-      by true is =
-          let out : others p ≡ false = grind (arith, nat_tests, is) in
-          let kept = count_kept p old new is_old.once is_new.once differ others out in
-          omega (arith, kept)
-      by false apart =
-          let out : nat_eq constant p.0 ≡ false = grind (arith, nat_tests, apart) in
-          let kept = count_kept p old new is_old.once is_new.once differ (λ q. nat_eq constant q.0) out in
-          let one = counted_sides (λ (q : Pair). nat_eq constant q.0) old in
-          let other = counted_sides (λ (q : Pair). nat_eq constant q.0) new in
-          let from = is_old.rows in
-          let to = is_new.rows in
-          omega (arith, kept, one, other, from, to)
-  listed_changed (In members) = refl
-  listed_changed (NotIn members) = refl
+  -- the pair that comes or goes has the constant
+  pub others_kept : change.a ≡ constant → listed_among (Is constant) new ≡ listed_among (Is constant) old
+  others_kept same = kept (λ p. not (nat_eq constant p.0)) (grind (arith, nat_tests, same))
 
-  tally_changed : (t : TableauRow ℕ) (x : List ℕ) → tally t x new + part_at t x p.0 before ≡ tally t x old + part_at t x p.0 after
-  tally_changed t x = by (all_match nat_eq t.x x)
-    where
-      by : (b : Bool) → cond b (listed_among t.a new) 0 + cond b (part t.a p.0 before) 0 ≡ cond b (listed_among t.a old) 0 + cond b (part t.a p.0 after) 0
-      by true = listed_changed t.a
-      by false = refl
+  -- it has another A id
+  pub others_changed : change.a ≢ constant → listed_among (Is constant) new + change.before.rows ≡ listed_among (Is constant) old + change.after.rows
+  others_changed apart =
+      let same = kept (λ p. nat_eq constant p.0) (grind (arith, nat_tests, apart)) in
+      let one = counted_sides (λ (p : Pair). nat_eq constant p.0) old in
+      let other = counted_sides (λ (p : Pair). nat_eq constant p.0) new in
+      let from = is.before.rows in
+      let to = is.after.rows in
+      omega (arith, same, one, other, from, to)
 
 nothing_listed : (t : TableauRow ℕ) (x : List ℕ) → tally t x [] ≡ 0
 nothing_listed t x = by (all_match nat_eq t.x x) t.a
@@ -186,32 +158,35 @@ lone_differs p q apart = ap (λ b. b || false) apart
 
 -- ---- the numbers follow
 
-module _ (rows : List (TableauRow ℕ)) (x : List ℕ) (change : Change) (row : ℕ) (old new : List Pair) (is_old : IsExtent old change.before) (is_new : IsExtent new change.after) (differ : DifferAtMostBy (change.a, row) old new) where
+module _ (rows : List (TableauRow ℕ)) (x : List ℕ) (change : Change) (old new : List Pair) (is : IsChange change old new) where
   followed : (groups changed : List KeyedGroup) → ((t : TableauRow ℕ) → total t changed + tally t x old ≡ total t groups + tally t x new) → ((at : KeyedGroup) → Contains changed at → IsOnce at ⊎ Contains groups at)
       → (before after : Option (Vec ℕ Global)) → AreChangedOrGone rows x change before after → AreTotals rows groups before → AreTotals rows changed after
   followed groups changed sums from before None are was = tt
   followed groups changed sums from None (Some after) are was = absurd are
   followed groups changed sums from (Some before) (Some after) are was = record {
-    once = λ at inside. elim (from at inside) [ inl is ↦ is | inr there ↦ was.once at there ];
-    sums = λ k t stands. are k t (total t groups) stands (was.sums k t stands) ∙ ap Some (number t);
+    once = λ at inside. elim (from at inside) [ inl once ↦ once | inr there ↦ was.once at there ];
+    sums = λ k t stands. number t (slice_get after.items k) (are k t (total t groups) stands (was.sums k t stands));
   }
     where
-      number : (t : TableauRow ℕ) → (total t groups + part_at t x change.a change.after) - part_at t x change.a change.before ≡ total t changed
-      number t = let one = sums t in let other = tally_changed (change.a, row) old new change.before change.after is_old is_new differ t x in omega (arith, one, other)
+      number : (t : TableauRow ℕ) (there : Option ℕ) → IsSomeAnd there (Follows t x change (total t groups)) → there ≡ Some (total t changed)
+      number t None none = absurd none
+      number t (Some next) follows =
+          let one = sums t in
+          let other = follows old new is in
+          let same : next ≡ total t changed = omega (arith, one, other) in
+          ap Some same
 
-module _ (rows : List (TableauRow ℕ)) (change : Change) (row : ℕ) (pairs : List KeyedGroup) (place : ℕ) (key : SmallVec ℕ) (v w : Group) (at : slice_get pairs place ≡ Some (key, v)) (is_old : IsExtent (pairs_of v) change.before) (x : List ℕ) (own : key.items ≡ x) where
+module _ (rows : List (TableauRow ℕ)) (change : Change) (pairs : List KeyedGroup) (place : ℕ) (key : SmallVec ℕ) (v w : Group) (at : slice_get pairs place ≡ Some (key, v)) (x : List ℕ) (own : key.items ≡ x) where
   -- another group stands at the place
-  pub followed_set : IsExtent (pairs_of w) change.after → DifferAtMostBy (change.a, row) (pairs_of v) (pairs_of w)
-      → (before after : Option (Vec ℕ Global)) → AreChangedOrGone rows x change before after → AreTotals rows pairs before → AreTotals rows (set_value_at pairs place w) after
-  followed_set is_new differ = followed rows x change row (pairs_of v) (pairs_of w) is_old is_new differ pairs (set_value_at pairs place w)
+  pub followed_set : IsChange change (pairs_of v) (pairs_of w) → (before after : Option (Vec ℕ Global)) → AreChangedOrGone rows x change before after → AreTotals rows pairs before → AreTotals rows (set_value_at pairs place w) after
+  followed_set is = followed rows x change (pairs_of v) (pairs_of w) is pairs (set_value_at pairs place w)
       (λ t. subst (λ y. total t (set_value_at pairs place w) + tally t y (pairs_of v) ≡ total t pairs + tally t y (pairs_of w)) own (sum_by-set (counts_at t) pairs place key v w at))
-      (λ at_it inside. elim (contains_set pairs place key v w at at_it inside) [ inl is ↦ inl (subst IsOnce is is_new.once) | inr there ↦ inr there ])
+      (λ at_it inside. elim (contains_set pairs place key v w at at_it inside) [ inl here ↦ inl (subst IsOnce here is.after.once) | inr there ↦ inr there ])
 
   -- the group is taken away, whatever its last pairs
   pub followed_removed : (left : List KeyedGroup) → ((t : TableauRow ℕ) → sum_by (counts_at t) left + counts_at t (key, w) ≡ sum_by (counts_at t) (set_value_at pairs place w)) → ((it : KeyedGroup) → Contains left it → Contains pairs it)
-      → IsExtent [] change.after → DifferAtMostBy (change.a, row) (pairs_of v) []
-      → (before after : Option (Vec ℕ Global)) → AreChangedOrGone rows x change before after → AreTotals rows pairs before → AreTotals rows left after
-  followed_removed left less from is_new differ = followed rows x change row (pairs_of v) [] is_old is_new differ pairs left sums (λ it inside. inr (from it inside))
+      → IsChange change (pairs_of v) [] → (before after : Option (Vec ℕ Global)) → AreChangedOrGone rows x change before after → AreTotals rows pairs before → AreTotals rows left after
+  followed_removed left less from is = followed rows x change (pairs_of v) [] is pairs left sums (λ it inside. inr (from it inside))
     where
       sums : (t : TableauRow ℕ) → total t left + tally t x (pairs_of v) ≡ total t pairs + tally t x []
       sums t =
@@ -222,9 +197,9 @@ module _ (rows : List (TableauRow ℕ)) (change : Change) (row : ℕ) (pairs : L
           omega (arith, gone, set, none, same)
 
 -- a group with the pair alone comes last
-pub followed_entered : (rows : List (TableauRow ℕ)) (change : Change) (row : ℕ) (groups : List KeyedGroup) (key : SmallVec ℕ) (w : Group) (x : List ℕ) → key.items ≡ x → IsExtent [] change.before → IsExtent (pairs_of w) change.after → DifferAtMostBy (change.a, row) [] (pairs_of w)
+pub followed_entered : (rows : List (TableauRow ℕ)) (change : Change) (groups : List KeyedGroup) (key : SmallVec ℕ) (w : Group) (x : List ℕ) → key.items ≡ x → IsChange change [] (pairs_of w)
     → (before after : Option (Vec ℕ Global)) → AreChangedOrGone rows x change before after → AreTotals rows groups before → AreTotals rows (groups ++ (key, w) ∷ []) after
-followed_entered rows change row groups key w x own is_old is_new differ = followed rows x change row [] (pairs_of w) is_old is_new differ groups (groups ++ (key, w) ∷ []) sums from
+followed_entered rows change groups key w x own is = followed rows x change [] (pairs_of w) is groups (groups ++ (key, w) ∷ []) sums from
   where
     sums : (t : TableauRow ℕ) → total t (groups ++ (key, w) ∷ []) + tally t x [] ≡ total t groups + tally t x (pairs_of w)
     sums t =
@@ -236,7 +211,7 @@ followed_entered rows change row groups key w x own is_old is_new differ = follo
     from : (it : KeyedGroup) → Contains (groups ++ (key, w) ∷ []) it → IsOnce it ⊎ Contains groups it
     from it inside = elim (contains_either groups ((key, w) ∷ []) it inside) [
       | inl there ↦ inr there
-      | inr last ↦ elim (contains_cases it (key, w) [] last) [ inl is ↦ inl (subst IsOnce is is_new.once) | inr none ↦ absurd (contains_nothing it none) ]
+      | inr last ↦ elim (contains_cases it (key, w) [] last) [ inl here ↦ inl (subst IsOnce here is.after.once) | inr none ↦ absurd (contains_nothing it none) ]
     ]
 
 -- the same as the map enters it
@@ -249,7 +224,7 @@ followed_new rows change row old mid key stored place (inr (absent, _, is)) last
     let stands : slice_get mid.pairs place ≡ Some group = (λ i. slice_get (pairs i) (last i)) ∙ last_stands old.pairs group in
     let same : key ≡ stored = same_Some key stored (sym (key_at mid.pairs place group stands) ∙ at) in
     subst (λ groups. AreTotals rows groups after) (sym pairs)
-    (followed_entered rows change row old.pairs key (One change.a row) x (ap (λ (k : SmallVec ℕ). k.items) same ∙ sym own) is_old (is_new group stands) (lone_differs (change.a, row)) before after changed was)
+    (followed_entered rows change old.pairs key (One change.a row) x (ap (λ (k : SmallVec ℕ). k.items) same ∙ sym own) (record { before = is_old; after = is_new group stands; differ = (row, lone_differs (change.a, row)) }) before after changed was)
   where
     last_stands : (gs : List KeyedGroup) (g : KeyedGroup) → slice_get (gs ++ g ∷ []) (length gs) ≡ Some g
     last_stands [] g = refl

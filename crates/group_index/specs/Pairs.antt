@@ -1,5 +1,5 @@
 -- What a group holds: A ids, each with a row. When such a group is dirty, and what comes next in it.
-use Rattle.std.specs.Prelude.{◌≡◌, ◌≢◌, ℕ, ◌<◌, ◌≤◌, ◌⊎◌, Bool, ◌==◌, ◌&&◌, ◌||◌, not, nat_eq, List, [], ◌∷◌, Contains, Option, Some, None}
+use Rattle.std.specs.Prelude.{◌≡◌, ◌≢◌, ℕ, ◌<◌, ◌≤◌, ◌⊎◌, Bool, false, ◌==◌, ◌&&◌, ◌||◌, not, nat_eq, List, [], ◌∷◌, Contains, Option, Some, None}
 use Rattle.std.specs.List.{list_any}
 use Rattle.cfd_semantics.specs.declared.pattern.Pattern.{Pattern}
 use Rattle.cfd_semantics.specs.declared.dependency.TableauRow.{TableauRow}
@@ -36,6 +36,10 @@ IsTaken old new p = (q : Pair) → has_pair new q ≡ (not (is_pair q p) && has_
 
 abbrev pub HaveTheSame : List Pair → List Pair → Type 0
 HaveTheSame old new = (q : Pair) → has_pair new q ≡ has_pair old q
+
+-- no pair but this one came or went
+abbrev pub DifferAtMostBy : Pair → List Pair → List Pair → Type 0
+DifferAtMostBy p old new = (q : Pair) → is_pair q p ≡ false → has_pair new q ≡ has_pair old q
 
 -- no other pair is there
 abbrev pub IsAlone : List Pair → Pair → Type 0

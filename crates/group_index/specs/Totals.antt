@@ -1,24 +1,15 @@
 -- How many violations each tableau row has, kept in step with the groups.
-use Rattle.std.specs.Prelude.{◌≡◌, ◌≢◌, ℕ, ◌+◌, ◌-◌, Bool, true, false, not, cond, nat_eq, List, length, count_by, sum_by, Option, None, Some, slice_get, AllPairs, Contains, Vec}
+use Rattle.std.specs.Prelude.{◌≡◌, ◌≢◌, ℕ, ◌+◌, false, not, cond, nat_eq, List, length, count_by, sum_by, Option, None, Some, slice_get, IsSomeAnd, AllPairs, Contains, Vec}
 use Rattle.std.specs.declared.alloc.Global.{Global}
 use Rattle.smallvec.specs.SmallVec.{SmallVec}
 use Rattle.cfd_semantics.specs.declared.pattern.Pattern.{Pattern}
 use Rattle.cfd_semantics.specs.declared.pattern.Pattern.TheVariants.{Any, Is, In, NotIn}
 use Rattle.cfd_semantics.specs.declared.dependency.TableauRow.{TableauRow}
-use Rattle.cfd_semantics.specs.Pattern.{all_match}
+use Rattle.cfd_semantics.specs.Pattern.{all_match, is_set}
 use Rattle.group_index.specs.declared.group.Group.{Group}
-use Rattle.group_index.specs.declared.spread.Spread.{Spread}
-use Rattle.group_index.specs.declared.spread.Spread.TheVariants.{Nothing, Alike, Mixed}
 use Rattle.group_index.specs.declared.totals.Extent.{Extent}
 use Rattle.group_index.specs.declared.totals.Change.{Change}
-use Rattle.group_index.specs.Pairs.{Pair, pairs_of, is_mixed, IsSpread}
-
--- the cell is a set, for whose rows no number is kept
-abbrev pub is_set : Pattern ℕ → Bool
-is_set Any = false
-is_set (Is constant) = false
-is_set (In members) = true
-is_set (NotIn members) = true
+use Rattle.group_index.specs.Pairs.{Pair, pairs_of, is_mixed, IsSpread, DifferAtMostBy}
 
 -- How many pairs of a group are listed: for `_` all where two A ids stand there, for a constant those with another one.
 abbrev pub listed_among : Pattern ℕ → List Pair → ℕ
@@ -66,29 +57,20 @@ pub record IsExtent (pairs : List Pair) (extent : Extent) : Type 0 where
 abbrev pub HasExtentAt : List (SmallVec ℕ × Group) → ℕ → Extent → Type 0
 HasExtentAt groups place extent = (at : SmallVec ℕ × Group) → slice_get groups place ≡ Some at → IsExtent (pairs_of at.1) extent
 
-abbrev pub are_several : Spread → Bool
-are_several Nothing = false
-are_several (Alike a) = false
-are_several Mixed = true
+-- the group went from the pairs old to the pairs new: at most one came or went, and that has the A id
+pub record IsChange (change : Change) (old new : List Pair) : Type 0 where
+  pub before : IsExtent old change.before
+  pub after : IsExtent new change.after
+  pub differ : (row : ℕ) × DifferAtMostBy (change.a, row) old new
 
--- What a group counts for as far as a pair with the A id can change that: for `_` what it counts for, for a constant all its
--- pairs where that pair has another A id, and none where it has that one.
-abbrev pub part : Pattern ℕ → ℕ → Extent → ℕ
-part Any a extent = cond (are_several extent.spread) extent.rows 0
-part (Is constant) a extent = cond (nat_eq a constant) 0 extent.rows
-part (In members) a extent = 0
-part (NotIn members) a extent = 0
+-- A number follows the change of a group with the key: it grows by what the group counts for after it, and loses what it
+-- counted for before.
+abbrev pub Follows : TableauRow ℕ → List ℕ → Change → ℕ → ℕ → Type 0
+Follows t x change count next = (old new : List Pair) → IsChange change old new → next + tally t x old ≡ count + tally t x new
 
-abbrev pub part_at : TableauRow ℕ → List ℕ → ℕ → Extent → ℕ
-part_at t x a extent = cond (all_match nat_eq t.x x) (part t.a a extent) 0
-
--- the number of the tableau row once a group with the key changed
-abbrev pub count_after : TableauRow ℕ → List ℕ → Change → ℕ → ℕ
-count_after t x change count = (count + part_at t x change.a change.after) - part_at t x change.a change.before
-
--- all numbers
+-- all numbers do
 abbrev pub AreChanged : List (TableauRow ℕ) → List ℕ → Change → List ℕ → List ℕ → Type 0
-AreChanged rows x change old new = (k : ℕ) (t : TableauRow ℕ) (count : ℕ) → slice_get rows k ≡ Some t → slice_get old k ≡ Some count → slice_get new k ≡ Some (count_after t x change count)
+AreChanged rows x change old new = (k : ℕ) (t : TableauRow ℕ) (count : ℕ) → slice_get rows k ≡ Some t → slice_get old k ≡ Some count → IsSomeAnd (slice_get new k) (Follows t x change count)
 
 -- the same as long as they are kept
 abbrev pub AreChangedOrGone : List (TableauRow ℕ) → List ℕ → Change → Option (Vec ℕ Global) → Option (Vec ℕ Global) → Type 0

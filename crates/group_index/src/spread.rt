@@ -1,7 +1,6 @@
 //! How the A ids of a group spread: all that it takes, beside the key, to tell whether the group is dirty.
 ghost use Rattle.std.specs.Prelude.{◌≡◌, List};
 ghost use Rattle.group_index.specs.Pairs.{Pair, pairs_of, IsSpread, is_mixed, is_dirty};
-ghost use Rattle.group_index.specs.Totals.{are_several};
 
 use crate::group::Group;
 use crate::tableau::Tableau;
@@ -31,8 +30,7 @@ impl Spread {
 
     /// Whether there are several.
     pub(crate) fn is_mixed(self) -> bool
-        ensures several { result ≡ are_several self }
-        ensures mixed { (pairs : List Pair) → IsSpread pairs self → result ≡ is_mixed pairs }
+        ensures { (pairs : List Pair) → IsSpread pairs self → result ≡ is_mixed pairs }
     {
         match self {
             Spread::Nothing => false,

@@ -2,9 +2,10 @@
 //!
 //! A row that comes or goes changes the numbers by what the size of its group and the spread of the A ids there tell, so the
 //! other rows of the group aren't gone over. That is so where the right cell is `_` or a constant; for a set nothing is kept.
-ghost use Rattle.std.specs.Prelude.{◌≡◌, [], IfSome};
-ghost use Rattle.group_index.specs.Pairs.{pairs_of};
-ghost use Rattle.group_index.specs.Totals.{AreChanged, AreChangedOrGone, AreTotals, IsExtent, IsKeptFor, count_after, part};
+ghost use Rattle.std.specs.Prelude.{◌≡◌, ◌+◌, List, [], IfSome};
+ghost use Rattle.cfd_semantics.specs.declared.pattern.Pattern.TheVariants.{Any};
+ghost use Rattle.group_index.specs.Pairs.{Pair, pairs_of};
+ghost use Rattle.group_index.specs.Totals.{AreChanged, AreChangedOrGone, AreTotals, Follows, IsChange, IsExtent, IsKeptFor, listed_among};
 
 use crate::group::Group;
 use crate::index::{IdCell, IdRow};
@@ -42,6 +43,13 @@ impl Extent {
             spread: Spread::of(group),
         }
     }
+
+    // How many rows of the group are listed where the cell is `_`: all or none.
+    fn listed_for_any(self) -> usize
+        ensures { (pairs : List Pair) → IsExtent pairs self → result ≡ listed_among Any pairs }
+    {
+        if self.spread.is_mixed() { self.rows } else { 0 }
+    }
 }
 
 /// What a row with this A id makes of its group as it comes or goes.
@@ -55,18 +63,31 @@ pub(crate) struct Change {
 impl Change {
     // The number of a tableau row once a group with this key changed.
     fn count_after(self, row: &IdRow, x: &[ValueId], count: usize) -> Option<usize>
-        ensures { IfSome result (λ new. new ≡ count_after row.now x.now self count) }
+        ensures { IfSome result (Follows row.now x.now self count) }
     {
         if !matches_all(row.x.as_slice(), x) {
             return Some(count);
         }
-        let more = count.checked_add(part(&row.a, self.a, self.after))?;
-        more.checked_sub(part(&row.a, self.a, self.before))
+        let (before, after) = self.parts(&row.a);
+        count.checked_add(after)?.checked_sub(before)
+    }
+
+    // Two numbers, before the change and after it, that are as far apart as how many rows of the group are listed. Where the
+    // cell is a constant, a row that has it is never listed, and others always are: so the numbers of all rows tell, unless
+    // the row that comes or goes has it, which changes nothing.
+    fn parts(self, cell: &IdCell) -> (usize, usize)
+        ensures { (old new : List Pair) → IsChange self old new → listed_among cell.now new + result.0 ≡ listed_among cell.now old + result.1 }
+    {
+        match cell {
+            Pattern::Any => (self.before.listed_for_any(), self.after.listed_for_any()),
+            Pattern::Is(constant) if self.a != *constant => (self.before.rows, self.after.rows),
+            Pattern::Is(_) | Pattern::In(_) | Pattern::NotIn(_) => (0, 0),
+        }
     }
 }
 
 /// How many violations each tableau row has. None where the tableau has many rows, so that a change costs a look at a few at
-/// most; where there was no memory for the numbers; and from when one went beyond its type on.
+/// most; where there was no memory for the numbers; and once one went beyond its type.
 #[derive(Drop)]
 pub(crate) struct Totals {
     counts: Option<Vec<usize>>,
@@ -89,10 +110,10 @@ impl Totals {
     pub(crate) fn of_row(&self, row: &IdRow, k: usize) -> Option<usize>
         ensures { IfSome result (IsKeptFor self.now.counts row.now k) }
     {
-        match row.a {
-            Pattern::Any | Pattern::Is(_) => self.counts.as_ref()?.get(k).copied(),
-            Pattern::In(_) | Pattern::NotIn(_) => None,
+        if row.a.is_set() {
+            return None;
         }
+        self.counts.as_ref()?.get(k).copied()
     }
 
     /// Follows a change of the group with this key.
@@ -118,23 +139,4 @@ fn changed(
         counts[k] = change.count_after(&rows[k], x, count)?;
     }
     Some(counts)
-}
-
-// How many rows of a group are listed, as far as a row with this A id that comes or goes can change that. Where the cell is
-// `_`, all are or none is. Where it is a constant, a row that has it is never listed, and others always are: so the number of
-// all rows tells by how much that of the listed ones changes.
-fn part(cell: &IdCell, a: ValueId, extent: Extent) -> usize
-    ensures { result ≡ part cell.now a extent }
-{
-    match cell {
-        Pattern::Any => {
-            if extent.spread.is_mixed() {
-                extent.rows
-            } else {
-                0
-            }
-        }
-        Pattern::Is(constant) => { if a == *constant { 0 } else { extent.rows } }
-        Pattern::In(_) | Pattern::NotIn(_) => 0,
-    }
 }

@@ -3,7 +3,7 @@ use Rattle.std.proofs.lemmas.Option.{same_Some}
 use Rattle.smallvec.specs.SmallVec.{SmallVec}
 use Rattle.group_index.specs.declared.totals.Change.{Change}
 use Rattle.group_index.specs.Pairs.{pairs_of}
-use Rattle.group_index.specs.Totals.{AreChangedOrGone}
+use Rattle.group_index.specs.Totals.{IsChange, AreChangedOrGone}
 use Rattle.group_index.proofs.GroupFacts.{set_value_at, set_here, set_as_long, key_at, value_stands, content_put, content_same, key_from}
 use Rattle.group_index.proofs.MarkFacts.{marked_but_written}
 use Rattle.group_index.proofs.SpreadFacts.{marked_as_before}
@@ -36,10 +36,14 @@ returns-clause-totals c =
     let key : at.0 ≡ c.key_at.result.now = same_Some at.0 c.key_at.result.now (sym (key_at (set_value_at pairs c.args.place c.put-put.new.self) c.args.place (at.0, c.put-put.new.self) now) ∙ c.key_at.ensures) in
     let own = ap (λ (k : SmallVec _). k.items) key ∙ sym c.as_slice-2.ensures in
     let change : Change = record { a = c.args.a; before = c.extent_at-before.result; after = c.extent_at-after.result } in
+    let is : IsChange change (pairs_of c.value_at_mut.result.now) (pairs_of c.put-put.new.self) = record {
+      before = c.extent_at-before.ensures (at.0, c.value_at_mut.result.now) at.1;
+      after = c.extent_at-after.ensures (at.0, c.put-put.new.self) now;
+      differ = (c.args.row, put_differs c.put-put.result (c.args.a, c.args.row) (pairs_of c.value_at_mut.result.now) (pairs_of c.put-put.new.self) c.put-put.ensures.ok c.put-put.ensures.err);
+    } in
     let changed = subst (λ rows. AreChangedOrGone rows c.as_slice-2.result.now change c.args.totals.now.counts c.follow.new.self.counts) c.as_slice.ensures c.follow.ensures in
     followed_moved c.args.rows.now (set_value_at pairs c.args.place c.put-put.new.self) c.settle_again.new.groups.pairs c.settle_again.ensures.moved c.follow.new.self.counts
-    (followed_set c.args.rows.now change c.args.row pairs c.args.place at.0 c.value_at_mut.result.now c.put-put.new.self at.1 (c.extent_at-before.ensures (at.0, c.value_at_mut.result.now) at.1) c.as_slice-2.result.now own
-    (c.extent_at-after.ensures (at.0, c.put-put.new.self) now) (put_differs c.put-put.result (c.args.a, c.args.row) (pairs_of c.value_at_mut.result.now) (pairs_of c.put-put.new.self) c.put-put.ensures.ok c.put-put.ensures.err) c.args.totals.now.counts c.follow.new.self.counts changed c.requires.totals)
+    (followed_set c.args.rows.now change pairs c.args.place at.0 c.value_at_mut.result.now c.put-put.new.self at.1 c.as_slice-2.result.now own is c.args.totals.now.counts c.follow.new.self.counts changed c.requires.totals)
 
 pub returns-clause-ok : goal.returns-clause-ok
 returns-clause-ok c =

@@ -1,10 +1,10 @@
-use Rattle.std.proofs.Common.{◌+◌, ◌≡◌, sym, ap, ◌∙◌, subst, arith}
+use Rattle.std.proofs.Common.{◌+◌, ◌≡◌, [], sym, ap, ◌∙◌, subst, arith}
 use Rattle.std.specs.Prelude.{sum_by}
 use Rattle.std.proofs.lemmas.Option.{same_Some}
 use Rattle.group_index.specs.declared.totals.Change.{Change}
 use Rattle.group_index.specs.Groups.{KeyedGroup}
 use Rattle.group_index.specs.Pairs.{pairs_of, IsTaken}
-use Rattle.group_index.specs.Totals.{AreChangedOrGone}
+use Rattle.group_index.specs.Totals.{IsChange, AreChangedOrGone}
 use Rattle.group_index.proofs.AnswerFacts.{kept_answer}
 use Rattle.group_index.proofs.GroupFacts.{set_value_at, set_here, equal_ids, pair_at, set_as_long, content_taken}
 use Rattle.group_index.proofs.MarkFacts.{marked_but_written}
@@ -50,13 +50,18 @@ returns-then-take-clause-totals g c =
     let e = c.remove_at.ensures in
     let change : Change = record { a = c.args.a; before = c.extent_at-before.result; after = c.nothing-after.result } in
     let x = c.as_slice-then-take.result.now in
+    let is : IsChange change (pairs_of v) [] = record {
+      before = c.extent_at-before.ensures (has.0, v) at;
+      after = c.nothing-after.ensures;
+      differ = (c.args.row, alone_differs (c.args.a, c.args.row) (pairs_of v) (c.take.ensures.last c.if-take.true));
+    } in
     let changed = subst (λ rows. AreChangedOrGone rows x change c.args.totals.now.counts c.follow.new.self.counts) c.as_slice.ensures c.follow.ensures in
     let gone : ◌≡◌ {A = KeyedGroup} c.remove_at.result (has.0, w) = sym (same_Some (has.0, w) c.remove_at.result (sym (set_here pairs place has.0 v w at) ∙ e.taken)) in
-    followed_removed c.args.rows.now change c.args.row pairs place has.0 v w at (c.extent_at-before.ensures (has.0, v) at) x (sym (equal_ids c.args.key.now.items has.0.items has.2) ∙ sym c.as_slice-then-take.ensures) c.remove_at.new.self.pairs
+    followed_removed c.args.rows.now change pairs place has.0 v w at x (sym (equal_ids c.args.key.now.items has.0.items has.2) ∙ sym c.as_slice-then-take.ensures) c.remove_at.new.self.pairs
     (λ t. ap (λ (h : KeyedGroup). sum_by (counts_at t) c.remove_at.new.self.pairs + counts_at t h) (sym gone)
     ∙ sum_without (counts_at t) (record { pairs = set_value_at pairs place w; marked = c.args.groups.now.marked }) c.remove_at.new.self place c.remove_at.result e.taken (λ low. omega (arith, c.marked-marked.ensures.within, set_as_long pairs place w)) e.unmarked e.marked)
     (left_was_there c.args.groups.now c.remove_at.new.self place has.0 v w c.remove_at.result at c.find.ensures.distinct e.taken e.others e.gone)
-    c.nothing-after.ensures (alone_differs (c.args.a, c.args.row) (pairs_of v) (c.take.ensures.last c.if-take.true)) c.args.totals.now.counts c.follow.new.self.counts changed c.requires.totals
+    is c.args.totals.now.counts c.follow.new.self.counts changed c.requires.totals
 
 pub returns-then-take-clause-left : goal.returns-then-take-clause-left
 returns-then-take-clause-left g c =
@@ -76,11 +81,14 @@ returns-else-take-clause-totals g c =
     let at = pair_at pairs place has.0 v has.1 c.value_at_mut.ensures.value in
     let change : Change = record { a = c.args.a; before = c.extent_at-before.result; after = c.extent_at-after.result } in
     let x = c.as_slice-else-take-2.result.now in
+    let is : IsChange change (pairs_of v) (pairs_of w) = record {
+      before = c.extent_at-before.ensures (has.0, v) at;
+      after = c.extent_at-after.ensures (has.0, w) (set_here pairs place has.0 v w at);
+      differ = (c.args.row, taken_differs (c.args.a, c.args.row) (pairs_of v) (pairs_of w) (kept_answer c.take.result (IsTaken (pairs_of v) (pairs_of w) (c.args.a, c.args.row)) c.take.ensures.left c.if-take.false));
+    } in
     let changed = subst (λ rows. AreChangedOrGone rows x change c.args.totals.now.counts c.follow-else-take.new.self.counts) c.as_slice-else-take.ensures c.follow-else-take.ensures in
     followed_moved c.args.rows.now (set_value_at pairs place w) c.settle_again.new.groups.pairs c.settle_again.ensures.moved c.follow-else-take.new.self.counts
-    (followed_set c.args.rows.now change c.args.row pairs place has.0 v w at (c.extent_at-before.ensures (has.0, v) at) x (sym (equal_ids c.args.key.now.items has.0.items has.2) ∙ sym c.as_slice-else-take-2.ensures)
-    (c.extent_at-after.ensures (has.0, w) (set_here pairs place has.0 v w at))
-    (taken_differs (c.args.a, c.args.row) (pairs_of v) (pairs_of w) (kept_answer c.take.result (IsTaken (pairs_of v) (pairs_of w) (c.args.a, c.args.row)) c.take.ensures.left c.if-take.false)) c.args.totals.now.counts c.follow-else-take.new.self.counts changed c.requires.totals)
+    (followed_set c.args.rows.now change pairs place has.0 v w at x (sym (equal_ids c.args.key.now.items has.0.items has.2) ∙ sym c.as_slice-else-take-2.ensures) is c.args.totals.now.counts c.follow-else-take.new.self.counts changed c.requires.totals)
 
 pub returns-else-take-clause-left : goal.returns-else-take-clause-left
 returns-else-take-clause-left g c e =
