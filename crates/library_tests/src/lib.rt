@@ -25,6 +25,4 @@ mod printed_rules;
 #[cfg(test)]
 mod printed_schemas;
 #[cfg(test)]
-mod rule_lines;
-#[cfg(test)]
 mod rule_refusals;
