@@ -11,8 +11,6 @@ mod edit_refusals;
 #[cfg(test)]
 mod fix_runs;
 #[cfg(test)]
-mod fix_setup;
-#[cfg(test)]
 mod found_limits;
 #[cfg(test)]
 mod marked_walks;
