@@ -131,7 +131,7 @@ fn edit(alloc: Global, line: &str) -> Result<Edit, AllocError> {
 
 /// The rows of the first table.
 fn push_rows(alloc: Global, bench: &Bench, out: &mut String) -> Result<(), AllocError> {
-    if bench.rules().schema().tables.as_slice().is_empty() {
+    if bench.table_count() == 0 {
         return Ok(());
     }
     let rows = bench.rows(0)?;
