@@ -1,17 +1,13 @@
--- Master rows that tests put one after another into an index for the rules of a book.
-use Rattle.std.proofs.Common.{◌≡◌, ℕ, ◌<◌, Bool, true, false, List, [], length, get_or, map, cond, Option, Some, Result, Ok, Err, refl, sym, ap, ◌∙◌, subst, ⊎_elim, arith}
-use Rattle.std.specs.Prelude.{◌==◌, ◌&&◌, Contains, IfSome, OnOk, OnErr, slice_get}
+-- Master rows that tests put into an index for the rules of a book.
+use Rattle.std.proofs.Common.{◌≡◌, ℕ, ◌<◌, Bool, true, false, List, length, get_or, map, cond, Option, Some, sym, ap, ◌∙◌, subst, ⊎_elim, arith}
+use Rattle.std.specs.Prelude.{◌==◌, ◌&&◌, Contains, IfSome}
 use Rattle.std.specs.FinMap as finite
 use Rattle.std.specs.List.{All}
-use Rattle.std.specs.Option.{option_map_or}
 use Rattle.std.proofs.lemmas.Bool.Decides.{eqb_tells}
 use Rattle.std.proofs.Math.ListN.{get_or-map}
 use Rattle.std.proofs.lemmas.List.{length-map}
 use Rattle.std.proofs.lemmas.List.Elements.{All-map, Contains-get_or}
-use Rattle.std.proofs.lemmas.Option.{slice_get_read}
 use Rattle.schema_core.specs.Lookups.{attrs_at}
-use Rattle.schema_core.specs.declared.schema.Attr.{Attr}
-use Rattle.schema_core.specs.declared.schema.Table.{Table}
 use Rattle.rule_model.specs.declared.edit_rule.EditRule.{EditRule}
 use Rattle.rule_model.specs.Books.{Book, IsBook, book_edits}
 use Rattle.master_index.specs.declared.column_list.ColumnList.{ColumnList}
@@ -34,13 +30,6 @@ wide_for rules table ids book width =
     let rule = get_or (book_edits rules) k d in
     let here : length (attrs_at rules.schema rule.master) ≡ length ids = ap (λ t. length (attrs_at rules.schema t)) same ∙ sym width in
     subst (λ n. All (λ column. column < n) rule.xm) here (book.edits k d within).xm)
-
--- a tuple of ids of the pool that is as wide as a table that is read
-pub tuple_in : (rules : Book) (pool : List (List ℕ)) (tables : List Table) (table : ℕ) (t : Table) (ids : List ℕ) → tables ≡ rules.schema.tables → table < length rules.schema.tables → t ≡ get_or tables table t → length ids ≡ length t.attrs → All (λ id. id < length pool) ids → IsTupleIn rules pool table ids
-tuple_in rules pool tables table t ids same within is width below =
-    let here : slice_get rules.schema.tables table ≡ Some t = slice_get_read rules.schema.tables (length rules.schema.tables) table t refl within (subst (λ (ts : List Table). t ≡ get_or ts table t) same is) in
-    let attrs : attrs_at rules.schema table ≡ t.attrs = ap (λ o. option_map_or (λ (u : Table). u.attrs) o []) here in
-    record { width = width ∙ sym (ap (λ (held : List Attr). length held) attrs); ids = below }
 
 -- no rows yet
 pub no_masters : (rules : Book) (pool : List (List ℕ)) (masters : Masters) → masters.lists ≡ lists_of rules → masters.rows ≡ finite.empty → AreMasters rules pool masters
@@ -71,15 +60,3 @@ masters-put rules pool old new table row ids are lists rows is_tuple = record {
       (eqb_tells t table));
   columns = subst (λ (ls : List ColumnList). All (λ (rule : EditRule). Contains ls (list_of rule)) (book_edits rules)) (sym lists) are.columns;
 }
-
--- the same where nothing changed
-pub masters-same : (rules : Book) (pool : List (List ℕ)) (old new : Masters) → AreMasters rules pool old → new.lists ≡ old.lists → new.rows ≡ old.rows → AreMasters rules pool new
-masters-same rules pool old new are lists rows = record {
-  rows = λ t r. subst (λ (rs : MasterRows). IfSome (finite.get rs (t, r)) (IsTupleIn rules pool t)) (sym rows) (are.rows t r);
-  columns = subst (λ (ls : List ColumnList). All (λ (rule : EditRule). Contains ls (list_of rule)) (book_edits rules)) (sym lists) are.columns;
-}
-
--- whatever came of adding the row
-pub masters-add : {T E : Type 0} (r : Result T E) (rules : Book) (pool : List (List ℕ)) (old new : Masters) (table row : ℕ) (ids : List ℕ) → AreMasters rules pool old → IsTupleIn rules pool table ids → new.lists ≡ old.lists → OnOk r (new.rows ≡ finite.insert old.rows (table, row) ids) → OnErr r (new.rows ≡ old.rows) → AreMasters rules pool new
-masters-add (Ok t) rules pool old new table row ids are is_tuple lists ok err = masters-put rules pool old new table row ids are lists ok is_tuple
-masters-add (Err e) rules pool old new table row ids are is_tuple lists ok err = masters-same rules pool old new are lists err

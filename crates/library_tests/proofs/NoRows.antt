@@ -1,16 +1,11 @@
 -- A list of no rows for each table.
-use Rattle.std.proofs.Common.{◌≡◌, ℕ, ◌+◌, ◌<◌, List, [], ◌∷◌, ◌++◌, length, take, get_or, All, ap, arith, ◌==◌, false}
-use Rattle.std.proofs.lemmas.Bool.{eqb-false}
+use Rattle.std.proofs.Common.{◌≡◌, ℕ, ◌+◌, ◌<◌, List, [], ◌∷◌, ◌++◌, length, take, get_or, All}
 use Rattle.std.specs.List.{AllZip}
 use Rattle.std.proofs.lemmas.List.{take_more}
 use Rattle.std.proofs.lemmas.List.Elements.{All-nil}
-use Rattle.std.proofs.lemmas.Slice.Zip.{AllZip-long, all_zipped_more}
+use Rattle.std.proofs.lemmas.Slice.Zip.{all_zipped_more}
 use Rattle.schema_core.specs.Rows.{IsRowOf}
 use Rattle.schema_core.specs.declared.schema.Table.{Table}
-use Rattle.text_lists.specs.declared.limits.Limits.{Limits}
-use Rattle.rule_model.specs.Books.{Book}
-use Rattle.bench_core.specs.State.{State}
-use Rattle.bench_core.specs.Bench.{IsBench}
 use Rattle.bench_core.specs.Loading.{Tuples}
 
 -- one more table
@@ -20,11 +15,3 @@ pub no_rows-more : (tables : List Table) (all : List Tuples) (i : ℕ) (table : 
 no_rows-more tables all i table within is so_far cell_bytes =
     let fits : Table → Tuples → Type 0 = λ table rows. All (IsRowOf table.attrs cell_bytes) rows in
     rw (take_more tables i table within, ← is) (all_zipped_more fits (take i tables) all table [] (so_far cell_bytes) (All-nil (IsRowOf table.attrs cell_bytes)))
-
--- a bench whose schema has a table has a state for it
-pub has_first : {rules : Book} {limits : Limits} {state : State} → IsBench rules limits state → (tables : List Table) → tables ≡ rules.schema.tables → (length tables == 0) ≡ false → 0 < length state
-has_first {rules} {limits} {state} bench tables all some =
-    let long : length state ≡ length rules.schema.tables = AllZip-long _ _ _ bench.tables in
-    let same : length tables ≡ length rules.schema.tables = ap length all in
-    let more : length tables ≡ 0 → ⊥ = eqb-false (length tables) 0 some in
-    omega arith

