@@ -20,8 +20,8 @@ use Rattle.cfd_semantics.proofs.SetFacts.{least_partner_of_set, no_partner_of_se
 use Rattle.row_store.specs.Watch.{IsWide}
 use Rattle.group_index.specs.GroupSet.{GroupSet, holds_entry}
 use Rattle.group_index.specs.Answers.{IsPartnerOf}
-use Rattle.group_index.specs.Keys.{ids_at}
 use Rattle.group_index.proofs.OwnEntries.{entry_there}
+use Rattle.row_store.specs.Tuple.{ids_at}
 use Rattle.bench_index.specs.ByIds.{text_of, HasText, IsRowByIds}
 use Rattle.bench_index.specs.Lists.{text_of_cell, texts_at}
 use Rattle.bench_index.proofs.InTexts.{kept_apart, row-texts, row-known}

@@ -29,10 +29,11 @@ use Rattle.cind_index.specs.declared.index.CindIndex.{CindIndex}
 use Rattle.cind_index.specs.declared.side.Side.{Side}
 use Rattle.cind_index.specs.declared.side.Side.TheVariants.{Left, Right}
 use Rattle.cind_index.specs.KeysHeld.{held, lefts, rights}
-use Rattle.cind_index.specs.Entries.{CindEntry, key_on, pattern_on, table_on, gives_on, gives_entry, ids_in}
+use Rattle.cind_index.specs.Entries.{CindEntry, key_on, pattern_on, table_on, gives_on, gives_entry}
 use Rattle.cind_index.specs.Index.{made_of}
 use Rattle.cind_index.proofs.OwnEntries.{values_there}
 use Rattle.cind_index.proofs.SideFacts.{wide_front, wide_back}
+use Rattle.row_store.specs.Tuple.{ids_at}
 use Rattle.bench_index.specs.ByIds.{text_of, IsDependencyByIds, IsInclusionByIds}
 use Rattle.bench_index.specs.InStep.{AreInStep}
 use Rattle.bench_index.specs.Watching.{group_watch, cind_watch}
@@ -178,7 +179,7 @@ module _ (index : BenchIndex) (number : ℕ) (s : CindIndex) (here : slice_get i
       let rule = s.rule in
       let ls = left_entries rule left_rows in
       let rs = right_entries rule right_rows in
-      let left : SideEntry ℕ = record { key = ids_in ids rule.x; pattern = ids_in ids rule.xp; row = row } in
+      let left : SideEntry ℕ = record { key = ids_at ids rule.x; pattern = ids_at ids rule.xp; row = row } in
       let is : left_entry_of rule (row, ids) ≡ Some left =
       side_from_parts rule.x rule.xp (row, ids) left.key left.pattern (values_there ids rule.x (wide_front rule.x rule.xp ids wide)) (values_there ids rule.xp (wide_back rule.x rule.xp ids wide)) in
       let inside : Contains ls left = contains-filter_map (left_entry_of rule) left_rows (row, ids) left ((are_lefts.rows-at.found row ids).0 there) is in

@@ -23,13 +23,13 @@ use Rattle.cfd_semantics.specs.EntrySets.{IsUnanswered, IsOrphan}
 use Rattle.cfd_semantics.proofs.SideLists.{side_parts}
 use Rattle.cfd_semantics.proofs.Members.{contains-here, contains-there, contains_nothing, contains_cases}
 use Rattle.cfd_semantics.proofs.InclusionLaw.{found_by_any, any_from_found, both_true}
+use Rattle.row_store.specs.Tuple.{ids_at}
 use Rattle.cind_index.specs.declared.side.Side.TheVariants.{Left, Right}
 use Rattle.cind_index.specs.declared.key_rows.KeyRows.{KeyRows}
 use Rattle.cind_index.specs.RowsHeld.{has, has_some, rows_on, lacks_answer, is_dirty}
 use Rattle.cind_index.specs.KeysHeld.{Ids, KeyedRows, is_under, lefts, rights, AreMarkedRight}
 use Rattle.cind_index.specs.Orphans.{AreOrphans, IsDirtyCount}
 use Rattle.row_store.specs.Watch.{IsWide}
-use Rattle.cind_index.specs.Entries.{ids_in}
 use Rattle.cind_index.proofs.OwnEntries.{values_there}
 use Rattle.cind_index.proofs.SideFacts.{wide_front, wide_back}
 use Rattle.cind_index.proofs.MapFacts.{equal_lists, same_list}
@@ -243,11 +243,11 @@ no_key_answers m k t left key absent right there = never (answers nat_eq t left 
     clash (bytes_eq k.items found.0.0.items) (ap (bytes_eq k.items) (sym same) ∙ same_list k.items) (absent found.1 found.0.0 (key_there m.pairs found.1 found.0 found.2)))
 
 -- what a wide tuple gives on the left
-pub own_left : (rule : Inclusion ℕ) (row : ℕ) (ids : List ℕ) (left : SideEntry ℕ) → IsWide (rule.x ++ rule.xp) ids → left_entry_of rule (row, ids) ≡ Some left → (ids_in ids rule.x ≡ left.key) × (ids_in ids rule.xp ≡ left.pattern)
+pub own_left : (rule : Inclusion ℕ) (row : ℕ) (ids : List ℕ) (left : SideEntry ℕ) → IsWide (rule.x ++ rule.xp) ids → left_entry_of rule (row, ids) ≡ Some left → (ids_at ids rule.x ≡ left.key) × (ids_at ids rule.xp ≡ left.pattern)
 own_left rule row ids left wide is =
     let parts = side_parts rule.x rule.xp (row, ids) left is in (
-      same_Some (ids_in ids rule.x) left.key (sym (values_there ids rule.x (wide_front rule.x rule.xp ids wide)) ∙ parts.key),
-      same_Some (ids_in ids rule.xp) left.pattern (sym (values_there ids rule.xp (wide_back rule.x rule.xp ids wide)) ∙ parts.pattern),
+      same_Some (ids_at ids rule.x) left.key (sym (values_there ids rule.x (wide_front rule.x rule.xp ids wide)) ∙ parts.key),
+      same_Some (ids_at ids rule.xp) left.pattern (sym (values_there ids rule.xp (wide_back rule.x rule.xp ids wide)) ∙ parts.pattern),
     )
 
 pub row_at : (tableau : List (InclusionRow ℕ)) (k : ℕ) (t x : InclusionRow ℕ) → k < length tableau → t ≡ get_or tableau k t → slice_get tableau k ≡ Some x → t ≡ x

@@ -8,9 +8,10 @@ use Rattle.row_store.specs.Watch.{IsWide, entries_of}
 use Rattle.cfd_semantics.specs.declared.inclusion.Inclusion.{Inclusion}
 use Rattle.cfd_semantics.specs.Orphan.{SideEntry, side_entry_of}
 use Rattle.cfd_semantics.specs.Tuple.{values_at}
+use Rattle.row_store.specs.Tuple.{ids_at}
 use Rattle.cind_index.specs.declared.side.Side.{Side}
 use Rattle.cind_index.specs.declared.index.CindIndex.{CindIndex}
-use Rattle.cind_index.specs.Entries.{CindMade, ids_in, is_entry, key_on, pattern_on, table_on, gives_on, attributes_on}
+use Rattle.cind_index.specs.Entries.{CindMade, is_entry, key_on, pattern_on, table_on, gives_on, attributes_on}
 use Rattle.cind_index.specs.KeysHeld.{KeyedRows, held, HoldsMore, HoldsLess, HasKeyAt}
 use Rattle.cind_index.specs.Laws.{two_parts, same_number, given_has_row}
 use Rattle.cind_index.proofs.OwnEntries.{number_itself, values_there, gives_its_entry}
@@ -43,33 +44,33 @@ wide_here made table side ids here wide = subst (λ b. IsWide (cond b (key_on ma
 
 module _ (rule : Inclusion ℕ) (side : Side) where
   -- the entry of a wide tuple
-  pub gives_own : (row : ℕ) (ids : List ℕ) (e : SideEntry ℕ) → IsWide (key_on rule side ++ pattern_on rule side) ids → gives_on rule side row ids e ≡ is_entry (ids_in ids (key_on rule side)) (ids_in ids (pattern_on rule side)) row e
+  pub gives_own : (row : ℕ) (ids : List ℕ) (e : SideEntry ℕ) → IsWide (key_on rule side ++ pattern_on rule side) ids → gives_on rule side row ids e ≡ is_entry (ids_at ids (key_on rule side)) (ids_at ids (pattern_on rule side)) row e
   gives_own row ids e wide = gives_its_entry (key_on rule side) (pattern_on rule side) row ids e (wide_front (key_on rule side) (pattern_on rule side) ids wide) (wide_back (key_on rule side) (pattern_on rule side) ids wide)
 
   pub has_row : (row : ℕ) (ids : List ℕ) (e : SideEntry ℕ) → gives_on rule side row ids e ≡ true → row ≡ e.row
   has_row row ids e gives = given_has_row (key_on rule side) (pattern_on rule side) row ids e (side_entry_of (key_on rule side) (pattern_on rule side) (row, ids)) refl gives
 
   abbrev pub agrees : List ℕ → List ℕ → Bool
-  agrees one other = bytes_eq (ids_in one (key_on rule side)) (ids_in other (key_on rule side)) && bytes_eq (ids_in one (pattern_on rule side)) (ids_in other (pattern_on rule side))
+  agrees one other = bytes_eq (ids_at one (key_on rule side)) (ids_at other (key_on rule side)) && bytes_eq (ids_at one (pattern_on rule side)) (ids_at other (pattern_on rule side))
 
   pub same_given : (row : ℕ) (one other : List ℕ) (e : SideEntry ℕ) → IsWide (key_on rule side ++ pattern_on rule side) one → IsWide (key_on rule side ++ pattern_on rule side) other
       → agrees one other ≡ true → gives_on rule side row one e ≡ gives_on rule side row other e
   same_given row one other e wide wide_other agree =
-      let parts = two_parts (bytes_eq (ids_in one (key_on rule side)) (ids_in other (key_on rule side))) (bytes_eq (ids_in one (pattern_on rule side)) (ids_in other (pattern_on rule side))) agree in
+      let parts = two_parts (bytes_eq (ids_at one (key_on rule side)) (ids_at other (key_on rule side))) (bytes_eq (ids_at one (pattern_on rule side)) (ids_at other (pattern_on rule side))) agree in
       gives_own row one e wide
-      ∙ ap (λ k. is_entry k (ids_in one (pattern_on rule side)) row e) (equal_lists (ids_in one (key_on rule side)) (ids_in other (key_on rule side)) parts.0)
-      ∙ ap (λ p. is_entry (ids_in other (key_on rule side)) p row e) (equal_lists (ids_in one (pattern_on rule side)) (ids_in other (pattern_on rule side)) parts.1)
+      ∙ ap (λ k. is_entry k (ids_at one (pattern_on rule side)) row e) (equal_lists (ids_at one (key_on rule side)) (ids_at other (key_on rule side)) parts.0)
+      ∙ ap (λ p. is_entry (ids_at other (key_on rule side)) p row e) (equal_lists (ids_at one (pattern_on rule side)) (ids_at other (pattern_on rule side)) parts.1)
       ∙ sym (gives_own row other e wide_other)
 
   pub differ_given : (row : ℕ) (one other : List ℕ) (e : SideEntry ℕ) → IsWide (key_on rule side ++ pattern_on rule side) one → IsWide (key_on rule side ++ pattern_on rule side) other
       → agrees one other ≡ false → (gives_on rule side row one e && gives_on rule side row other e) ≡ false
   differ_given row one other e wide wide_other apart = never (gives_on rule side row one e && gives_on rule side row other e) (λ both.
       let parts = two_parts (gives_on rule side row one e) (gives_on rule side row other e) both in
-      let first = entry_is (ids_in one (key_on rule side)) (ids_in one (pattern_on rule side)) row e (sym (gives_own row one e wide) ∙ parts.0) in
-      let second = entry_is (ids_in other (key_on rule side)) (ids_in other (pattern_on rule side)) row e (sym (gives_own row other e wide_other) ∙ parts.1) in
-      let keys : ids_in one (key_on rule side) ≡ ids_in other (key_on rule side) = ap (λ (f : SideEntry ℕ). f.key) first ∙ sym (ap (λ (f : SideEntry ℕ). f.key) second) in
-      let patterns : ids_in one (pattern_on rule side) ≡ ids_in other (pattern_on rule side) = ap (λ (f : SideEntry ℕ). f.pattern) first ∙ sym (ap (λ (f : SideEntry ℕ). f.pattern) second) in
-      clash (agrees one other) (both_so (ap (λ xs. bytes_eq xs (ids_in other (key_on rule side))) keys ∙ same_list (ids_in other (key_on rule side))) (ap (λ xs. bytes_eq xs (ids_in other (pattern_on rule side))) patterns ∙ same_list (ids_in other (pattern_on rule side)))) apart)
+      let first = entry_is (ids_at one (key_on rule side)) (ids_at one (pattern_on rule side)) row e (sym (gives_own row one e wide) ∙ parts.0) in
+      let second = entry_is (ids_at other (key_on rule side)) (ids_at other (pattern_on rule side)) row e (sym (gives_own row other e wide_other) ∙ parts.1) in
+      let keys : ids_at one (key_on rule side) ≡ ids_at other (key_on rule side) = ap (λ (f : SideEntry ℕ). f.key) first ∙ sym (ap (λ (f : SideEntry ℕ). f.key) second) in
+      let patterns : ids_at one (pattern_on rule side) ≡ ids_at other (pattern_on rule side) = ap (λ (f : SideEntry ℕ). f.pattern) first ∙ sym (ap (λ (f : SideEntry ℕ). f.pattern) second) in
+      clash (agrees one other) (both_so (ap (λ xs. bytes_eq xs (ids_at other (key_on rule side))) keys ∙ same_list (ids_at other (key_on rule side))) (ap (λ xs. bytes_eq xs (ids_at other (pattern_on rule side))) patterns ∙ same_list (ids_at other (pattern_on rule side)))) apart)
     where
       both_so : {a b : Bool} → a ≡ true → b ≡ true → (a && b) ≡ true
       both_so {a} {b} one two = ap (λ c. c && b) one ∙ two
@@ -148,14 +149,14 @@ gone_by made side table row old new keys left here differ less e =
     of true is = and_false (held keys side e) ∙ sym (on_new new ∙ sym (and_true (entries_of (gives_on made.rule side row) new e)) ∙ ap (λ b. entries_of (gives_on made.rule side row) new e && b) (sym is) ∙ differ row e)
 
 -- the place where a tuple's key was put
-pub stands : (index : CindIndex) (side : Side) (ids : List ℕ) (place : ℕ) → IsWide (key_on index.rule side) ids → HasKeyAt index.keys place (ids_in ids (key_on index.rule side))
+pub stands : (index : CindIndex) (side : Side) (ids : List ℕ) (place : ℕ) → IsWide (key_on index.rule side) ids → HasKeyAt index.keys place (ids_at ids (key_on index.rule side))
     → (key : List ℕ) → values_at ids (key_on index.rule side) ≡ Some key → HasKeyAt index.keys place key
 stands index side ids place wide has_key key at =
-    subst (HasKeyAt index.keys place) (same_Some (ids_in ids (key_on index.rule side)) key (sym (values_there ids (key_on index.rule side) wide) ∙ at)) has_key
+    subst (HasKeyAt index.keys place) (same_Some (ids_at ids (key_on index.rule side)) key (sym (values_there ids (key_on index.rule side) wide) ∙ at)) has_key
 
 -- the entry of a tuple wasn't held
 pub not_held : (rule : Inclusion ℕ) (side : Side) (row : ℕ) (ids : List ℕ) (keys : KeyedRows) → IsWide (key_on rule side ++ pattern_on rule side) ids
-    → held keys side (record { key = ids_in ids (key_on rule side); pattern = ids_in ids (pattern_on rule side); row = row }) ≡ false
+    → held keys side (record { key = ids_at ids (key_on rule side); pattern = ids_at ids (pattern_on rule side); row = row }) ≡ false
     → (e : SideEntry ℕ) → gives_on rule side row ids e ≡ true → held keys side e ≡ false
 not_held rule side row ids keys wide none e gives =
-    ap (held keys side) (sym (entry_is (ids_in ids (key_on rule side)) (ids_in ids (pattern_on rule side)) row e (sym (gives_own rule side row ids e wide) ∙ gives))) ∙ none
+    ap (held keys side) (sym (entry_is (ids_at ids (key_on rule side)) (ids_at ids (pattern_on rule side)) row e (sym (gives_own rule side row ids e wide) ∙ gives))) ∙ none

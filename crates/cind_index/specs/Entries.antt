@@ -1,5 +1,5 @@
 -- What an index is made with, and which entries the rows of a table give.
-use Rattle.std.specs.Prelude.{ℕ, ◌==◌, ◌&&◌, nat_eq, Bool, List, [], ◌++◌, map, slice_index, if◌then◌else◌}
+use Rattle.std.specs.Prelude.{ℕ, ◌==◌, ◌&&◌, nat_eq, Bool, List, [], ◌++◌, if◌then◌else◌}
 use Rattle.std.specs.Str.{bytes_eq}
 use Rattle.cfd_semantics.specs.declared.inclusion.Inclusion.{Inclusion}
 use Rattle.cfd_semantics.specs.Orphan.{SideEntry}
@@ -32,10 +32,6 @@ key_on rule Right = rule.y
 abbrev pub pattern_on : Inclusion ℕ → Side → List ℕ
 pattern_on rule Left = rule.xp
 pattern_on rule Right = rule.yp
-
--- the ids of a tuple at attributes, which it has
-abbrev pub ids_in : List ℕ → List ℕ → List ℕ
-ids_in tuple attributes = map (slice_index tuple) attributes
 
 -- the entry of a row with these ids
 abbrev pub is_entry : List ℕ → List ℕ → ℕ → SideEntry ℕ → Bool

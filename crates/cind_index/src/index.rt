@@ -9,14 +9,14 @@ ghost use Rattle.cind_index.specs.KeysHeld.{lefts, rights, AreMarkedRight, HaveR
 ghost use Rattle.cind_index.specs.Totals.{AreTotals};
 ghost use Rattle.cind_index.specs.Orphans.{AreOrphans, IsDirtyCount, IsOrphanCount};
 
-use crate::ids::{Ids, has_ids, write_ids};
+use crate::ids::{Ids, has_ids};
 use crate::keys::Keys;
 use crate::totals::Totals;
 use cfd_semantics::{Inclusion, InclusionRow};
 use hash_keys::HashKeys;
 use marked_map::MarkedMap;
 use probe_steps::Steps;
-use row_store::{RowId, Tuple};
+use row_store::{RowId, Tuple, write_key};
 use std::alloc::{AllocError, Global};
 use std::sync::ledger::Ledger;
 use value_pool::ValueId;
@@ -173,7 +173,7 @@ impl CindIndex {
         }
         let x = self.rule.x.as_slice();
         let mut key = Ids::with_capacity(*self.key.allocator(), x.len())?;
-        write_ids(&mut key, tuple, x);
+        write_key(&mut key, tuple, x);
         match self.keys.find(&key, steps) {
             Some(place) => Ok(!self.keys.value_at(place).has_answer(tableau_row)),
             None => Ok(true),

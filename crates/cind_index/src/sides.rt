@@ -2,22 +2,22 @@
 ghost use Rattle.std.specs.Prelude.{◌≡◌, ◌+◌, ◌≤◌, ◌==◌, ◌&&◌, ◌||◌, ◌++◌, ℕ, false, true, cond, IfNone, IsTrue, IfOk, IfSome, OnOk, OnErr, IsSomeAnd};
 ghost use Rattle.std.specs.Option.{ForSome};
 ghost use Rattle.std.specs.Str.{bytes_eq};
-ghost use Rattle.row_store.specs.Tuple.{ids_of, ids_behind};
+ghost use Rattle.row_store.specs.Tuple.{ids_at, ids_behind, ids_of};
 ghost use Rattle.row_store.specs.Watch.{IsWide, entries_of};
 ghost use Rattle.cfd_semantics.specs.Orphan.{SideEntry};
-ghost use Rattle.cind_index.specs.Entries.{ids_in, key_on, pattern_on, table_on, gives_on, attributes_on};
+ghost use Rattle.cind_index.specs.Entries.{key_on, pattern_on, table_on, gives_on, attributes_on};
 ghost use Rattle.cind_index.specs.RowsHeld.{across};
 ghost use Rattle.cind_index.specs.KeysHeld.{held, HaveRoom, HoldTheSame, HoldsMore, HoldsLess, KeepsKeys};
 ghost use Rattle.cind_index.specs.Index.{made_of, given, HoldsOfRowOn, StandsAt, KeepsMade};
 ghost use Rattle.cind_index.specs.declared.side.Side.TheVariants.{Left, Right};
 
-use crate::ids::{Ids, agree, write_ids};
+use crate::ids::Ids;
 use crate::index::CindIndex;
 use crate::keys::{put_entry, take_at, take_entry};
 use crate::side::Side;
 use cfd_semantics::Inclusion;
 use probe_steps::Steps;
-use row_store::{RowId, Tuple};
+use row_store::{RowId, Tuple, agree, make_room, write_key};
 use std::alloc::AllocError;
 use std::sync::ledger::Ledger;
 use value_pool::ValueId;
@@ -46,8 +46,8 @@ fn pattern_on(rule: &Inclusion<ValueId>, side: Side) -> &[usize]
 fn agree_on(rule: &Inclusion<ValueId>, side: Side, one: &Tuple, other: &Tuple) -> bool
     requires wide_one { IsWide (key_on rule.now side ++ pattern_on rule.now side) (ids_of one.now) }
     requires wide_other { IsWide (key_on rule.now side ++ pattern_on rule.now side) (ids_of other.now) }
-    ensures { result ≡ (bytes_eq (ids_in (ids_of one.now) (key_on rule.now side)) (ids_in (ids_of other.now) (key_on rule.now side))
-        && bytes_eq (ids_in (ids_of one.now) (pattern_on rule.now side)) (ids_in (ids_of other.now) (pattern_on rule.now side))) }
+    ensures { result ≡ (bytes_eq (ids_at (ids_of one.now) (key_on rule.now side)) (ids_at (ids_of other.now) (key_on rule.now side))
+        && bytes_eq (ids_at (ids_of one.now) (pattern_on rule.now side)) (ids_at (ids_of other.now) (pattern_on rule.now side))) }
 {
     agree(one, other, key_on(rule, side)) && agree(one, other, pattern_on(rule, side))
 }
@@ -71,10 +71,8 @@ impl CindIndex {
         let rule = &self.rule;
         let key = rule.x.as_slice().len().max(rule.y.as_slice().len());
         let pattern = rule.xp.as_slice().len().max(rule.yp.as_slice().len());
-        self.key.clear();
-        self.key.reserve(key)?;
-        self.pattern.clear();
-        self.pattern.reserve(pattern)
+        make_room(&mut self.key, key)?;
+        make_room(&mut self.pattern, pattern)
     }
 
     // Whether rows of the table give entries on this side, and the two tuples different ones.
@@ -122,8 +120,8 @@ impl CindIndex {
         if !self.differs_on(side, table, old, new) {
             return Ok(None);
         }
-        write_ids(&mut self.key, new, key_on(&self.rule, side));
-        write_ids(&mut self.pattern, new, pattern_on(&self.rule, side));
+        write_key(&mut self.key, new, key_on(&self.rule, side));
+        write_key(&mut self.pattern, new, pattern_on(&self.rule, side));
         let key = Ids::from_slice(*self.key.allocator(), self.key.as_slice())?;
         let tableau = self.rule.rows.as_slice();
         let pattern = self.pattern.as_slice();
@@ -147,7 +145,7 @@ impl CindIndex {
         ensures made { KeepsMade self.old self.new }
         ensures left { HoldsLess Left (gives_on self.old.rule Left row (ids_of tuple.now)) self.old.keys self.new.keys }
     {
-        write_ids(&mut self.pattern, tuple, self.rule.xp.as_slice());
+        write_key(&mut self.pattern, tuple, self.rule.xp.as_slice());
         let tableau = self.rule.rows.as_slice();
         let pattern = self.pattern.as_slice();
         take_at(
@@ -185,8 +183,8 @@ impl CindIndex {
         if !self.differs_on(side, table, new, old) {
             return;
         }
-        write_ids(&mut self.key, old, key_on(&self.rule, side));
-        write_ids(&mut self.pattern, old, pattern_on(&self.rule, side));
+        write_key(&mut self.key, old, key_on(&self.rule, side));
+        write_key(&mut self.pattern, old, pattern_on(&self.rule, side));
         let tableau = self.rule.rows.as_slice();
         let pattern = self.pattern.as_slice();
         take_entry(

@@ -6,12 +6,7 @@ use Rattle.std.proofs.lemmas.Bool.Decides.{nat_tests}
 use Rattle.std.proofs.lemmas.List.{drop_more, drop_all}
 use Rattle.cfd_semantics.specs.declared.pattern.Pattern.{Pattern}
 use Rattle.cfd_semantics.specs.Pattern.{matches, all_match}
-use Rattle.group_index.specs.Keys.{ids_at}
-
-pub differ_at : (one other x : List ℕ) (i : ℕ) → i < length x → (get_or one (get_or x i 0) 0 ≢ get_or other (get_or x i 0) 0) → bytes_eq (ids_at one x) (ids_at other x) ≡ false
-differ_at one other [] i within apart = absurd (omega arith)
-differ_at one other (c ∷ cs) zero within apart = grind (arith, nat_tests)
-differ_at one other (c ∷ cs) (suc i) within apart = let rest = differ_at one other cs i (omega arith) apart in grind (arith, nat_tests, rest)
+use Rattle.row_store.specs.Tuple.{ids_at}
 
 -- one more place is one more test
 pub match_more : (cells : List (Pattern ℕ)) (ids : List ℕ) (i : ℕ) (cell : Pattern ℕ) (id : ℕ) → i < length cells → i < length ids → cell ≡ get_or cells i cell → id ≡ get_or ids i 0

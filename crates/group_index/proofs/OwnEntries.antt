@@ -10,8 +10,8 @@ use Rattle.cfd_semantics.specs.Tuple.{values_at}
 use Rattle.cfd_semantics.specs.Violation.{Entry, entry_of}
 use Rattle.cfd_semantics.specs.EntrySets.{gives}
 use Rattle.row_store.specs.Watch.{IsWide}
+use Rattle.row_store.specs.Tuple.{ids_at}
 use Rattle.group_index.specs.GroupSet.{GroupsMade, is_entry, gives_entry}
-use Rattle.group_index.specs.Keys.{ids_at}
 
 -- the tuple has the attributes
 abbrev pub HasAll : GroupsMade → List ℕ → Type 0

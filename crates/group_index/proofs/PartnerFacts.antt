@@ -11,10 +11,10 @@ use Rattle.cfd_semantics.specs.Pattern.{matches, all_match}
 use Rattle.cfd_semantics.specs.Violation.{Entry}
 use Rattle.cfd_semantics.specs.EntrySets.{IsPartner}
 use Rattle.cfd_semantics.proofs.Parts.{pair_parts, pair_from_parts}
+use Rattle.row_store.specs.Tuple.{ids_at}
 use Rattle.group_index.specs.declared.group.Group.{Group}
 use Rattle.group_index.specs.GroupSet.{GroupsMade, GroupSet}
 use Rattle.group_index.specs.Answers.{IsPartnerOf, IsPartnerOfRow}
-use Rattle.group_index.specs.Keys.{ids_at}
 use Rattle.group_index.proofs.OwnEntries.{HasAll, entry_at, entry_there}
 use Rattle.group_index.specs.Pairs.{Pair, pairs_of, has_pair}
 use Rattle.group_index.specs.Groups.{KeyedGroup, KeyedGroups, set_of, is_in, IsPartnerIn}

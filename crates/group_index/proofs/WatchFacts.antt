@@ -7,8 +7,9 @@ use Rattle.std.proofs.lemmas.Bool.Decides.{nat_tests}
 use Rattle.std.proofs.lemmas.Option.{slice_get_within}
 use Rattle.cfd_semantics.specs.Violation.{Entry}
 use Rattle.row_store.specs.Watch.{entries_of, AddsEntries, RemovesEntries, IsWide}
+use Rattle.row_store.specs.Tuple.{ids_at}
 use Rattle.group_index.specs.GroupSet.{GroupsMade, GroupSet, is_entry, holds_entry, gives_entry, attributes_of}
-use Rattle.group_index.specs.Keys.{ids_at, gives_alike}
+use Rattle.group_index.specs.Keys.{gives_alike}
 use Rattle.group_index.specs.Groups.{KeyedGroups, set_of, is_in, IsEntered, IsLeft}
 use Rattle.group_index.proofs.OwnEntries.{HasAll, entry_at, given, own_entry}
 use Rattle.group_index.proofs.GroupFacts.{equal_ids, same_ids, both_true, both_so, clash, isnt, found_in, is_entry_parts}

@@ -1,10 +1,7 @@
 -- The key of a row's group.
-use Rattle.std.specs.Prelude.{ℕ, Bool, ◌&&◌, ◌==◌, List, map, slice_index}
+use Rattle.std.specs.Prelude.{ℕ, Bool, ◌&&◌, ◌==◌, List, slice_index}
 use Rattle.std.specs.Str.{bytes_eq}
-
--- the ids of a tuple at attributes that it has
-abbrev pub ids_at : List ℕ → List ℕ → List ℕ
-ids_at tuple x = map (slice_index tuple) x
+use Rattle.row_store.specs.Tuple.{ids_at}
 
 -- the two tuples have the same ids on X and on A
 abbrev pub gives_alike : List ℕ → List ℕ → List ℕ → ℕ → Bool

@@ -9,7 +9,7 @@ ghost use Rattle.group_index.specs.Answers.{AreDirty, IsSettled, AreViolationsOf
 
 use crate::counting::count;
 use crate::groups::{Groups, least_partner, put_entry, take_entry};
-use crate::key::{Key, make_room, same_entry, write_key};
+use crate::key::{Key, same_entry};
 use crate::tableau::Tableau;
 use crate::totals::Totals;
 use crate::violations::collect;
@@ -17,7 +17,7 @@ use cfd_semantics::{Pattern, TableauRow, Violation};
 use hash_keys::HashKeys;
 use marked_map::MarkedMap;
 use probe_steps::Steps;
-use row_store::{RowId, Tuple, Watch};
+use row_store::{RowId, Tuple, Watch, make_room, write_key};
 use smallvec::SmallVec;
 use std::alloc::{AllocError, Global};
 use std::marker::Model;

@@ -1,44 +1,18 @@
 //! The key of a row's group: its ids on X.
-ghost use Rattle.std.specs.Prelude.{◌≡◌, ◌<◌, ◌≤◌, ◌∷◌, false, length, All, OnErr, OnOk, nat_eq};
-ghost use Rattle.std.specs.Str.{bytes_eq};
+ghost use Rattle.std.specs.Prelude.{◌≡◌, ◌<◌, ◌∷◌, false, length, nat_eq};
 ghost use Rattle.cfd_semantics.specs.Pattern.{all_match};
 ghost use Rattle.std.specs.Option.{option_map_or, ForSome};
-ghost use Rattle.row_store.specs.Tuple.{ids_of, ids_behind};
+ghost use Rattle.row_store.specs.Tuple.{ids_behind, ids_of};
 ghost use Rattle.row_store.specs.Watch.{IsWide};
-ghost use Rattle.group_index.specs.Keys.{ids_at, gives_alike};
+ghost use Rattle.group_index.specs.Keys.{gives_alike};
 
 use crate::index::IdCell;
-use row_store::Tuple;
+use row_store::{Tuple, agree};
 use smallvec::SmallVec;
-use std::alloc::AllocError;
 use value_pool::ValueId;
 
 /// The ids of a key. Up to three stand in place, so that most groups take no memory for their key.
 pub(crate) type Key = SmallVec<ValueId, 3>;
-
-/// Writes the ids of a tuple on X into a list that has the room.
-pub(crate) fn write_key(key: &mut Key, tuple: &Tuple, x: &[usize])
-    requires room { length x.now ≤ key.old.capacity }
-    requires wide { All (λ attribute. attribute < length (ids_of tuple.now)) x.now }
-    ensures ids { key.new.items ≡ ids_at (ids_of tuple.now) x.now }
-    ensures room { key.new.capacity ≡ key.old.capacity }
-{
-    key.clear();
-    for attribute in x {
-        key.push_reserved(tuple.as_slice()[*attribute]);
-    }
-}
-
-/// Makes room for a key.
-pub(crate) fn make_room(key: &mut Key, count: usize) -> Result<(), AllocError>
-    ensures ok { OnOk result (count ≤ key.new.capacity) }
-    ensures err { OnErr result (key.new ≡ key.old) }
-{
-    if key.capacity() < count {
-        *key = SmallVec::with_capacity(*key.allocator(), count)?;
-    }
-    Ok(())
-}
 
 /// Whether a row gives the same entry with two tuples, one of which may be missing: they have the same ids on X and on A.
 pub(crate) fn same_entry(one: Option<&Tuple>, other: &Tuple, x: &[usize], a: usize) -> bool
@@ -60,20 +34,6 @@ fn alike(one: &Tuple, other: &Tuple, x: &[usize], a: usize) -> bool
     ensures { result ≡ gives_alike (ids_of one.now) (ids_of other.now) x.now a }
 {
     one.as_slice()[a] == other.as_slice()[a] && agree(one, other, x)
-}
-
-// Whether two tuples have the same ids on X.
-fn agree(one: &Tuple, other: &Tuple, x: &[usize]) -> bool
-    requires wide_one { All (λ attribute. attribute < length (ids_of one.now)) x.now }
-    requires wide_other { All (λ attribute. attribute < length (ids_of other.now)) x.now }
-    ensures { result ≡ bytes_eq (ids_at (ids_of one.now) x.now) (ids_at (ids_of other.now) x.now) }
-{
-    for attribute in x {
-        if one.as_slice()[*attribute] != other.as_slice()[*attribute] {
-            return false;
-        }
-    }
-    true
 }
 
 /// Whether the ids match the cells place by place.

@@ -11,7 +11,7 @@ use std::alloc::AllocError;
 use std::hash::Hash;
 use std::sync::ledger::Ledger;
 
-pub(crate) fn find_or_push<K: Eq + Hash + Drop, V: Drop, L: Ledger>(
+pub fn find_or_push<K: Eq + Hash + Drop, V: Drop, L: Ledger>(
     map: &mut IndexMap<K, V, HashKeys>,
     key: K,
     fresh: V,

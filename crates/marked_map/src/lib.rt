@@ -16,7 +16,7 @@ ghost use Rattle.marked_map.specs.MarkedMap.{HaveDistinctKeys, Enters, HasKey, I
 
 mod entry;
 
-use entry::find_or_push;
+pub use entry::find_or_push;
 use hash_keys::HashKeys;
 use indexmap::IndexMap;
 use probe_steps::Steps;

@@ -7,9 +7,10 @@ use Rattle.std.specs.Str.{bytes_eq}
 use Rattle.std.proofs.lemmas.Bool.Decides.{nat_tests}
 use Rattle.std.proofs.lemmas.Option.{same_Some}
 use Rattle.std.proofs.lemmas.Slice.Eq.{bytes_eq-Decides}
+use Rattle.row_store.specs.Tuple.{ids_at}
 use Rattle.master_index.specs.declared.column_list.ColumnList.{ColumnList}
 use Rattle.master_index.specs.Between.{Named, IsBetween, IsOver, in_rows, with_one}
-use Rattle.master_index.specs.ColumnRows.{KeyedRows, HoldAlike, IsComparedIn, IsPutUnder, IsTakenFrom, NotesAlike, NotesStay, ids_in, is_among, is_noted, is_under, rows_under}
+use Rattle.master_index.specs.ColumnRows.{KeyedRows, HoldAlike, IsComparedIn, IsPutUnder, IsTakenFrom, NotesAlike, NotesStay, is_among, is_noted, is_under, rows_under}
 use Rattle.master_index.specs.Masters.{MasterRows}
 
 pub on_ok : {A E P Q : Type 0} (r : Result A E) → (P → Q) → OnOk r P → OnOk r Q
@@ -98,16 +99,16 @@ not_taken named list entries table row tuple apart is = weaker named named (with
 module _ (rows : MasterRows) (list : ColumnList) (old new : KeyedRows) where
   pub after_refusal : IsOver (in_rows rows) list old → HoldAlike old new → NotesStay old new → IsOver (in_rows rows) list new
   after_refusal is alike stay = record {
-    there = λ row tuple named. alike (ids_in tuple list.columns) row ∙ is.there row tuple named;
+    there = λ row tuple named. alike (ids_at tuple list.columns) row ∙ is.there row tuple named;
     known = λ ids row under. is.known ids row (sym (alike ids row) ∙ under);
-    alike = λ one other tuple another apart named also key column within isnt. is.alike one other tuple another apart named also key column within (stay (ids_in tuple list.columns) column isnt);
+    alike = λ one other tuple another apart named also key column within isnt. is.alike one other tuple another apart named also key column within (stay (ids_at tuple list.columns) column isnt);
   }
 
   -- ---- a row comes in
-  module _ (row : ℕ) (tuple : List ℕ) (is : IsOver (in_rows rows) list old) (put : IsPutUnder old new (ids_in tuple list.columns) row) (stay : NotesStay old new)
-      (compared : IsComparedIn rows list.master old new (ids_in tuple list.columns) row tuple) where
+  module _ (row : ℕ) (tuple : List ℕ) (is : IsOver (in_rows rows) list old) (put : IsPutUnder old new (ids_at tuple list.columns) row) (stay : NotesStay old new)
+      (compared : IsComparedIn rows list.master old new (ids_at tuple list.columns) row tuple) where
     abbrev key_of : List ℕ → List ℕ
-    key_of ids = ids_in ids list.columns
+    key_of ids = ids_at ids list.columns
 
     put_there : (r : ℕ) (ids : List ℕ) → Which (in_rows rows list.master r ids ≡ true) row tuple r ids → is_under (key_of ids) r new ≡ true
     put_there r ids (this row_is tuple_is) =
@@ -173,20 +174,20 @@ module _ (rows : MasterRows) (list : ColumnList) (old new : KeyedRows) where
 
   -- ---- a row goes
   module _ (row : ℕ) (tuple : List ℕ) (is : IsBetween (in_rows rows) (with_one (in_rows rows) list.master row tuple) list old) where
-    pub after_take : IsTakenFrom old new (ids_in tuple list.columns) row → NotesAlike old new
-        → ((left : List ℕ) → finite.get rows (list.master, row) ≡ Some left → bytes_eq (ids_in left list.columns) (ids_in tuple list.columns) ≡ false) → IsOver (in_rows rows) list new
+    pub after_take : IsTakenFrom old new (ids_at tuple list.columns) row → NotesAlike old new
+        → ((left : List ℕ) → finite.get rows (list.master, row) ≡ Some left → bytes_eq (ids_at left list.columns) (ids_at tuple list.columns) ≡ false) → IsOver (in_rows rows) list new
     after_take taken alike apart = record {
       there = still;
       known = λ ids r under. by ids r under (is.known ids r (was ids r under));
       alike = λ one other ids another other_one named also key column within isnt.
-          is.alike one other ids another other_one named also key column within (sym (alike (ids_in ids list.columns) column one (still one ids named)) ∙ isnt);
+          is.alike one other ids another other_one named also key column within (sym (alike (ids_at ids list.columns) column one (still one ids named)) ∙ isnt);
     }
       where
-        still : (r : ℕ) (ids : List ℕ) → in_rows rows list.master r ids ≡ true → is_under (ids_in ids list.columns) r new ≡ true
-        still r ids named = taken (ids_in ids list.columns) r ∙ ap (λ b. not (bytes_eq (ids_in ids list.columns) (ids_in tuple list.columns) && r == row) && b) (is.there r ids named)
+        still : (r : ℕ) (ids : List ℕ) → in_rows rows list.master r ids ≡ true → is_under (ids_at ids list.columns) r new ≡ true
+        still r ids named = taken (ids_at ids list.columns) r ∙ ap (λ b. not (bytes_eq (ids_at ids list.columns) (ids_at tuple list.columns) && r == row) && b) (is.there r ids named)
             ∙ by_row (r == row) refl
           where
-            by_row : (b : Bool) → (r == row) ≡ b → (not (bytes_eq (ids_in ids list.columns) (ids_in tuple list.columns) && r == row) && true) ≡ true
+            by_row : (b : Bool) → (r == row) ≡ b → (not (bytes_eq (ids_at ids list.columns) (ids_at tuple list.columns) && r == row) && true) ≡ true
             by_row true e =
                 let is_row : r ≡ row = grind (arith, nat_tests, e) in
                 let other = apart ids (ap (λ n. finite.get rows (list.master, n)) (sym is_row) ∙ named_is rows list.master r ids named) in
@@ -196,30 +197,30 @@ module _ (rows : MasterRows) (list : ColumnList) (old new : KeyedRows) where
         was : (ids : List ℕ) (r : ℕ) → is_under ids r new ≡ true → is_under ids r old ≡ true
         was ids r under = let now_under = sym (taken ids r) ∙ under in grind (arith, now_under)
 
-        by : (ids : List ℕ) (r : ℕ) → is_under ids r new ≡ true → (held : List ℕ) × (with_one (in_rows rows) list.master row tuple list.master r held ≡ true) × (ids_in held list.columns ≡ ids)
-            → (held : List ℕ) × (in_rows rows list.master r held ≡ true) × (ids_in held list.columns ≡ ids)
+        by : (ids : List ℕ) (r : ℕ) → is_under ids r new ≡ true → (held : List ℕ) × (with_one (in_rows rows) list.master row tuple list.master r held ≡ true) × (ids_at held list.columns ≡ ids)
+            → (held : List ℕ) × (in_rows rows list.master r held ≡ true) × (ids_at held list.columns ≡ ids)
         by ids r under (held, named, key) = of_which (which (in_rows rows) list.master row tuple list.master r held named)
           where
-            of_which : Which (in_rows rows list.master r held ≡ true) row tuple r held → (kept : List ℕ) × (in_rows rows list.master r kept ≡ true) × (ids_in kept list.columns ≡ ids)
+            of_which : Which (in_rows rows list.master r held ≡ true) row tuple r held → (kept : List ℕ) × (in_rows rows list.master r kept ≡ true) × (ids_at kept list.columns ≡ ids)
             of_which (that is_held) = (held, is_held, key)
             of_which (this row_is tuple_is) =
                 let gone = sym (taken ids r) ∙ under in
                 let test : (r == row) ≡ true = grind (arith, nat_tests, row_is) in
-                let same_key : bytes_eq ids (ids_in tuple list.columns) ≡ true = (bytes_eq-Decides ids (ids_in tuple list.columns)).1 (sym key ∙ ap (λ xs. ids_in xs list.columns) tuple_is) in
+                let same_key : bytes_eq ids (ids_at tuple list.columns) ≡ true = (bytes_eq-Decides ids (ids_at tuple list.columns)).1 (sym key ∙ ap (λ xs. ids_at xs list.columns) tuple_is) in
                 absurd (true≢false (sym gone ∙ grind (arith, test, same_key)))
 
     -- the row's tuple in the tables has the key too
-    pub stays_under : (left : List ℕ) → finite.get rows (list.master, row) ≡ Some left → ids_in left list.columns ≡ ids_in tuple list.columns → IsOver (in_rows rows) list old
+    pub stays_under : (left : List ℕ) → finite.get rows (list.master, row) ≡ Some left → ids_at left list.columns ≡ ids_at tuple list.columns → IsOver (in_rows rows) list old
     stays_under left got key = record {
       there = is.there;
       known = λ ids r under. by ids r (is.known ids r under);
       alike = is.alike;
     }
       where
-        by : (ids : List ℕ) (r : ℕ) → (held : List ℕ) × (with_one (in_rows rows) list.master row tuple list.master r held ≡ true) × (ids_in held list.columns ≡ ids)
-            → (held : List ℕ) × (in_rows rows list.master r held ≡ true) × (ids_in held list.columns ≡ ids)
+        by : (ids : List ℕ) (r : ℕ) → (held : List ℕ) × (with_one (in_rows rows) list.master row tuple list.master r held ≡ true) × (ids_at held list.columns ≡ ids)
+            → (held : List ℕ) × (in_rows rows list.master r held ≡ true) × (ids_at held list.columns ≡ ids)
         by ids r (held, named, is_key) = of_which (which (in_rows rows) list.master row tuple list.master r held named)
           where
-            of_which : Which (in_rows rows list.master r held ≡ true) row tuple r held → (kept : List ℕ) × (in_rows rows list.master r kept ≡ true) × (ids_in kept list.columns ≡ ids)
+            of_which : Which (in_rows rows list.master r held ≡ true) row tuple r held → (kept : List ℕ) × (in_rows rows list.master r kept ≡ true) × (ids_at kept list.columns ≡ ids)
             of_which (that is_held) = (held, is_held, is_key)
-            of_which (this row_is tuple_is) = (left, is_named rows list.master r left (ap (λ n. finite.get rows (list.master, n)) row_is ∙ got), key ∙ sym (ap (λ xs. ids_in xs list.columns) tuple_is) ∙ is_key)
+            of_which (this row_is tuple_is) = (left, is_named rows list.master r left (ap (λ n. finite.get rows (list.master, n)) row_is ∙ got), key ∙ sym (ap (λ xs. ids_at xs list.columns) tuple_is) ∙ is_key)

@@ -1,7 +1,6 @@
 pub mod ColumnBits
 pub mod RisingIds
 pub mod KeyedRowFacts
-pub mod KeyFacts
 pub mod MasterRowFacts
 pub mod TableRows
 pub mod BetweenFacts

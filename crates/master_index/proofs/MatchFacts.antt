@@ -12,9 +12,10 @@ use Rattle.std.proofs.lemmas.List.Elements.{All-head, All-tail, All-contains}
 use Rattle.std.proofs.lemmas.Option.{slice_get-get_or}
 use Rattle.std.proofs.lemmas.Slice.Eq.{bytes_eq-Decides}
 use Rattle.smallvec.specs.SmallVec.{SmallVec}
+use Rattle.row_store.specs.Tuple.{ids_at}
 use Rattle.master_index.specs.declared.rising.RowIds.{RowIds}
 use Rattle.master_index.specs.Between.{IsOver, in_rows}
-use Rattle.master_index.specs.ColumnRows.{KeyedRows, Tells, listed, noted, rows_under, is_among, is_noted, is_under, AreRising, ids_in}
+use Rattle.master_index.specs.ColumnRows.{KeyedRows, Tells, listed, noted, rows_under, is_among, is_noted, is_under, AreRising}
 use Rattle.master_index.specs.InStep.{AreRowsWith}
 use Rattle.master_index.specs.Masters.{HasIds, IsRowWith, IsWideFor, MasterRows, id_at}
 use Rattle.master_index.proofs.BetweenFacts.{is_named, named_is}
@@ -48,7 +49,7 @@ among_contains (x ∷ rows) row is = by (row == x) refl (among_contains rows row
     by false apart rest = let tail = rest (sym (ap (λ b. b || is_among row rows) apart) ∙ is) in (suc tail.0, omega (arith, tail.1), tail.2)
 
 -- the ids of a tuple in columns that it has
-pub ids_are : (tuple columns : List ℕ) → All (λ column. column < length tuple) columns → map (slice_get tuple) columns ≡ map Some (ids_in tuple columns)
+pub ids_are : (tuple columns : List ℕ) → All (λ column. column < length tuple) columns → map (slice_get tuple) columns ≡ map Some (ids_at tuple columns)
 ids_are tuple [] wide = refl
 ids_are tuple (c ∷ columns) wide =
     λ i. slice_get-get_or tuple c 0 (All-head (λ column. column < length tuple) c columns wide) i ∷ ids_are tuple columns (All-tail (λ column. column < length tuple) c columns wide) i
@@ -60,42 +61,42 @@ taken_out (x ∷ xs) = ap (λ ys. x ∷ ys) (taken_out xs)
 same_ids : (xs ys : List ℕ) → map Some xs ≡ map Some ys → xs ≡ ys
 same_ids xs ys is = sym (taken_out xs) ∙ ap (map (λ o. unwrap_or o 0)) is ∙ taken_out ys
 
-pub matched : (o : Option (List ℕ)) (found columns ids : List ℕ) (row : ℕ) → is_among row found ≡ option_map_or (λ tuple. bytes_eq ids (ids_in tuple columns)) o false
+pub matched : (o : Option (List ℕ)) (found columns ids : List ℕ) (row : ℕ) → is_among row found ≡ option_map_or (λ tuple. bytes_eq ids (ids_at tuple columns)) o false
     → IfSome o (λ tuple. All (λ column. column < length tuple) columns) → Contains found row ↔ IsSomeAnd o (λ tuple. HasIds tuple columns ids)
 matched None found columns ids row is wide = (λ has. absurd (true≢false (sym (contains_among found row has.0 has.1 has.2) ∙ is)), λ none. absurd none)
 matched (Some tuple) found columns ids row is wide = (
-  λ has. let same = (bytes_eq-Decides ids (ids_in tuple columns)).0 (sym is ∙ contains_among found row has.0 has.1 has.2) in ids_are tuple columns wide ∙ ap (map Some) (sym same),
-  λ has. among_contains found row (is ∙ (bytes_eq-Decides ids (ids_in tuple columns)).1 (sym (same_ids (ids_in tuple columns) ids (sym (ids_are tuple columns wide) ∙ has)))),
+  λ has. let same = (bytes_eq-Decides ids (ids_at tuple columns)).0 (sym is ∙ contains_among found row has.0 has.1 has.2) in ids_are tuple columns wide ∙ ap (map Some) (sym same),
+  λ has. among_contains found row (is ∙ (bytes_eq-Decides ids (ids_at tuple columns)).1 (sym (same_ids (ids_at tuple columns) ids (sym (ids_are tuple columns wide) ∙ has)))),
 )
 
 -- ---- a list that is in step with the rows
 under_is : (rows : MasterRows) (list : ColumnList) (es : KeyedRows) → IsOver (in_rows rows) list es → (ids : List ℕ) (row : ℕ)
-    → is_under ids row es ≡ option_map_or (λ tuple. bytes_eq ids (ids_in tuple list.columns)) (finite.get rows (list.master, row)) false
+    → is_under ids row es ≡ option_map_or (λ tuple. bytes_eq ids (ids_at tuple list.columns)) (finite.get rows (list.master, row)) false
 under_is rows list es is ids row = by (is_under ids row es) refl
   where
-    found : (tuple : List ℕ) → in_rows rows list.master row tuple ≡ true → ids_in tuple list.columns ≡ ids
-        → true ≡ option_map_or (λ tuple. bytes_eq ids (ids_in tuple list.columns)) (finite.get rows (list.master, row)) false
-    found tuple named key = sym (ap (λ o. option_map_or (λ tuple. bytes_eq ids (ids_in tuple list.columns)) o false) (named_is rows list.master row tuple named)
-        ∙ (bytes_eq-Decides ids (ids_in tuple list.columns)).1 (sym key))
+    found : (tuple : List ℕ) → in_rows rows list.master row tuple ≡ true → ids_at tuple list.columns ≡ ids
+        → true ≡ option_map_or (λ tuple. bytes_eq ids (ids_at tuple list.columns)) (finite.get rows (list.master, row)) false
+    found tuple named key = sym (ap (λ o. option_map_or (λ tuple. bytes_eq ids (ids_at tuple list.columns)) o false) (named_is rows list.master row tuple named)
+        ∙ (bytes_eq-Decides ids (ids_at tuple list.columns)).1 (sym key))
 
-    missing : (o : Option (List ℕ)) → finite.get rows (list.master, row) ≡ o → is_under ids row es ≡ false → false ≡ option_map_or (λ tuple. bytes_eq ids (ids_in tuple list.columns)) o false
+    missing : (o : Option (List ℕ)) → finite.get rows (list.master, row) ≡ o → is_under ids row es ≡ false → false ≡ option_map_or (λ tuple. bytes_eq ids (ids_at tuple list.columns)) o false
     missing None at none = refl
-    missing (Some tuple) at none = other (bytes_eq ids (ids_in tuple list.columns)) refl
+    missing (Some tuple) at none = other (bytes_eq ids (ids_at tuple list.columns)) refl
       where
-        other : (b : Bool) → bytes_eq ids (ids_in tuple list.columns) ≡ b → false ≡ b
+        other : (b : Bool) → bytes_eq ids (ids_at tuple list.columns) ≡ b → false ≡ b
         other true same =
             let there = is.there row tuple (is_named rows list.master row tuple at) in
-            absurd (true≢false (sym there ∙ ap (λ xs. is_under xs row es) (sym ((bytes_eq-Decides ids (ids_in tuple list.columns)).0 same)) ∙ none))
+            absurd (true≢false (sym there ∙ ap (λ xs. is_under xs row es) (sym ((bytes_eq-Decides ids (ids_at tuple list.columns)).0 same)) ∙ none))
         other false apart = refl
 
-    by : (b : Bool) → is_under ids row es ≡ b → is_under ids row es ≡ option_map_or (λ tuple. bytes_eq ids (ids_in tuple list.columns)) (finite.get rows (list.master, row)) false
+    by : (b : Bool) → is_under ids row es ≡ b → is_under ids row es ≡ option_map_or (λ tuple. bytes_eq ids (ids_at tuple list.columns)) (finite.get rows (list.master, row)) false
     by true e = let (tuple, named, key) = is.known ids row e in e ∙ found tuple named key
     by false e = e ∙ missing (finite.get rows (list.master, row)) refl e
 
 row_has : (o : Option (List ℕ)) (columns ids : List ℕ) → IfSome o (λ tuple. All (λ column. column < length tuple) columns) → IsSomeAnd o (λ tuple. HasIds tuple columns ids)
-    → (tuple : List ℕ) × (o ≡ Some tuple) × (ids_in tuple columns ≡ ids)
+    → (tuple : List ℕ) × (o ≡ Some tuple) × (ids_at tuple columns ≡ ids)
 row_has None columns ids wide has = absurd has
-row_has (Some tuple) columns ids wide has = (tuple, refl, same_ids (ids_in tuple columns) ids (sym (ids_are tuple columns wide) ∙ has))
+row_has (Some tuple) columns ids wide has = (tuple, refl, same_ids (ids_at tuple columns) ids (sym (ids_are tuple columns wide) ∙ has))
 
 module _ (rows : MasterRows) (list : ColumnList) (es : KeyedRows) (ids : List ℕ) (is : IsOver (in_rows rows) list es) (rising : AreRising es)
     (wide : (row : ℕ) → IfSome (finite.get rows (list.master, row)) (λ tuple. All (λ column. column < length tuple) list.columns)) where

@@ -5,8 +5,9 @@ use Rattle.std.specs.FinMap as finite
 use Rattle.std.specs.Option.{option_map_or}
 use Rattle.std.specs.Str.{bytes_eq}
 use Rattle.row_store.specs.Store.{Store}
+use Rattle.row_store.specs.Tuple.{ids_at}
 use Rattle.master_index.specs.declared.column_list.ColumnList.{ColumnList}
-use Rattle.master_index.specs.ColumnRows.{KeyedRows, ids_in, is_noted, is_under}
+use Rattle.master_index.specs.ColumnRows.{KeyedRows, is_noted, is_under}
 use Rattle.master_index.specs.Masters.{MasterRows}
 use Rattle.master_index.specs.Tables.{rows_of_tables}
 
@@ -27,12 +28,12 @@ with_one named table row tuple t r ids = (t == table && (r == row && bytes_eq id
 -- The list has all rows that it has to have under the keys of their tuples, and no other than it may have. Rows that it has to
 -- have under one key have one id in each column that isn't noted there.
 pub record IsBetween (sure may : Named) (list : ColumnList) (entries : KeyedRows) : Type 0 where
-  pub there : (row : ℕ) (tuple : List ℕ) → sure list.master row tuple ≡ true → is_under (ids_in tuple list.columns) row entries ≡ true
-  pub known : (ids : List ℕ) (row : ℕ) → is_under ids row entries ≡ true → (tuple : List ℕ) × (may list.master row tuple ≡ true) × (ids_in tuple list.columns ≡ ids)
+  pub there : (row : ℕ) (tuple : List ℕ) → sure list.master row tuple ≡ true → is_under (ids_at tuple list.columns) row entries ≡ true
+  pub known : (ids : List ℕ) (row : ℕ) → is_under ids row entries ≡ true → (tuple : List ℕ) × (may list.master row tuple ≡ true) × (ids_at tuple list.columns ≡ ids)
   pub alike :
       (one other : ℕ) (tuple another : List ℕ) → one ≢ other → sure list.master one tuple ≡ true → sure list.master other another ≡ true
-      → ids_in tuple list.columns ≡ ids_in another list.columns
-      → (column : ℕ) → column < 64 → is_noted (ids_in tuple list.columns) column entries ≡ false → slice_get tuple column ≡ slice_get another column
+      → ids_at tuple list.columns ≡ ids_at another list.columns
+      → (column : ℕ) → column < 64 → is_noted (ids_at tuple list.columns) column entries ≡ false → slice_get tuple column ≡ slice_get another column
 
 -- it has exactly these
 abbrev pub IsOver : Named → ColumnList → KeyedRows → Type 0

@@ -1,6 +1,6 @@
 -- Rows under keys: a key is the list of the value ids that a tuple has in some columns, and under it stand the ids of
 -- the rows with such a tuple.
-use Rattle.std.specs.Prelude.{◌≡◌, ◌≢◌, ℕ, ◌<◌, ◌==◌, ◌&&◌, ◌||◌, ◌⊎◌, not, Bool, true, false, List, [], ◌∷◌, map, length, take, slice_index, slice_get, Some, All, IsSomeAnd}
+use Rattle.std.specs.Prelude.{◌≡◌, ◌≢◌, ℕ, ◌<◌, ◌==◌, ◌&&◌, ◌||◌, ◌⊎◌, not, Bool, true, false, List, [], ◌∷◌, length, take, slice_get, Some, All, IsSomeAnd}
 use Rattle.std.specs.List.Sorted.{IsStrictlyIncreasing}
 use Rattle.std.specs.List.{list_any}
 use Rattle.std.specs.FinMap as finite
@@ -30,10 +30,6 @@ Tells rows column told = (told ≡ listed rows) ⊎ ((told ≡ take 1 (listed ro
 -- what the code keeps: keys with their row ids
 abbrev pub KeyedRows : Type 0
 KeyedRows = List (SmallVec ℕ × RowIds)
-
--- the ids of a tuple in the columns, which it has
-abbrev pub ids_in : List ℕ → List ℕ → List ℕ
-ids_in tuple columns = map (slice_index tuple) columns
 
 -- the rows under a key, which are none where the key isn't there
 abbrev pub rows_under : List ℕ → KeyedRows → List ℕ

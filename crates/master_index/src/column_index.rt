@@ -4,9 +4,9 @@ ghost use Rattle.std.specs.FinMap as finite;
 ghost use Rattle.std.specs.Map.{lookup};
 ghost use Rattle.std.specs.Option.{ForSome};
 ghost use Rattle.std.specs.Str.{bytes_eq};
-ghost use Rattle.row_store.specs.Tuple.{ids_of};
+ghost use Rattle.row_store.specs.Tuple.{ids_at, ids_of};
 ghost use Rattle.master_index.specs.Between.{IsBetween, IsOver, Reaches, in_tables, with_one};
-ghost use Rattle.master_index.specs.ColumnRows.{AreOrderly, ids_in, is_under};
+ghost use Rattle.master_index.specs.ColumnRows.{AreOrderly, is_under};
 ghost use Rattle.master_index.specs.Tables.{rows_of_tables};
 
 use crate::column_list::ColumnList;
@@ -17,7 +17,7 @@ use crate::tables::Tables;
 use hash_keys::HashKeys;
 use indexmap::IndexMap;
 use probe_steps::Steps;
-use row_store::{RowId, Tuple};
+use row_store::{RowId, Tuple, agree, write_key};
 use std::alloc::{AllocError, Global};
 use std::sync::ledger::Ledger;
 use value_pool::ValueId;
@@ -117,31 +117,4 @@ impl ColumnIndex {
         write_key(&mut self.key, tuple, columns);
         take_row(&mut self.rows, self.key.as_slice(), row, steps);
     }
-}
-
-// Writes the ids of a tuple in the columns into a key that has the room.
-fn write_key(key: &mut Key, tuple: &Tuple, columns: &[usize])
-    requires room { length columns.now ≤ key.old.capacity }
-    requires wide { All (λ column. column < length (ids_of tuple.now)) columns.now }
-    ensures ids { key.new.items ≡ ids_in (ids_of tuple.now) columns.now }
-    ensures room { key.new.capacity ≡ key.old.capacity }
-{
-    key.clear();
-    for column in columns {
-        key.push_reserved(tuple.as_slice()[*column]);
-    }
-}
-
-// Whether two tuples have the same ids in the columns.
-fn agree(one: &Tuple, other: &Tuple, columns: &[usize]) -> bool
-    requires wide_one { All (λ column. column < length (ids_of one.now)) columns.now }
-    requires wide_other { All (λ column. column < length (ids_of other.now)) columns.now }
-    ensures { result ≡ bytes_eq (ids_in (ids_of one.now) columns.now) (ids_in (ids_of other.now) columns.now) }
-{
-    for column in columns {
-        if one.as_slice()[*column] != other.as_slice()[*column] {
-            return false;
-        }
-    }
-    true
 }

@@ -11,12 +11,12 @@ ghost use Rattle.master_index.specs.ColumnSets.{has_column};
 ghost use Rattle.master_index.specs.Tables.{rows_of_tables};
 
 use crate::column_set::{ColumnSet, differences};
-use crate::entry::find_or_push;
 use crate::key::{Ids, Key};
 use crate::rising::RowIds;
 use crate::tables::Tables;
 use hash_keys::HashKeys;
 use indexmap::IndexMap;
+use marked_map::find_or_push;
 use probe_steps::Steps;
 use row_store::{RowId, Tuple};
 use std::alloc::AllocError;

@@ -10,7 +10,6 @@ mod column_index;
 mod column_list;
 mod column_rows;
 mod column_set;
-mod entry;
 mod index;
 mod key;
 mod lists;

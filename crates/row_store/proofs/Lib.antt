@@ -1,3 +1,4 @@
+pub mod KeyFacts
 pub mod SlotRows
 pub mod RowsKept
 pub mod Walk

@@ -6,11 +6,13 @@
 //! Tuples are shared, so that a log of changes keeps old ones at no cost.
 #![tactic(auto)]
 
+mod key;
 mod rows;
 mod store;
 mod watch;
 mod watches;
 
+pub use key::{agree, make_room, write_key};
 pub use rows::Rows;
 pub use store::{RowId, RowStore, Tuple};
 pub use watch::Watch;

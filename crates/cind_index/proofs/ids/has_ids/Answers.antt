@@ -1,8 +1,7 @@
 use Rattle.std.proofs.Common.{sym, ap, ◌∙◌, get_or, arith}
 use Rattle.std.proofs.lemmas.List.{take_all}
 use Rattle.std.proofs.lemmas.Slice.Eq.{bytes_eq-Decides}
-use Rattle.row_store.specs.Tuple.{ids_of}
-use Rattle.cind_index.specs.Entries.{ids_in}
+use Rattle.row_store.specs.Tuple.{ids_at, ids_of}
 use Rattle.cind_index.proofs.Values.{differ_from}
 use Rattle.cind_index.proofs.ids.has_ids.Goals as goal
 
@@ -17,4 +16,4 @@ returns c =
     let all = take_all c.loop-place.place c.args.attributes.now (omega arith) in
     let also = take_all c.loop-place.place c.args.ids.now (omega arith) in
     let inv = rw (all, also) at c.loop-place.invariant in
-    sym ((bytes_eq-Decides c.args.ids.now (ids_in (ids_of c.args.tuple.now) c.args.attributes.now)).1 inv)
+    sym ((bytes_eq-Decides c.args.ids.now (ids_at (ids_of c.args.tuple.now) c.args.attributes.now)).1 inv)

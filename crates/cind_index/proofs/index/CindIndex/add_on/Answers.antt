@@ -1,9 +1,9 @@
-use Rattle.std.proofs.Common.{sym, ap, subst, refl, ◌∙◌, ℕ, Option, Some, None}
+use Rattle.std.proofs.Common.{rules, arith, sym, ap, subst, refl, ◌∙◌, ℕ, Option, Some, None}
 use Rattle.std.specs.Prelude.{IfSome}
 use Rattle.std.proofs.lemmas.Option.{same_Some}
-use Rattle.row_store.specs.Tuple.{ids_of}
+use Rattle.row_store.specs.Tuple.{ids_at, ids_of}
 use Rattle.row_store.specs.Watch.{IsWide}
-use Rattle.cind_index.specs.Entries.{ids_in, is_entry, key_on, pattern_on}
+use Rattle.cind_index.specs.Entries.{is_entry, key_on, pattern_on}
 use Rattle.cind_index.specs.KeysHeld.{held, HasKeyAt}
 use Rattle.cind_index.proofs.OwnEntries.{values_there}
 use Rattle.cind_index.specs.Index.{made_of, given}
@@ -15,13 +15,13 @@ if_some : (P Q : ℕ → Type 0) (o : Option ℕ) → ((v : ℕ) → P v → Q v
 if_some P Q None f p = tt
 if_some P Q (Some v) f p = f v p
 
-pub write_ids-requires-2-clause-wide : goal.write_ids-requires-2-clause-wide
-write_ids-requires-2-clause-wide g c =
+pub write_key-requires-2 : goal.write_key-requires-2
+write_key-requires-2 g c =
     let index = c.args.self.now in
     let ids = ids_of c.args.new.now in
     let side = c.args.side in
     let wide = wide_here (made_of index) c.args.table side ids (c.if-not-differs_on.ensures.here refl) c.requires.wide_new in
-    subst (λ xs. IsWide xs ids) (sym c.pattern_on.ensures) (wide_back (key_on index.rule side) (pattern_on index.rule side) ids wide)
+    (omega arith, (search rules, subst (λ xs. IsWide xs ids) (sym c.pattern_on.ensures) (wide_back (key_on index.rule side) (pattern_on index.rule side) ids wide)))
 
 pub returns-clause-ok : goal.returns-clause-ok
 returns-clause-ok g c =
@@ -31,10 +31,10 @@ returns-clause-ok g c =
     let row = c.args.row in
     let here = c.if-not-differs_on.ensures.here refl in
     let wide = wide_here (made_of index) c.args.table side ids here c.requires.wide_new in
-    let key = c.in_ok-key.ensures.ok ∙ c.as_slice.ensures ∙ c.write_ids.ensures.ids ∙ ap (ids_in ids) c.key_on.ensures in
-    let pattern = c.as_slice-pattern.ensures ∙ c.write_ids-2.ensures.ids ∙ ap (ids_in ids) c.pattern_on.ensures in
+    let key = c.in_ok-key.ensures.ok ∙ c.as_slice.ensures ∙ c.write_key.ensures.ids ∙ ap (ids_at ids) c.key_on.ensures in
+    let pattern = c.as_slice-pattern.ensures ∙ c.write_key-2.ensures.ids ∙ ap (ids_at ids) c.pattern_on.ensures in
     on_ok c.put_entry.result (more_by side (is_entry c.in_ok-key.key.items c.as_slice-pattern.result.now row) (given (made_of index) side c.args.table row ids) index.keys c.put_entry.new.keys
-    (λ e. ap (λ k. is_entry k c.as_slice-pattern.result.now row e) key ∙ ap (λ p. is_entry (ids_in ids (key_on index.rule side)) p row e) pattern
+    (λ e. ap (λ k. is_entry k c.as_slice-pattern.result.now row e) key ∙ ap (λ p. is_entry (ids_at ids (key_on index.rule side)) p row e) pattern
     ∙ sym (gives_own index.rule side row ids e wide) ∙ sym (given_here (made_of index) side c.args.table row ids e here))) c.put_entry.ensures.ok
 
 pub returns-clause-new : goal.returns-clause-new
@@ -45,13 +45,13 @@ returns-clause-new g c =
     let row = c.args.row in
     let here = c.if-not-differs_on.ensures.here refl in
     let wide = wide_here (made_of index) c.args.table side ids here c.requires.wide_new in
-    let key = c.in_ok-key.ensures.ok ∙ c.as_slice.ensures ∙ c.write_ids.ensures.ids ∙ ap (ids_in ids) c.key_on.ensures in
-    let pattern = c.as_slice-pattern.ensures ∙ c.write_ids-2.ensures.ids ∙ ap (ids_in ids) c.pattern_on.ensures in
+    let key = c.in_ok-key.ensures.ok ∙ c.as_slice.ensures ∙ c.write_key.ensures.ids ∙ ap (ids_at ids) c.key_on.ensures in
+    let pattern = c.as_slice-pattern.ensures ∙ c.write_key-2.ensures.ids ∙ ap (ids_at ids) c.pattern_on.ensures in
     if_ok _ _ c.put_entry.result (λ new_at known. if_some _ _ new_at (λ place has. (
       here,
       (λ key_is at. subst (λ xs. HasKeyAt c.put_entry.new.keys place xs)
-          (key ∙ same_Some (ids_in ids (key_on index.rule side)) key_is (sym (values_there ids (key_on index.rule side) (wide_front (key_on index.rule side) (pattern_on index.rule side) ids wide)) ∙ at)) has.0),
+          (key ∙ same_Some (ids_at ids (key_on index.rule side)) key_is (sym (values_there ids (key_on index.rule side) (wide_front (key_on index.rule side) (pattern_on index.rule side) ids wide)) ∙ at)) has.0),
       not_held index.rule side row ids index.keys wide
-          (ap (λ k. held index.keys side (record { key = k; pattern = ids_in ids (pattern_on index.rule side); row = row })) (sym key)
+          (ap (λ k. held index.keys side (record { key = k; pattern = ids_at ids (pattern_on index.rule side); row = row })) (sym key)
           ∙ ap (λ p. held index.keys side (record { key = c.in_ok-key.key.items; pattern = p; row = row })) (sym pattern) ∙ has.1),
     )) known) c.put_entry.ensures.new

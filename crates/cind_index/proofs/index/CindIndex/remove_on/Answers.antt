@@ -1,18 +1,18 @@
-use Rattle.std.proofs.Common.{sym, ap, subst, refl, ◌∙◌}
-use Rattle.row_store.specs.Tuple.{ids_of, ids_behind}
+use Rattle.std.proofs.Common.{rules, arith, sym, ap, subst, refl, ◌∙◌}
+use Rattle.row_store.specs.Tuple.{ids_at, ids_behind, ids_of}
 use Rattle.row_store.specs.Watch.{IsWide}
-use Rattle.cind_index.specs.Entries.{ids_in, is_entry, gives_on, key_on, pattern_on}
+use Rattle.cind_index.specs.Entries.{is_entry, gives_on, key_on, pattern_on}
 use Rattle.cind_index.specs.Index.{made_of}
 use Rattle.cind_index.proofs.SideFacts.{wide_here, wide_back, less_by, gives_own, gone_by}
 use Rattle.cind_index.proofs.index.CindIndex.remove_on.Goals as goal
 
-pub write_ids-requires-2-clause-wide : goal.write_ids-requires-2-clause-wide
-write_ids-requires-2-clause-wide g c =
+pub write_key-requires-2 : goal.write_key-requires-2
+write_key-requires-2 g c =
     let index = c.args.self.now in
     let ids = ids_of c.args.old.now in
     let side = c.args.side in
     let wide = wide_here (made_of index) c.args.table side ids (c.if-not-differs_on.ensures.here refl) c.requires.wide_old in
-    subst (λ xs. IsWide xs ids) (sym c.pattern_on.ensures) (wide_back (key_on index.rule side) (pattern_on index.rule side) ids wide)
+    (omega arith, (search rules, subst (λ xs. IsWide xs ids) (sym c.pattern_on.ensures) (wide_back (key_on index.rule side) (pattern_on index.rule side) ids wide)))
 
 pub returns-clause-left : goal.returns-clause-left
 returns-clause-left g c =
@@ -22,9 +22,9 @@ returns-clause-left g c =
     let row = c.args.row in
     let here = c.if-not-differs_on.ensures.here refl in
     let wide = wide_here (made_of index) c.args.table side ids here c.requires.wide_old in
-    let key = c.write_ids.ensures.ids ∙ ap (ids_in ids) c.key_on.ensures in
-    let pattern = c.as_slice-pattern.ensures ∙ c.write_ids-2.ensures.ids ∙ ap (ids_in ids) c.pattern_on.ensures in
+    let key = c.write_key.ensures.ids ∙ ap (ids_at ids) c.key_on.ensures in
+    let pattern = c.as_slice-pattern.ensures ∙ c.write_key-2.ensures.ids ∙ ap (ids_at ids) c.pattern_on.ensures in
     gone_by (made_of index) side c.args.table row ids (ids_behind c.args.new) index.keys c.take_entry.new.keys here (c.if-not-differs_on.ensures.differ refl)
-    (less_by side (is_entry c.write_ids.new.list.items c.as_slice-pattern.result.now row) (gives_on index.rule side row ids) index.keys c.take_entry.new.keys
-    (λ e. ap (λ k. is_entry k c.as_slice-pattern.result.now row e) key ∙ ap (λ p. is_entry (ids_in ids (key_on index.rule side)) p row e) pattern ∙ sym (gives_own index.rule side row ids e wide))
+    (less_by side (is_entry c.write_key.new.key.items c.as_slice-pattern.result.now row) (gives_on index.rule side row ids) index.keys c.take_entry.new.keys
+    (λ e. ap (λ k. is_entry k c.as_slice-pattern.result.now row e) key ∙ ap (λ p. is_entry (ids_at ids (key_on index.rule side)) p row e) pattern ∙ sym (gives_own index.rule side row ids e wide))
     c.take_entry.ensures.left)

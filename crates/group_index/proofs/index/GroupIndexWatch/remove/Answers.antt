@@ -1,10 +1,10 @@
-use Rattle.std.proofs.Common.{◌<◌, ◌≤◌, length, sym, ap, ◌∙◌, subst}
+use Rattle.std.proofs.Common.{rules, arith, ◌<◌, ◌≤◌, length, sym, ap, ◌∙◌, subst}
 use Rattle.std.specs.Prelude.{false, slice_index}
 use Rattle.std.specs.Option.{option_map_or}
 use Rattle.std.proofs.lemmas.List.Elements.{All-tail}
-use Rattle.row_store.specs.Tuple.{ids_of, ids_behind}
+use Rattle.row_store.specs.Tuple.{ids_at, ids_behind, ids_of}
 use Rattle.group_index.specs.GroupSet.{GroupsMade}
-use Rattle.group_index.specs.Keys.{ids_at, gives_alike}
+use Rattle.group_index.specs.Keys.{gives_alike}
 use Rattle.group_index.proofs.WatchFacts.{wide_from, some_group, removed, removed_already}
 use Rattle.group_index.proofs.index.GroupIndexWatch.remove.Goals as goal
 
@@ -27,16 +27,12 @@ returns-then-same_entry-clause-left g c =
     (ap (λ x. option_map_or (λ own. gives_alike own (ids_of c.args.old.now) x c.self.inside.a) (ids_behind c.args.new) false) (sym c.as_slice-x.ensures) ∙ sym c.same_entry.ensures ∙ c.if-same_entry.true)
     c.requires.present
 
-pub write_key-requires-clause-room : goal.write_key-requires-clause-room
-write_key-requires-clause-room g c =
+pub write_key-requires : goal.write_key-requires
+write_key-requires g c =
     let made : GroupsMade = record { table = c.self.inside.table; dependency = record { x = c.self.inside.x; a = c.self.inside.a; rows = c.self.inside.tableau } } in
     let wide = wide_from made c.self.inside.groups c.args.self.now c.args.table (ids_of c.args.old.now) c.self.view_is c.if-table-self.false c.requires.wide_old in
-    rw c.as_slice-x.ensures (c.self.invariant.room (some_group made c.self.inside.groups c.args.self.now c.args.table c.args.row c.self.view_is c.if-table-self.false (ids_of c.args.old.now) (ids_behind c.args.new) wide c.requires.present))
-
-pub write_key-requires-clause-wide : goal.write_key-requires-clause-wide
-write_key-requires-clause-wide g c =
-    let made : GroupsMade = record { table = c.self.inside.table; dependency = record { x = c.self.inside.x; a = c.self.inside.a; rows = c.self.inside.tableau } } in
-    rw c.as_slice-x.ensures (All-tail (λ attribute. attribute < length (ids_of c.args.old.now)) c.self.inside.a c.self.inside.x (wide_from made c.self.inside.groups c.args.self.now c.args.table (ids_of c.args.old.now) c.self.view_is c.if-table-self.false c.requires.wide_old))
+    let room = c.self.invariant.room (some_group made c.self.inside.groups c.args.self.now c.args.table c.args.row c.self.view_is c.if-table-self.false (ids_of c.args.old.now) (ids_behind c.args.new) wide c.requires.present) in
+    (omega arith, (rw c.as_slice-x.ensures room, rw c.as_slice-x.ensures (All-tail (λ attribute. attribute < length (ids_of c.args.old.now)) c.self.inside.a c.self.inside.x wide)))
 
 pub returns-clause-left : goal.returns-clause-left
 returns-clause-left g c =

@@ -1,7 +1,7 @@
 use Rattle.std.proofs.Common.{◌≡◌, sym, ap, subst, ◌∙◌, OnOk, arith}
 use Rattle.std.proofs.lemmas.Bool.Decides.{nat_tests}
-use Rattle.row_store.specs.Tuple.{ids_of}
-use Rattle.master_index.specs.ColumnRows.{IsComparedIn, IsPutUnder, ids_in}
+use Rattle.row_store.specs.Tuple.{ids_at, ids_of}
+use Rattle.master_index.specs.ColumnRows.{IsComparedIn, IsPutUnder}
 use Rattle.master_index.specs.Between.{IsOver, in_rows, with_one}
 use Rattle.master_index.specs.Tables.{rows_of_tables}
 use Rattle.master_index.proofs.BetweenFacts.{both_ok, on_err, after_put, after_refusal}
@@ -16,7 +16,7 @@ returns-clause-ok g c =
     let rows = rows_of_tables c.args.tables.now.stores.items in
     let tuple = ids_of c.args.tuple.now in
     let here : list.master ≡ c.args.master = grind (arith, nat_tests, c.if-master-self.false) in
-    let key : c.write_key.new.key.items ≡ ids_in tuple list.columns = c.write_key.ensures.ids ∙ ap (ids_in tuple) c.as_slice-columns.ensures in
+    let key : c.write_key.new.key.items ≡ ids_at tuple list.columns = c.write_key.ensures.ids ∙ ap (ids_at tuple) c.as_slice-columns.ensures in
     let compared = subst (λ n. OnOk c.put_row.result (IsComparedIn rows n old new c.write_key.new.key.items row tuple)) (sym here) c.put_row.ensures.compared in
     subst (λ n. OnOk c.put_row.result (IsOver (with_one (in_rows rows) n row tuple) list new)) here
     (both_ok c.put_row.result (λ put alike. after_put rows list old new row tuple c.requires.in_step (subst (λ ids. IsPutUnder old new ids row) key put) c.put_row.ensures.noted

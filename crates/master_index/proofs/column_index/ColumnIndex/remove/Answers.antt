@@ -4,8 +4,8 @@ use Rattle.std.specs.Str.{bytes_eq}
 use Rattle.std.proofs.lemmas.Bool.Decides.{nat_tests}
 use Rattle.std.proofs.lemmas.Option.{none-some, same_Some}
 use Rattle.std.proofs.lemmas.Slice.Eq.{bytes_eq-Decides}
-use Rattle.row_store.specs.Tuple.{ids_of}
-use Rattle.master_index.specs.ColumnRows.{IsTakenFrom, ids_in}
+use Rattle.row_store.specs.Tuple.{ids_at, ids_of}
+use Rattle.master_index.specs.ColumnRows.{IsTakenFrom}
 use Rattle.master_index.specs.Between.{IsBetween, in_rows, with_one}
 use Rattle.master_index.specs.Tables.{rows_of_tables}
 use Rattle.master_index.proofs.BetweenFacts.{after_take, stays_under}
@@ -21,9 +21,9 @@ returns-then-agree-clause-in_step g c =
     let left = ids_of c.in-Some.left.now in
     let here : c.args.master ≡ list.master = grind (arith, nat_tests, c.if-master-self.false) in
     let got = subst (λ n. finite.get rows (n, c.args.row) ≡ Some left) here (sym c.in-Some.ensures) in
-    let alike = (bytes_eq-Decides (ids_in left c.as_slice-columns.result.now) (ids_in tuple c.as_slice-columns.result.now)).0 (sym c.agree.ensures ∙ c.if-agree.true) in
+    let alike = (bytes_eq-Decides (ids_at left c.as_slice-columns.result.now) (ids_at tuple c.as_slice-columns.result.now)).0 (sym c.agree.ensures ∙ c.if-agree.true) in
     stays_under rows list old old c.args.row tuple (subst (λ n. IsBetween (in_rows rows) (with_one (in_rows rows) n c.args.row tuple) list old) here c.requires.between) left got
-    (subst (λ columns. ids_in left columns ≡ ids_in tuple columns) c.as_slice-columns.ensures alike)
+    (subst (λ columns. ids_at left columns ≡ ids_at tuple columns) c.as_slice-columns.ensures alike)
 
 pub returns-clause-in_step : goal.returns-clause-in_step
 returns-clause-in_step g c =
@@ -34,13 +34,13 @@ returns-clause-in_step g c =
     let rows = rows_of_tables c.args.tables.now.stores.items in
     let tuple = ids_of c.args.tuple.now in
     let here : c.args.master ≡ list.master = grind (arith, nat_tests, c.if-master-self.false) in
-    let key = c.as_slice.ensures ∙ c.write_key.ensures.ids ∙ ap (ids_in tuple) c.as_slice-columns.ensures in
-    let Apart = λ (n : ℕ). (left : List ℕ) → finite.get rows (n, row) ≡ Some left → bytes_eq (ids_in left list.columns) (ids_in tuple list.columns) ≡ false in
+    let key = c.as_slice.ensures ∙ c.write_key.ensures.ids ∙ ap (ids_at tuple) c.as_slice-columns.ensures in
+    let Apart = λ (n : ℕ). (left : List ℕ) → finite.get rows (n, row) ≡ Some left → bytes_eq (ids_at left list.columns) (ids_at tuple list.columns) ≡ false in
     let apart : Apart c.args.master = λ left got. elim c.match-get.branch [
       | in-Some+else-agree w ↦
           let same : ids_of w.in-Some.left.now ≡ left = same_Some (ids_of w.in-Some.left.now) left (w.in-Some.ensures ∙ got) in
-          subst (λ columns. bytes_eq (ids_in left columns) (ids_in tuple columns) ≡ false) c.as_slice-columns.ensures
-          (subst (λ ids. bytes_eq (ids_in ids c.as_slice-columns.result.now) (ids_in tuple c.as_slice-columns.result.now) ≡ false) same (sym w.agree.ensures ∙ w.if-agree.false))
+          subst (λ columns. bytes_eq (ids_at left columns) (ids_at tuple columns) ≡ false) c.as_slice-columns.ensures
+          (subst (λ ids. bytes_eq (ids_at ids c.as_slice-columns.result.now) (ids_at tuple c.as_slice-columns.result.now) ≡ false) same (sym w.agree.ensures ∙ w.if-agree.false))
       | in_default w ↦ absurd (none-some left (w.in_default.ensures ∙ got))
     ] in
     after_take rows list old new row tuple (subst (λ n. IsBetween (in_rows rows) (with_one (in_rows rows) n row tuple) list old) here c.requires.between)

@@ -1,10 +1,9 @@
 use Rattle.std.proofs.Common.{sym, ap, ◌∙◌, get_or, arith}
 use Rattle.std.proofs.lemmas.List.{take_all}
 use Rattle.std.proofs.lemmas.Slice.Eq.{bytes_eq-Decides}
-use Rattle.row_store.specs.Tuple.{ids_of}
-use Rattle.cind_index.specs.Entries.{ids_in}
-use Rattle.cind_index.proofs.Values.{differ_at}
-use Rattle.cind_index.proofs.ids.agree.Goals as goal
+use Rattle.row_store.specs.Tuple.{ids_at, ids_of}
+use Rattle.row_store.proofs.KeyFacts.{differ_at}
+use Rattle.row_store.proofs.key.agree.Goals as goal
 
 pub returns-then-as_slice-attribute : goal.returns-then-as_slice-attribute
 returns-then-as_slice-attribute c =
@@ -17,4 +16,4 @@ pub returns : goal.returns
 returns c =
     let all = take_all c.loop-attribute.attribute-index c.args.attributes.now (omega arith) in
     let inv = rw all at c.loop-attribute.invariant in
-    sym ((bytes_eq-Decides (ids_in (ids_of c.args.one.now) c.args.attributes.now) (ids_in (ids_of c.args.other.now) c.args.attributes.now)).1 inv)
+    sym ((bytes_eq-Decides (ids_at (ids_of c.args.one.now) c.args.attributes.now) (ids_at (ids_of c.args.other.now) c.args.attributes.now)).1 inv)
