@@ -1,5 +1,6 @@
 pub mod Listing
 pub mod Text
+pub mod Told
 pub mod Taking
 pub mod Explained
 pub mod Report

@@ -1,11 +1,11 @@
 -- The JSON report of a list: an object with the number of the lines, and an object for each of them. The members of an
 -- object stand in the order of their keys.
-use Rattle.std.specs.Prelude.{ℕ, ◌+◌, List, [], ◌∷◌, ◌++◌, map, length, codes}
+use Rattle.std.specs.Prelude.{ℕ, List, [], ◌∷◌, ◌++◌, Option, None, Some, map, length, codes}
 use Rattle.serde_json.specs.Data.{Data, number, object, string, array, unsigned, Members, member, no_members}
 use Rattle.serde_json.specs.View.{items_of}
 use Rattle.serde_json.specs.Written.{compact_text}
 use Rattle.rule_model.specs.Books.{Book}
-use Rattle.violation_report.specs.Text.{dep_name, dep_attr, dep_table, cind_name, cind_table}
+use Rattle.violation_report.specs.Text.{Told, told_of}
 use Rattle.violation_report.specs.declared.line.Line.{Line}
 use Rattle.violation_report.specs.declared.line.Line.TheVariants.{Single, Pair, Orphan}
 
@@ -20,35 +20,28 @@ object_of all = object (members all)
 abbrev pub number_of : ℕ → Data
 number_of n = number (unsigned n)
 
--- the line by its parts; the tableau row counts from 1
+-- a member of what may be missing
+abbrev pub member_if : {A : Type 0} → List ℕ → (A → Data) → Option A → List (List ℕ × Data)
+member_if key write None = []
+member_if key write (Some value) = (key, write value) ∷ []
+
+-- what the line tells; the tableau row counts from 1
+abbrev pub told_data : Told → Data
+told_data told = object_of (
+    member_if (codes "attr") string told.attr
+    ++ (codes "kind", string told.kind)
+    ∷ member_if (codes "partner") number_of told.partner
+    ++ (codes "row", number_of told.row)
+    ∷ (codes "rule", string told.rule)
+    ∷ (codes "table", string told.table)
+    ∷ (codes "tableau", number_of told.number)
+    ∷ []
+    )
+
 abbrev pub line_data : Book → Line → Data
-line_data rules (Single dep k row) = object_of (
-    (codes "attr", string (dep_attr rules dep))
-    ∷ (codes "kind", string (codes "single"))
-    ∷ (codes "row", number_of row)
-    ∷ (codes "rule", string (dep_name rules dep))
-    ∷ (codes "table", string (dep_table rules dep))
-    ∷ (codes "tableau", number_of (k + 1))
-    ∷ []
-    )
-line_data rules (Pair dep k row partner) = object_of (
-    (codes "attr", string (dep_attr rules dep))
-    ∷ (codes "kind", string (codes "pair"))
-    ∷ (codes "partner", number_of partner)
-    ∷ (codes "row", number_of row)
-    ∷ (codes "rule", string (dep_name rules dep))
-    ∷ (codes "table", string (dep_table rules dep))
-    ∷ (codes "tableau", number_of (k + 1))
-    ∷ []
-    )
-line_data rules (Orphan cind k row) = object_of (
-    (codes "kind", string (codes "orphan"))
-    ∷ (codes "row", number_of row)
-    ∷ (codes "rule", string (cind_name rules cind))
-    ∷ (codes "table", string (cind_table rules cind))
-    ∷ (codes "tableau", number_of (k + 1))
-    ∷ []
-    )
+line_data rules (Single dep k row) = told_data (told_of rules (Single dep k row))
+line_data rules (Pair dep k row partner) = told_data (told_of rules (Pair dep k row partner))
+line_data rules (Orphan cind k row) = told_data (told_of rules (Orphan cind k row))
 
 abbrev pub lines_data : Book → List Line → Data
 lines_data rules lines = array (items_of (map (line_data rules) lines))

@@ -1,5 +1,5 @@
 -- The text of a line of the list.
-use Rattle.std.specs.Prelude.{ℕ, ◌+◌, ◌<◌, List, [], ◌∷◌, length, codes, decimal, IsSomeAnd}
+use Rattle.std.specs.Prelude.{ℕ, ◌+◌, ◌<◌, List, [], ◌∷◌, ◌++◌, Option, None, Some, option_map, length, codes, decimal, IsSomeAnd}
 use Rattle.std.specs.List.{slice_get, concat}
 use Rattle.std.specs.Option.{option_map_or}
 use Rattle.schema_core.specs.declared.schema.Attr.{Attr}
@@ -39,15 +39,46 @@ cind_table rules cind = option_map_or (λ (c : Cind). table_name rules.schema c.
 
 -- ---- texts
 
--- `single RULE.K ATTR TABLE ROW`, `pair RULE.K ATTR TABLE ROW PARTNER` or `orphan RULE.K TABLE ROW`, and the line's end.
--- K counts from 1.
+-- What a line tells: its kind; the rule, and the number of the tableau row from 1; of a dependency the attribute on its right; the
+-- table, of an inclusion dependency the left one; the row; and of a pair the partner.
+pub record Told : Type 0 where
+  pub kind : List ℕ
+  pub rule : List ℕ
+  pub number : ℕ
+  pub attr : Option (List ℕ)
+  pub table : List ℕ
+  pub row : ℕ
+  pub partner : Option ℕ
+
+abbrev pub dep_told : Book → List ℕ → ℕ → ℕ → ℕ → Option ℕ → Told
+dep_told rules kind dep k row partner =
+    record { kind = kind; rule = dep_name rules dep; number = k + 1; attr = Some (dep_attr rules dep); table = dep_table rules dep; row = row; partner = partner }
+
+abbrev pub cind_told : Book → ℕ → ℕ → ℕ → Told
+cind_told rules cind k row =
+    record { kind = codes "orphan"; rule = cind_name rules cind; number = k + 1; attr = None; table = cind_table rules cind; row = row; partner = None }
+
+abbrev pub told_of : Book → Line → Told
+told_of rules (Single dep k row) = dep_told rules (codes "single") dep k row None
+told_of rules (Pair dep k row partner) = dep_told rules (codes "pair") dep k row (Some partner)
+told_of rules (Orphan cind k row) = cind_told rules cind k row
+
+-- a text behind a blank, where there is one
+abbrev pub spaced : Option (List ℕ) → List ℕ
+spaced None = []
+spaced (Some text) = codes " " ++ text
+
+-- `KIND RULE.NUMBER ATTR TABLE ROW PARTNER`, without what the line doesn't tell, and the line's end
+abbrev pub told_text : Told → List ℕ
+told_text told = concat (
+    told.kind ∷ codes " " ∷ told.rule ∷ codes "." ∷ decimal told.number ∷ spaced told.attr ∷ codes " " ∷ told.table ∷ codes " " ∷ decimal told.row
+    ∷ spaced (option_map decimal told.partner) ∷ codes "\n" ∷ []
+    )
+
 abbrev pub line_text : Book → Line → List ℕ
-line_text rules (Single dep k row) =
-    concat (codes "single " ∷ dep_name rules dep ∷ codes "." ∷ decimal (k + 1) ∷ codes " " ∷ dep_attr rules dep ∷ codes " " ∷ dep_table rules dep ∷ codes " " ∷ decimal row ∷ codes "\n" ∷ [])
-line_text rules (Pair dep k row partner) =
-    concat (codes "pair " ∷ dep_name rules dep ∷ codes "." ∷ decimal (k + 1) ∷ codes " " ∷ dep_attr rules dep ∷ codes " " ∷ dep_table rules dep ∷ codes " " ∷ decimal row ∷ codes " " ∷ decimal partner ∷ codes "\n" ∷ [])
-line_text rules (Orphan cind k row) =
-    concat (codes "orphan " ∷ cind_name rules cind ∷ codes "." ∷ decimal (k + 1) ∷ codes " " ∷ cind_table rules cind ∷ codes " " ∷ decimal row ∷ codes "\n" ∷ [])
+line_text rules (Single dep k row) = told_text (told_of rules (Single dep k row))
+line_text rules (Pair dep k row partner) = told_text (told_of rules (Pair dep k row partner))
+line_text rules (Orphan cind k row) = told_text (told_of rules (Orphan cind k row))
 
 -- ---- lines in range
 

@@ -3,18 +3,20 @@
 //! The text is that of one `serde_json` value, but no such value of all lines is built: it would hold each line once more,
 //! with its members in memory. Each line is written by itself, and names are quoted by `serde_json`.
 
-ghost use Rattle.std.specs.Prelude.{◌≡◌, ◌++◌, ◌+◌, ◌*◌, ◌≤◌, [], ◌∷◌, codes, decimal, IfOk, OnOk};
+ghost use Rattle.std.specs.Prelude.{◌≡◌, ◌++◌, ◌+◌, ◌*◌, ◌≤◌, [], ◌∷◌, codes, decimal, option_map, IfOk, OnOk};
 ghost use Rattle.std.specs.List.{concat};
 ghost use Rattle.serde_json.specs.Data.{string};
 ghost use Rattle.serde_json.specs.Written.{comma_if, compact_text};
 ghost use Rattle.violation_report.specs.Listing.{listing};
 ghost use Rattle.violation_report.specs.Probes.{list_probes};
 ghost use Rattle.violation_report.specs.Report.{line_data, report_text};
-ghost use Rattle.violation_report.specs.Text.{HasCindRow, HasDepRow, IsLineOf};
+ghost use Rattle.violation_report.specs.Text.{IsLineOf};
+ghost use Rattle.violation_report.specs.Told.{attr_piece, partner_piece};
 
 use crate::counting::count;
-use crate::line::{Line, cind_head, dep_head, push_all};
+use crate::line::{Line, push_all};
 use crate::taker::Taker;
+use crate::told::Told;
 use crate::walking::walk;
 use bench_core::BenchQueries;
 use itoa::Buffer;
@@ -101,127 +103,52 @@ fn push_object(rules: &RuleBook, line: &Line, out: &mut Vec<u8>) -> Result<(), A
     requires { IsLineOf rules.now line.now }
     ensures { OnOk result (out.new.items ≡ out.old.items ++ compact_text (line_data rules.now line.now)) }
 {
-    match line {
-        Line::Single { dep, k, row } => push_single(rules, *dep, *k, *row, out),
-        Line::Pair {
-            dep,
-            k,
-            row,
-            partner,
-        } => push_pair(rules, *dep, *k, *row, *partner, out),
-        Line::Orphan { cind, k, row } => push_orphan(rules, *cind, *k, *row, out),
+    let told = Told::of(rules, line);
+    out.push(b'{')?;
+    push_attr(told.attr, out)?;
+    push_all(&[b"\"kind\":\"", told.kind.as_bytes(), b"\""], out)?;
+    push_partner(told.partner, out)?;
+    push_number(b",\"row\":", told.row, out)?;
+    push_name(b",\"rule\":", told.rule, out)?;
+    push_name(b",\"table\":", told.table, out)?;
+    push_number(b",\"tableau\":", told.number as u64, out)?;
+    out.push(b'}')?;
+    Ok(())
+}
+
+fn push_attr(attr: Option<&str>, out: &mut Vec<u8>) -> Result<(), AllocError>
+    ensures { OnOk result (out.new.items ≡ out.old.items ++ attr_piece (option_map (λ name. name.now) attr.entry)) }
+{
+    match attr {
+        Some(attr) => {
+            push_name(b"\"attr\":", attr, out)?;
+            out.push(b',')?;
+            Ok(())
+        }
+        None => Ok(()),
     }
 }
 
-fn push_single(
-    rules: &RuleBook,
-    dep: usize,
-    k: usize,
-    row: RowId,
-    out: &mut Vec<u8>,
-) -> Result<(), AllocError>
-    requires { HasDepRow rules.now dep k }
-    ensures { OnOk result (out.new.items ≡ out.old.items ++ compact_text (line_data rules.now (Line.Single dep k row))) }
+fn push_partner(partner: Option<RowId>, out: &mut Vec<u8>) -> Result<(), AllocError>
+    ensures { OnOk result (out.new.items ≡ out.old.items ++ partner_piece partner) }
 {
-    let head = dep_head(rules, dep, k);
-    let alloc = *out.allocator();
-    let attr = quoted(alloc, head.attr)?;
-    let rule = quoted(alloc, head.rule)?;
-    let table = quoted(alloc, head.table)?;
-    let mut number = Buffer::new();
-    let mut id = Buffer::new();
-    push_all(
-        &[
-            b"{\"attr\":",
-            attr.as_slice(),
-            b",\"kind\":\"single\",\"row\":",
-            id.format(row).as_bytes(),
-            b",\"rule\":",
-            rule.as_slice(),
-            b",\"table\":",
-            table.as_slice(),
-            b",\"tableau\":",
-            number.format(head.number).as_bytes(),
-            b"}",
-        ],
-        out,
-    )
+    match partner {
+        Some(partner) => push_number(b",\"partner\":", partner, out),
+        None => Ok(()),
+    }
 }
 
-fn push_pair(
-    rules: &RuleBook,
-    dep: usize,
-    k: usize,
-    row: RowId,
-    partner: RowId,
-    out: &mut Vec<u8>,
-) -> Result<(), AllocError>
-    requires { HasDepRow rules.now dep k }
-    ensures { OnOk result (out.new.items ≡ out.old.items ++ compact_text (line_data rules.now (Line.Pair dep k row partner))) }
+fn push_number(key: &[u8], number: u64, out: &mut Vec<u8>) -> Result<(), AllocError>
+    ensures { OnOk result (out.new.items ≡ out.old.items ++ (key.now ++ decimal number)) }
 {
-    let head = dep_head(rules, dep, k);
-    let alloc = *out.allocator();
-    let attr = quoted(alloc, head.attr)?;
-    let rule = quoted(alloc, head.rule)?;
-    let table = quoted(alloc, head.table)?;
-    let mut number = Buffer::new();
-    let mut id = Buffer::new();
-    let mut other = Buffer::new();
-    push_all(
-        &[
-            b"{\"attr\":",
-            attr.as_slice(),
-            b",\"kind\":\"pair\",\"partner\":",
-            other.format(partner).as_bytes(),
-            b",\"row\":",
-            id.format(row).as_bytes(),
-            b",\"rule\":",
-            rule.as_slice(),
-            b",\"table\":",
-            table.as_slice(),
-            b",\"tableau\":",
-            number.format(head.number).as_bytes(),
-            b"}",
-        ],
-        out,
-    )
+    let mut digits = Buffer::new();
+    push_all(&[key, digits.format(number).as_bytes()], out)
 }
 
-fn push_orphan(
-    rules: &RuleBook,
-    cind: usize,
-    k: usize,
-    row: RowId,
-    out: &mut Vec<u8>,
-) -> Result<(), AllocError>
-    requires { HasCindRow rules.now cind k }
-    ensures { OnOk result (out.new.items ≡ out.old.items ++ compact_text (line_data rules.now (Line.Orphan cind k row))) }
+// Appends a name as a JSON string behind its key.
+fn push_name(key: &[u8], name: &str, out: &mut Vec<u8>) -> Result<(), AllocError>
+    ensures { OnOk result (out.new.items ≡ out.old.items ++ (key.now ++ compact_text (string name.now))) }
 {
-    let head = cind_head(rules, cind, k);
-    let alloc = *out.allocator();
-    let rule = quoted(alloc, head.rule)?;
-    let table = quoted(alloc, head.table)?;
-    let mut number = Buffer::new();
-    let mut id = Buffer::new();
-    push_all(
-        &[
-            b"{\"kind\":\"orphan\",\"row\":",
-            id.format(row).as_bytes(),
-            b",\"rule\":",
-            rule.as_slice(),
-            b",\"table\":",
-            table.as_slice(),
-            b",\"tableau\":",
-            number.format(head.number).as_bytes(),
-            b"}",
-        ],
-        out,
-    )
-}
-
-// A name as a JSON string.
-fn quoted(alloc: Global, name: &str) -> Result<Vec<u8>, AllocError>
-    ensures { IfOk result (λ text. text.items ≡ compact_text (string name.now)) }
-{
-    json!(in alloc; name)?.to_vec(alloc)
+    let quoted = json!(in *out.allocator(); name)?.to_vec(*out.allocator())?;
+    push_all(&[key, quoted.as_slice()], out)
 }

@@ -9,6 +9,7 @@ mod json;
 mod line;
 mod listing;
 mod taker;
+mod told;
 mod walking;
 
 pub use clean::is_clean;
