@@ -1,4 +1,4 @@
-//! `corpus`: makes the calls of all cases in the working folder, and tells which of them the program answers otherwise.
+//! `corpus`: makes the calls of all cases in the working folder, and tells which of them a program answers otherwise.
 #![tactic(auto)]
 
 use program_cases::run_cases;

@@ -1,5 +1,6 @@
 //! The forms that ask about the rules of a project alone: whether the dependencies of a table are consistent, whether they
-//! imply one more, and whether a certificate holds. Each answers with a certificate, or with the verdict on one.
+//! imply one more, whether a certificate holds, and which rules of a table the others imply. The first two answer with a
+//! certificate, the third with the verdict on one, the last with the fates of the rules' pieces.
 #![tactic(auto)]
 
 pub mod check_form;
