@@ -24,3 +24,5 @@ mod printed_rules;
 mod printed_schemas;
 #[cfg(test)]
 mod rule_refusals;
+#[cfg(test)]
+mod uncalled;
