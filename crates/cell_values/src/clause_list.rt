@@ -32,6 +32,7 @@ impl ClauseList {
         }
     }
 
+    /// Where memory is short, nothing is promised of the list.
     pub fn push(&mut self, clause: Vec<Literal>) -> Result<(), AllocError>
         ensures { OnOk result (self.new ≡ self.old ++ clause.items ∷ []) }
     {

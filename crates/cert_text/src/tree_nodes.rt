@@ -53,7 +53,7 @@ impl TreeNodes {
         self.places.as_slice().len()
     }
 
-    /// Adds a node of a form of its own.
+    /// Adds a node of a form of its own. Where memory is short, nothing is promised of the nodes.
     pub fn push(&mut self, node: NodeLine) -> Result<(), AllocError>
         ensures { OnOk result (self.new ≡ self.old ++ node ∷ []) }
     {
@@ -66,7 +66,7 @@ impl TreeNodes {
         Ok(())
     }
 
-    /// Adds a node of the form of the one at that place.
+    /// Adds a node of the form of the one at that place. Where memory is short, nothing is promised of the nodes.
     pub fn push_again(&mut self, line: usize, place: usize) -> Result<(), AllocError>
         requires { place < length self.old }
         ensures { (d : AnyLine) → OnOk result (self.new ≡ self.old ++ at_line line (slice_index_or self.old place d) ∷ []) }

@@ -42,7 +42,7 @@ impl<'a> FileRecords<'a> {
     }
 
     /// Takes the next record into `row`, and says whether there was one. Over bytes in memory nothing
-    /// but want of memory can fail.
+    /// but want of memory can fail; then nothing is promised of the place where the reader stands.
     pub fn next(&mut self, row: &mut ByteRecord) -> Result<bool, AllocError>
         ensures { IfOk result (λ found. TakesNext found self.old (fields_of row.new) self.new) }
     {

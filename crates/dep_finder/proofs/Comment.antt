@@ -1,14 +1,12 @@
 -- A comment at the end of a file of lines is passed over.
-use Rattle.std.proofs.Common.{◌≡◌, ℕ, suc, ◌+◌, ◌<◌, ◌≤◌, ◌^◌, Bool, true, false, cond, eqb, List, [], ◌∷◌, ◌++◌, length, get_or, refl, sym, ap, subst, ◌∙◌, arith, append_assoc, lit<}
+use Rattle.std.proofs.Common.{◌≡◌, ℕ, ◌+◌, ◌<◌, ◌^◌, Bool, true, false, cond, eqb, List, [], ◌∷◌, ◌++◌, length, refl, sym, ap, subst, ◌∙◌, arith, append_assoc, lit<}
 use Rattle.std.specs.Prelude.{codes, decimal, map, not}
-use Rattle.std.specs.List.{AllByRecursion}
 use Rattle.std.specs.Option.{option_map, option_to_list}
 use Rattle.std.specs.Str.Parse.{AllDigits}
 use Rattle.std.specs.Char.{digit_value}
-use Rattle.std.proofs.lemmas.Bool.{cond-false, ne_eqb}
 use Rattle.std.proofs.lemmas.Fmt.{IsAscii-decimal, decimal_is_IsNumeral}
-use Rattle.std.proofs.lemmas.List.{append-nil, map-append}
-use Rattle.std.proofs.lemmas.Str.{IsUtf8-append, IsUtf8-from_ascii, is_utf8-from_IsUtf8}
+use Rattle.std.proofs.lemmas.List.{map-append}
+use Rattle.std.proofs.lemmas.Str.{IsUtf8-from_ascii, is_utf8-from_IsUtf8}
 use Rattle.line_grammar.specs.FileLines.{content_of, file_lines, lines_from}
 use Rattle.line_grammar.specs.Lines.{cut_at_line_feeds, in_front, lines, without_return}
 use Rattle.line_grammar.specs.Spelling.{file_text, line_text}
@@ -17,6 +15,7 @@ use Rattle.line_grammar.specs.declared.line.Line.{Line}
 use Rattle.line_grammar.specs.declared.tokens.LineTokens.{LineTokens}
 use Rattle.line_grammar.specs.declared.tokens.LineTokens.TheVariants.{NotUtf8, Passed}
 use Rattle.line_grammar.specs.declared.writing.Part.{Part}
+use Rattle.line_grammar.proofs.SpelledLines.{cut-plain, without_return-plain}
 use Rattle.line_grammar.proofs.SpelledTokens.{IsPlain, IsPlain-append, plain_byte}
 use Rattle.line_grammar.proofs.Utf8.{IsUtf8-cons}
 
@@ -63,22 +62,11 @@ cut_file (line ∷ ls) tail =
 
 -- ---- a plain line
 
-cut_plain : (line : List ℕ) → IsPlain line → cut_at_line_feeds (line ++ 10 ∷ []) ≡ line ∷ []
-cut_plain [] plain = refl
-cut_plain (b ∷ line) plain =
-    cond-false (eqb b 10) ([] ∷ cut_at_line_feeds (line ++ 10 ∷ [])) (in_front b (cut_at_line_feeds (line ++ 10 ∷ []))) (ne_eqb b 10 plain.0.0)
-    ∙ ap (in_front b) (cut_plain line plain.1)
-
-same_line : (line : List ℕ) → IsPlain line → without_return line ≡ line
-same_line [] plain = refl
-same_line (b ∷ []) plain = cond-false (eqb b 13) [] (b ∷ []) (ne_eqb b 13 plain.0.1)
-same_line (b ∷ c ∷ line) plain = ap (λ (bs : List ℕ). b ∷ bs) (same_line (c ∷ line) plain.1)
-
 lines_with : (ls : List (List Part)) (line : List ℕ) → IsPlain line → lines (file_text ls ++ (line ++ 10 ∷ [])) ≡ lines (file_text ls) ++ line ∷ []
 lines_with ls line plain =
-    ap (map without_return) (cut_file ls (line ++ 10 ∷ []) ∙ ap (λ (rest : List (List ℕ)). cut_at_line_feeds (file_text ls) ++ rest) (cut_plain line plain))
+    ap (map without_return) (cut_file ls (line ++ 10 ∷ []) ∙ ap (λ (rest : List (List ℕ)). cut_at_line_feeds (file_text ls) ++ rest) (cut-plain line [] plain))
     ∙ map-append without_return (cut_at_line_feeds (file_text ls)) (line ∷ [])
-    ∙ ap (λ (last : List ℕ). lines (file_text ls) ++ last ∷ []) (same_line line plain)
+    ∙ ap (λ (last : List ℕ). lines (file_text ls) ++ last ∷ []) (without_return-plain line plain)
 
 -- ---- a line that is passed over
 

@@ -2,8 +2,9 @@
 //! told by numbers of attributes and of rows; names and rules stand above.
 //!
 //! Two rows that agree on some attributes have one leader there, the first row that agrees with them. Leaders by one
-//! attribute more come from those by the others in one pass, as partitions of rows are refined in TANE (Huhtala et al.,
-//! 1999); constants are the classes of enough rows (after Chiang and Miller, 2008, and Fan et al., 2011).
+//! attribute more come from those by the others in one pass, or class by class where few rows are left, as
+//! partitions of rows are refined in TANE (Huhtala et al., 1999); constants are the classes of enough rows (after Chiang and
+//! Miller, 2008, and Fan et al., 2011).
 #![tactic(auto)]
 
 mod ahead;

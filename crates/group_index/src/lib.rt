@@ -3,7 +3,8 @@
 //! the rows give, with the number of its dirty groups, those in which some row violates some tableau row.
 //!
 //! A change of a row costs a hash and a search in its group, which takes logarithmic time however many rows that has, and a
-//! look at each tableau row only where the group comes, or where its A ids become alike, mixed, or another one. The dirty
+//! look at each tableau row only where the group comes, where its A ids become alike, mixed, or another one, or where totals
+//! are kept. The dirty
 //! groups are marked, and only they are gone through for the violations.
 //!
 //! How many violations a tableau row has is kept as a running total where the tableau has few rows and the row no set at its

@@ -1,9 +1,9 @@
 -- Lines cut one after another from the front of a file.
 use Rattle.std.proofs.Common.{inl, inr, ◌≡◌, ◌≢◌, ℕ, zero, suc, ◌+◌, ◌-◌, ◌<◌, ◌≤◌, List, [], ◌∷◌, length, get_or, take, drop, refl, ap, sym, ◌∙◌, arith}
-use Rattle.std.specs.Prelude.{◌==◌, slice_range}
+use Rattle.std.specs.Prelude.{◌==◌}
 use Rattle.std.specs.List.{position_or_len}
 use Rattle.std.proofs.lemmas.Bool.{cases_eq, ne_eqb}
-use Rattle.std.proofs.lemmas.List.{take-take, drop-drop, take_all, length-drop}
+use Rattle.std.proofs.lemmas.List.{take-take}
 use Rattle.line_grammar.specs.Lines.{line_feed, in_front, cut_at_line_feeds, without_return, lines}
 
 one_plus : (n : ℕ) → 1 + n ≡ suc n
@@ -66,11 +66,3 @@ drop_past [] zero le = refl
 drop_past [] (suc n) le = refl
 drop_past (b ∷ bytes) zero le = absurd (omega arith)
 drop_past (b ∷ bytes) (suc n) le = drop_past bytes n (omega arith)
-
--- the same in a file, from a place on
-pub line_in_file : (bytes : List ℕ) (from k next : ℕ) → from ≤ length bytes → lines (take (length bytes - from) (drop from bytes)) ≡ take k (take (length bytes - from) (drop from bytes)) ∷ lines (drop next (take (length bytes - from) (drop from bytes)))
-    → lines (drop from bytes) ≡ slice_range bytes from (from + k) ∷ lines (drop (from + next) bytes)
-line_in_file bytes from k next within first =
-    let all : take (length bytes - from) (drop from bytes) ≡ drop from bytes = take_all (length bytes - from) (drop from bytes) (omega (arith, length-drop from bytes)) in
-    let here : (from + k) - from ≡ k = omega arith in
-    rw (here, ← drop-drop next from bytes) (rw all at first)

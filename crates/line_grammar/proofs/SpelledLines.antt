@@ -97,7 +97,7 @@ tokens_from-parts room before (part.Token t ∷ line) good apart enough =
 
 -- ---- the line as a whole
 
-IsUtf8-line_text : (line : List Part) → AllByRecursion IsGoodToken (tokens_in line) → IsUtf8 (line_text line)
+pub IsUtf8-line_text : (line : List Part) → AllByRecursion IsGoodToken (tokens_in line) → IsUtf8 (line_text line)
 IsUtf8-line_text [] good = IsUtf8-nil
 IsUtf8-line_text (part.Space ∷ line) good = IsUtf8-cons 32 (line_text line) (omega arith) (IsUtf8-line_text line good)
 IsUtf8-line_text (part.Tab ∷ line) good = IsUtf8-cons 9 (line_text line) (omega arith) (IsUtf8-line_text line good)
@@ -120,16 +120,16 @@ line_tokens-written line readable =
 
 -- ---- the lines of a file
 
-cut-plain : (line rest : List ℕ) → IsPlain line → cut_at_line_feeds (line ++ 10 ∷ rest) ≡ line ∷ cut_at_line_feeds rest
+pub cut-plain : (line rest : List ℕ) → IsPlain line → cut_at_line_feeds (line ++ 10 ∷ rest) ≡ line ∷ cut_at_line_feeds rest
 cut-plain [] rest plain = refl
 cut-plain (b ∷ line) rest plain = cond-false (eqb b 10) _ _ (ne_eqb b 10 plain.0.0) ∙ ap (in_front b) (cut-plain line rest plain.1)
 
-without_return-plain : (line : List ℕ) → IsPlain line → without_return line ≡ line
+pub without_return-plain : (line : List ℕ) → IsPlain line → without_return line ≡ line
 without_return-plain [] plain = refl
 without_return-plain (b ∷ []) plain = cond-false (eqb b 13) _ _ (ne_eqb b 13 plain.0.1)
 without_return-plain (b ∷ c ∷ line) plain = ap (λ (xs : List ℕ). b ∷ xs) (without_return-plain (c ∷ line) plain.1)
 
-IsPlain-line : (line : List Part) → AllByRecursion IsGoodToken (tokens_in line) → IsPlain (line_text line)
+pub IsPlain-line : (line : List Part) → AllByRecursion IsGoodToken (tokens_in line) → IsPlain (line_text line)
 IsPlain-line [] good = tt
 IsPlain-line (part.Space ∷ line) good = (plain_byte 32 refl refl, IsPlain-line line good)
 IsPlain-line (part.Tab ∷ line) good = (plain_byte 9 refl refl, IsPlain-line line good)

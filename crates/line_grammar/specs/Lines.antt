@@ -1,6 +1,5 @@
 -- A file as its lines, which are numbered from 1.
 use Rattle.std.specs.Prelude.{ℕ, List, [], ◌∷◌, map, if◌then◌else◌, ◌==◌}
-use Rattle.std.specs.List.{after_first}
 
 -- the byte after which a line ends, and the one that may stand before it
 abbrev pub line_feed : ℕ
@@ -28,7 +27,3 @@ without_return (b ∷ c ∷ bytes) = b ∷ without_return (c ∷ bytes)
 -- the lines of a file
 abbrev pub lines : List ℕ → List (List ℕ)
 lines bytes = map without_return (cut_at_line_feeds bytes)
-
--- what follows the first line feed
-abbrev pub after_line : List ℕ → List ℕ
-after_line bytes = after_first (λ b. b == line_feed) bytes

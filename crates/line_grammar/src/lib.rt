@@ -29,7 +29,7 @@ pub use gather::Gather;
 pub use group::Group;
 pub use line::{Content, Line};
 pub use line_reading::{FileLines, content_of, no_lines};
-pub use lines::{line_end, split_line};
+pub use lines::split_line;
 pub use phrase::{ListItem, Phrase};
 pub use phrases::{Constant, Name, Quoted};
 pub use quoting::push_quoted;

@@ -1,7 +1,7 @@
 //! Where a line of a file ends.
 
-ghost use Rattle.std.specs.Prelude.{◌≡◌, ◌==◌, ◌<◌, ◌≤◌, ◌∷◌, length, take, drop, slice_range, position};
-ghost use Rattle.line_grammar.specs.Lines.{line_feed, without_return, lines, after_line};
+ghost use Rattle.std.specs.Prelude.{◌≡◌, ◌==◌, ◌<◌, ◌≤◌, ◌∷◌, length, take, drop, position};
+ghost use Rattle.line_grammar.specs.Lines.{line_feed, without_return, lines};
 
 fn first_line_feed(bytes: &[u8]) -> Option<usize>
     ensures { result ≡ position (λ b. b == line_feed) bytes.now }
@@ -29,7 +29,6 @@ fn first_line(rest: &[u8]) -> (usize, usize)
     ensures goes_on { 0 < result.1 }
     ensures within { result.1 ≤ length rest.now }
     ensures line { lines rest.now ≡ take result.0 rest.now ∷ lines (drop result.1 rest.now) }
-    ensures next { drop result.1 rest.now ≡ after_line rest.now }
 {
     let end = first_line_feed(rest).unwrap_or(rest.len());
     let len = len_without_return(&rest[..end]);
@@ -38,21 +37,6 @@ fn first_line(rest: &[u8]) -> (usize, usize)
     } else {
         (len, end)
     }
-}
-
-/// The place where the line that begins at `from` ends, its line feed and one carriage return before
-/// the end left out, and the place where the next line begins, or the number of bytes.
-pub fn line_end(bytes: &[u8], from: usize) -> (usize, usize)
-    requires { from < length bytes.now }
-    ensures begins { from ≤ result.0 }
-    ensures ends { result.0 ≤ result.1 }
-    ensures goes_on { from < result.1 }
-    ensures within { result.1 ≤ length bytes.now }
-    ensures line { lines (drop from bytes.now) ≡ slice_range bytes.now from result.0 ∷ lines (drop result.1 bytes.now) }
-    ensures next { drop result.1 bytes.now ≡ after_line (drop from bytes.now) }
-{
-    let (len, next) = first_line(&bytes[from..]);
-    (from + len, from + next)
 }
 
 /// The first line without its end, and the bytes from the next line on.

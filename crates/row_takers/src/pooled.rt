@@ -76,7 +76,7 @@ impl PooledTables {
         self.end_table()
     }
 
-    /// The rows so far are a table, and the next one begins.
+    /// The rows so far are a table, and the next one begins. Where memory is short, they are lost.
     pub fn end_table(&mut self) -> Result<(), AllocError>
         ensures { OnOk result (self.new ≡ record { tables = self.old.tables ++ self.old.rows ∷ []; rows = [] }) }
     {

@@ -169,7 +169,8 @@ impl<R: Drop> HeldRows<R> {
         }
     }
 
-    /// One more row was read. It is held among the first ones, and where it shows a fault that no row has shown.
+    /// One more row was read. It is held among the first ones, and where it shows a fault that no row has
+    /// shown. Where memory is short, nothing is promised of what is held.
     pub fn add<T: TestsRows<R>>(&mut self, tests: &T, most: u64, row: R) -> Result<(), AllocError>
         ensures stand { OnOk result ((all : List R) → StandFor (T.tests tests.now) most all self.old.rows self.old.shown → StandFor (T.tests tests.now) most (all ++ row ∷ []) self.new.rows self.new.shown) }
         ensures held { OnOk result ((self.new.rows ≡ self.old.rows ++ row ∷ []) ⊎ (self.new.rows ≡ self.old.rows)) }

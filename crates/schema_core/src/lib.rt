@@ -11,8 +11,8 @@ mod schema_lines;
 pub use line_grammar::{
     Constant, Content, FileLines, Gather, Group, Line, LineCause, LineFault, LineTokens, ListItem,
     Mark, Name, Part, Phrase, Quoted, Token, Tokens, Unread, Writes, content_of, gather_all,
-    line_end, no_lines, push_line, push_list, push_mark, push_number, push_quoted,
-    push_spaced_list, push_token, read_groups, read_lines, read_tokens, split_line,
+    no_lines, push_line, push_list, push_mark, push_number, push_quoted, push_spaced_list,
+    push_token, read_groups, read_lines, read_tokens, split_line,
 };
 pub use printing::print_schema;
 pub use schema::{Attr, Domain, Schema, SchemaCause, SchemaFault, Table};

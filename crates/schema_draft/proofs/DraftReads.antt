@@ -4,18 +4,17 @@ use Rattle.std.specs.Prelude.{All, IfSome, Ok, codes, is_some, map, not, slice_g
 use Rattle.std.specs.Option.{option_map, option_to_list}
 use Rattle.std.specs.List.{AllByRecursion, flat_map, list_any}
 use Rattle.std.specs.Str.{IsUtf8, bytes_eq}
-use Rattle.std.proofs.lemmas.Bool.{cond-false, cond_both, false_from_ne_true, false≢true, ne_eqb, or_from}
+use Rattle.std.proofs.lemmas.Bool.{cond_both, false_from_ne_true, false≢true, or_from}
 use Rattle.std.proofs.lemmas.List.{append-nil}
 use Rattle.std.proofs.lemmas.List.Elements.{recursion_from_All}
-use Rattle.std.proofs.lemmas.Str.{IsUtf8-append, IsUtf8-nil, is_utf8-from_IsUtf8}
+use Rattle.std.proofs.lemmas.Str.{IsUtf8-nil, is_utf8-from_IsUtf8}
 use Rattle.text_lists.specs.Limits.{standard}
 use Rattle.text_lists.specs.Names.{IsFileName, IsName, is_name}
 use Rattle.text_lists.specs.Repeats.{AreDistinct, is_among}
 use Rattle.text_lists.proofs.RepeatLemmas.{bytes_eq-tells}
 use Rattle.line_grammar.specs.FileLines.{content_of, file_lines, lines_from}
-use Rattle.line_grammar.specs.GoodTokens.{IsGoodToken}
-use Rattle.line_grammar.specs.Lines.{cut_at_line_feeds, in_front, lines, without_return}
-use Rattle.line_grammar.specs.Spelling.{IsReadable, file_text, line_text, mark, name, spelling, text, tokens_in}
+use Rattle.line_grammar.specs.Lines.{lines, without_return}
+use Rattle.line_grammar.specs.Spelling.{IsReadable, file_text, line_text, mark, name, text, tokens_in}
 use Rattle.line_grammar.specs.Tokens.{is_passed, line_tokens, tokens_from}
 use Rattle.line_grammar.specs.declared.line.Content.{Content}
 use Rattle.line_grammar.specs.declared.line.Content.TheVariants.{Tokens}
@@ -25,8 +24,8 @@ use Rattle.line_grammar.specs.declared.tokens.Mark.TheVariants.{Colon}
 use Rattle.line_grammar.specs.declared.writing.Part.{Part}
 use Rattle.line_grammar.specs.declared.writing.Part.TheVariants as part
 use Rattle.line_grammar.proofs.PartLemmas.{AreGood, AreGood-spaced}
-use Rattle.line_grammar.proofs.SpelledLines.{line_tokens-written}
-use Rattle.line_grammar.proofs.SpelledTokens.{IsPlain, IsPlain-append, IsPlain-spelling, IsUtf8-spelling, plain_byte}
+use Rattle.line_grammar.proofs.SpelledLines.{IsPlain-line, IsUtf8-line_text, cut-plain, line_tokens-written, without_return-plain}
+use Rattle.line_grammar.proofs.SpelledTokens.{IsPlain, plain_byte}
 use Rattle.line_grammar.proofs.Utf8.{IsUtf8-cons}
 use Rattle.schema_core.specs.SchemaFiles.{has_attr, reads}
 use Rattle.schema_core.specs.SchemaText.{attr_line, canonical, table_lines, value_parts}
@@ -72,31 +71,10 @@ Spells-append one other says more first second = record {
 
 -- ---- one line
 
-cut-plain : (line rest : List ℕ) → IsPlain line → cut_at_line_feeds (line ++ 10 ∷ rest) ≡ line ∷ cut_at_line_feeds rest
-cut-plain [] rest plain = refl
-cut-plain (b ∷ line) rest plain = cond-false _ _ _ (ne_eqb b 10 plain.0.0) ∙ ap (in_front b) (cut-plain line rest plain.1)
-
-without_return-plain : (line : List ℕ) → IsPlain line → without_return line ≡ line
-without_return-plain [] plain = refl
-without_return-plain (b ∷ []) plain = cond-false _ _ _ (ne_eqb b 13 plain.0.1)
-without_return-plain (b ∷ c ∷ line) plain = ap (λ (xs : List ℕ). b ∷ xs) (without_return-plain (c ∷ line) plain.1)
-
 lines-plain : (line rest : List ℕ) → IsPlain line → lines ((line ++ 10 ∷ []) ++ rest) ≡ line ∷ lines rest
 lines-plain line rest plain =
     ap (λ (bytes : List ℕ). lines bytes) (append_assoc line (10 ∷ []) rest) ∙ ap (λ (cut : List (List ℕ)). map without_return cut) (cut-plain line rest plain)
     ∙ ap (λ (l : List ℕ). l ∷ lines rest) (without_return-plain line plain)
-
-IsPlain-line : (line : List Part) → AllByRecursion IsGoodToken (tokens_in line) → IsPlain (line_text line)
-IsPlain-line [] good = tt
-IsPlain-line (part.Space ∷ line) good = (plain_byte 32 refl refl, IsPlain-line line good)
-IsPlain-line (part.Tab ∷ line) good = (plain_byte 9 refl refl, IsPlain-line line good)
-IsPlain-line (part.Token t ∷ line) good = IsPlain-append (spelling t) (line_text line) (IsPlain-spelling t good.0) (IsPlain-line line good.1)
-
-IsUtf8-line : (line : List Part) → AllByRecursion IsGoodToken (tokens_in line) → IsUtf8 (line_text line)
-IsUtf8-line [] good = IsUtf8-nil
-IsUtf8-line (part.Space ∷ line) good = IsUtf8-cons 32 (line_text line) (omega arith) (IsUtf8-line line good)
-IsUtf8-line (part.Tab ∷ line) good = IsUtf8-cons 9 (line_text line) (omega arith) (IsUtf8-line line good)
-IsUtf8-line (part.Token t ∷ line) good = IsUtf8-append (spelling t) (line_text line) (IsUtf8-spelling t good.0) (IsUtf8-line line good.1)
 
 -- a line that is written of parts
 pub Spells-line : (line : List Part) → IsReadable line → Spells (whole_line line) (Tokens (tokens_in line) ∷ [])
@@ -164,7 +142,7 @@ values_good (v ∷ values) are = ((are.0, tt), values_good values are.1)
 Spells-domain : (words : List ℕ) (values : List (List ℕ)) → IsName words → AllByRecursion IsUtf8 values → Spells (comment (line_text (attr_parts true words (Finite values)))) []
 Spells-domain words values is are =
     let good : AreGood (attr_parts true words (Finite values)) = (refl, (is, (refl, AreGood-spaced value_parts values (values_good values are)))) in
-    Spells-comment (line_text (attr_parts true words (Finite values))) (IsPlain-line (attr_parts true words (Finite values)) good) (IsUtf8-line (attr_parts true words (Finite values)) good)
+    Spells-comment (line_text (attr_parts true words (Finite values))) (IsPlain-line (attr_parts true words (Finite values)) good) (IsUtf8-line_text (attr_parts true words (Finite values)) good)
 
 Spells-few : (words : List ℕ) (found : Option (List (List ℕ))) → IsName words → IfSome found (AllByRecursion IsUtf8) → Spells (domain_note true words found) []
 Spells-few words None is are = Spells-nil
@@ -188,7 +166,7 @@ Spells-key : (words : List ℕ) → IsName words → Spells (key_note true words
 unfolding key_parts
 Spells-key words is =
     let good : AreGood (key_parts words) = (is, (refl, (refl, (refl, (tt, (refl, (refl, (refl, (refl, tt))))))))) in
-    subst (λ t. Spells (comment t) []) (key_same words) (Spells-comment (line_text (key_parts words)) (IsPlain-line (key_parts words) good) (IsUtf8-line (key_parts words) good))
+    subst (λ t. Spells (comment t) []) (key_same words) (Spells-comment (line_text (key_parts words)) (IsPlain-line (key_parts words) good) (IsUtf8-line_text (key_parts words) good))
 
 Spells-only_if : (test : Bool) (note : List ℕ) → Spells note [] → Spells (only_if test note) []
 Spells-only_if true note is = is

@@ -1,4 +1,4 @@
-//! What all other crates stand on: texts, lists of anything, texts that stand twice in a list, and how much a call
+//! What most other crates stand on: texts, lists of anything, texts that stand twice in a list, and how much a call
 //! accepts.
 #![tactic(auto)]
 
