@@ -60,7 +60,7 @@ fn push_value(
 {
     if let Some(place) = values.find(text.as_str()) {
         clause.push(Literal {
-            var: first + place,
+            var: first + place as usize,
             positive,
         })?;
     }
@@ -79,7 +79,7 @@ fn push_where(
     ensures { OnOk result (clause.new.items ≡ clause.old.items ++ literals_where (matches_as matching cell.now) true first values.now) }
 {
     for place in 0..values.len() {
-        let listed = matches_as(matching, cell, values.text(place));
+        let listed = matches_as(matching, cell, values.text_at(place));
         push_if(listed, clause, first + place)?;
     }
     Ok(())

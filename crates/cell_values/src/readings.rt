@@ -30,7 +30,7 @@ fn new_text(alloc: Global, cell: &CellValues) -> Result<Text, AllocError>
     ensures { IfOk result (λ text. text ≡ new_text cell.now) }
 {
     if cell.constants < cell.values.len() {
-        Text::new(alloc, cell.values.text(cell.constants))
+        Text::new(alloc, cell.values.text_at(cell.constants))
     } else {
         fresh_past(alloc, 0, &cell.values)
     }
@@ -63,7 +63,7 @@ fn text_for(
     ensures { IfOk result (λ text. text ≡ text_for cell.now new place) }
 {
     match place {
-        Some(place) => Text::new(alloc, cell.values.text(place)),
+        Some(place) => Text::new(alloc, cell.values.text_at(place)),
         None => Ok(new),
     }
 }

@@ -30,7 +30,7 @@ fn push_value_var(
     ensures text { OnOk result (out.new.items ≡ out.old.items ++ line_text (option_map_or var_parts (slice_get (value_vars tuple attr.now values.now) place) [])) }
     ensures fit { IfSome (slice_get (value_vars tuple attr.now values.now) place) (IsVarOf kind) }
 {
-    push_value(out, tuple, attr, values.text(place))
+    push_value(out, tuple, attr, values.text_at(place))
 }
 
 fn push_pair_var(

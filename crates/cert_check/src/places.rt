@@ -34,7 +34,7 @@ fn text_place(values: &Pool, text: &Text) -> usize
     ensures { result ≡ position_or_len (bytes_eq text.now) values.now }
 {
     match values.find(text.as_str()) {
-        Some(place) => place,
+        Some(place) => place as usize,
         None => values.len(),
     }
 }

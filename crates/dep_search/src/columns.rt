@@ -54,5 +54,5 @@ fn intern(pool: &mut Pool, text: &str) -> Result<usize, AllocError>
     ensures few { OnOk result (length pool.new ≤ length pool.old + 1) }
     ensures kept { KeepsIds pool.old pool.new }
 {
-    pool.intern(text)
+    Ok(pool.intern(text)? as usize)
 }

@@ -1,5 +1,5 @@
 -- What look-ups by equal bytes say of a list of texts.
-use Rattle.std.proofs.Common.{◌≡◌, ℕ, zero, suc, ◌<◌, ◌≤◌, Bool, true, false, cond, nat_lt, List, [], ◌∷◌, ◌++◌, length, slice_get, position, ◌||◌, inl, inr, Option, Some, None, refl, sym, ap, ◌∙◌, subst, arith, lt-ltb, true≢false, IfSome, IfNone}
+use Rattle.std.proofs.Common.{◌≡◌, ℕ, zero, suc, ◌<◌, ◌≤◌, Bool, true, false, cond, nat_lt, List, [], ◌∷◌, ◌++◌, length, slice_get, position, ◌||◌, inl, inr, Option, Some, None, refl, sym, ap, ◌∙◌, subst, arith, lt-ltb, true≢false, IfSome, IfNone, ◌+◌, length-append}
 use Rattle.std.specs.Cmp.Lexicographic.{bytes_decides}
 use Rattle.std.specs.List.{list_any, position_or_len, IsDistinct, AllByRecursion}
 use Rattle.std.specs.Str.{bytes_eq}
@@ -104,3 +104,8 @@ KeepsIds-push (x ∷ xs) text other (suc id) has = KeepsIds-push xs text other i
 pub KeepsIds-Interns : (old : List (List ℕ)) (text : List ℕ) (new : List (List ℕ)) → Interns old text new → KeepsIds old new
 KeepsIds-Interns old text new (inl (id, has, same)) = subst (KeepsIds old) (sym same) (λ other i there. there)
 KeepsIds-Interns old text new (inr (absent, grown)) = subst (KeepsIds old) (sym grown) (KeepsIds-push old text)
+
+-- one more at most
+pub length-Interns : (old : List (List ℕ)) (text : List ℕ) (new : List (List ℕ)) → Interns old text new → length new ≤ length old + 1
+length-Interns old text new (inl (id, has, same)) = omega (arith, ap length same)
+length-Interns old text new (inr (absent, grown)) = omega (arith, ap length grown, length-append old (text ∷ []))

@@ -14,8 +14,11 @@ use std::alloc::{AllocError, Global};
 use std::marker::Model;
 use text_lists::Text;
 
-/// The place of a text in its pool.
-pub type ValueId = usize;
+/// The place of a text in its pool. Half a word, since tables, keys and groups are made of ids.
+pub type ValueId = u32;
+
+// How many texts have an id. So many take hundreds of gigabytes.
+const MOST: usize = 4294967296;
 
 /// Texts that are stored once, and named by numbers. A short one lies in the pool's own list, so most look-ups go to one
 /// place of memory beside the table of hashes.
@@ -28,13 +31,13 @@ pub struct Pool {
 
 impl Model for Pool {
     ghost use Rattle.std.specs.Prelude.{List, ℕ};
-    ghost use Rattle.value_pool.specs.Pool.{HaveOneId};
+    ghost use Rattle.value_pool.specs.Pool.{IsPool};
 
     ghost Value = { List (List ℕ) };
 
     ghost view = { λ pool. pool.texts.keys };
 
-    ghost invariant = { λ pool. HaveOneId pool.texts.keys };
+    ghost invariant = { λ pool. IsPool pool.texts.keys };
 }
 
 impl Pool {
@@ -67,7 +70,7 @@ impl Pool {
         self.texts.len()
     }
 
-    /// The id of a text, which is added where it is new.
+    /// The id of a text, which is added where it is new. A text beyond the last id is told as want of memory.
     pub fn intern(&mut self, text: &str) -> Result<ValueId, AllocError>
         ensures id { IfOk result (HasId self.new text.now) }
         ensures within { IfOk result (λ id. id < length self.new) }
@@ -78,6 +81,9 @@ impl Pool {
         ensures kept { KeepsIds self.old self.new }
         ensures distinct { HaveOneId self.new }
     {
+        if self.texts.len() >= MOST {
+            return self.find(text).ok_or(AllocError);
+        }
         // A short text takes no memory, so it is hashed once, whether it is new or not.
         if !Text::is_short(text) {
             if let Some(id) = self.find(text) {
@@ -86,7 +92,7 @@ impl Pool {
         }
         let owned = Text::new(*self.texts.allocator(), text)?;
         let (id, _) = self.texts.insert_full(owned)?;
-        Ok(id)
+        Ok(id as ValueId)
     }
 
     /// The id of a text, if it is there. It takes no memory.
@@ -96,7 +102,8 @@ impl Pool {
         ensures absent { IfNone result (IsNew self.now text.now) }
         ensures distinct { HaveOneId self.now }
     {
-        self.texts.get_index_of(Sought { text })
+        let id = self.texts.get_index_of(Sought { text })?;
+        Some(id as ValueId)
     }
 
     /// The text with this id. It takes no memory.
@@ -104,6 +111,14 @@ impl Pool {
         requires { id < length self.now }
         ensures { HasId self.now result.now id }
     {
-        self.texts.as_slice()[id].as_str()
+        self.text_at(id as usize)
+    }
+
+    /// The text at a place, for who goes over all of them.
+    pub fn text_at(&self, place: usize) -> &str
+        requires { place < length self.now }
+        ensures { HasId self.now result.now place }
+    {
+        self.texts.as_slice()[place].as_str()
     }
 }

@@ -1,19 +1,22 @@
-use Rattle.std.proofs.Common.{subst, sym, ◌∙◌}
+use Rattle.std.proofs.Common.{subst, sym, ap, length, ◌∙◌, arith}
 use Rattle.std.specs.Str.{bytes_eq}
 use Rattle.indexmap.specs.IndexSet.{insert_key}
 use Rattle.value_pool.specs.Pool.{HasId, Interns}
-use Rattle.value_pool.proofs.PoolLemmas.{distinct-HaveOneId, HasId-stored, KeepsIds-Interns, insert_key-Interns}
+use Rattle.value_pool.proofs.PoolLemmas.{distinct-HaveOneId, HasId-stored, KeepsIds-Interns, length-Interns, insert_key-Interns}
 use Rattle.value_pool.proofs.Pool.intern.Goals as goal
 
 -- the new texts are the old ones with this one put in
 interned : (c : goal.In_ok-id) → Interns c.args.self.now c.args.text.now c.insert_full.new.self.keys
 interned c =
-    let texts = c.self-2.view_is in
+    let texts = c.self.view_is in
     let text = c.in_ok-owned.ensures in
     subst (Interns c.args.self.now c.args.text.now) (sym (c.in_ok-id.ensures.keys ∙ (λ j. insert_key bytes_eq (texts j) (text j)))) (insert_key-Interns c.args.text.now c.args.self.now)
 
 pub invariant_of-self-2 : goal.invariant_of-self-2
-invariant_of-self-2 c = distinct-HaveOneId _ c.in_ok-id.ensures.unique
+invariant_of-self-2 c = record {
+  distinct = distinct-HaveOneId _ c.in_ok-id.ensures.unique;
+  few = omega (arith, length-Interns _ _ _ (interned c), c.len.ensures.len, ap length c.self.view_is);
+}
 
 pub returns-clause-id : goal.returns-clause-id
 returns-clause-id c =
