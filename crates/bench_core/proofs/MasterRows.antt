@@ -1,12 +1,16 @@
 -- The master rows that a bench lends are those of its state.
-use Rattle.std.proofs.Common.{◌≡◌, ℕ, zero, suc, Bool, true, false, cond, List, [], ◌∷◌, map, Option, Some, None, All, refl, sym, ap, ◌∙◌}
-use Rattle.std.specs.Prelude.{IfSome, option_map}
+use Rattle.std.proofs.Common.{◌≡◌, ℕ, zero, suc, Bool, true, false, cond, List, [], ◌∷◌, map, Option, Some, None, All, refl, sym, ap, ◌∙◌, subst}
+use Rattle.std.specs.Prelude.{Contains, IfSome, option_map}
 use Rattle.std.specs.FinMap as finmap
 use Rattle.schema_core.specs.Lookups.{master_at}
 use Rattle.text_lists.specs.declared.limits.Limits.{Limits}
-use Rattle.rule_model.specs.Books.{Book}
+use Rattle.rule_model.specs.declared.edit_rule.EditRule.{EditRule}
+use Rattle.rule_model.specs.Books.{Book, book_edits}
+use Rattle.master_index.specs.Masters.{Masters}
 use Rattle.bench_index.specs.declared.all_indexes.AllIndexes.{AllIndexes}
-use Rattle.bench_index.proofs.AllSteps.{each_master_row, each_rule_is_looked_up}
+use Rattle.bench_index.proofs.AllSteps.{each_master_row}
+use Rattle.bench_index.proofs.ListsOnce.{lists-of_rules}
+use Rattle.bench_index.specs.MasterLists.{columns_of, master_lists}
 use Rattle.bench_core.specs.Answers.{AreMastersOf, IsTupleAt, row_texts}
 use Rattle.bench_core.specs.Bench.{IsBench}
 use Rattle.bench_core.specs.Indexed.{IsIndexed, tuples_of}
@@ -47,5 +51,10 @@ module _ (rules : Book) (limits : Limits) (texts : List (List ℕ)) (tables : Li
   are-masters = record {
     rows = λ table row. master-texts (master_at rules.schema table) (tuples_of tables table row) (finmap.get index.masters.rows (table, row)) (row_texts (state_of texts tables) table row) (texts-at texts tables table row) (indexed.in_step.rows table row);
     tuples = λ table row. each_master_row rules texts (tuples_of tables) index indexed.in_step (IsTupleAt rules texts) good table row;
-    columns = each_rule_is_looked_up rules texts (tuples_of tables) index indexed.in_step;
+    lists = indexed.in_step.lists;
   }
+
+-- the matched columns of each editing rule are looked up
+pub each_rule_is_looked_up : (rules : Book) (masters : Masters) → masters.lists ≡ master_lists rules → All (λ (rule : EditRule). Contains masters.lists (columns_of rule)) (book_edits rules)
+each_rule_is_looked_up rules masters lists =
+    subst (λ ls. All (λ (rule : EditRule). Contains ls (columns_of rule)) (book_edits rules)) (sym lists) (lists-of_rules (book_edits rules))

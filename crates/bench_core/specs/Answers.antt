@@ -1,5 +1,5 @@
 -- What the rules find among the rows of a state.
-use Rattle.std.specs.Prelude.{◌≡◌, ℕ, ◌==◌, if◌then◌else◌, List, [], length, map, filter, All, Contains, IfSome, IsSome, Option, None, slice_get, option_and_then, option_map}
+use Rattle.std.specs.Prelude.{◌≡◌, ℕ, ◌==◌, if◌then◌else◌, List, [], length, map, filter, IfSome, IsSome, Option, None, slice_get, option_and_then, option_map}
 use Rattle.std.specs.FinMap as finmap
 use Rattle.std.specs.Option.{ForSome, option_map_or}
 use Rattle.std.specs.Str.{bytes_eq}
@@ -10,9 +10,9 @@ use Rattle.rule_model.specs.declared.dep.Dep.{Dep}
 use Rattle.rule_model.specs.declared.cind.Cind.{Cind}
 use Rattle.schema_core.specs.Lookups.{attrs_at, master_at}
 use Rattle.schema_core.specs.declared.schema.Schema.{Schema}
-use Rattle.rule_model.specs.declared.edit_rule.EditRule.{EditRule}
-use Rattle.rule_model.specs.Books.{Book, book_cinds, book_deps, book_edits}
+use Rattle.rule_model.specs.Books.{Book, book_cinds, book_deps}
 use Rattle.master_index.specs.Masters.{Masters}
+use Rattle.bench_index.specs.MasterLists.{master_lists}
 use Rattle.bench_core.specs.State.{State, TableState, rows_at, texts_of}
 use Rattle.bench_core.specs.Stored.{HaveTexts, text_of}
 
@@ -65,9 +65,9 @@ pub record IsTupleAt (rules : Book) (texts : List (List ℕ)) (table : ℕ) (ids
   pub width : length ids ≡ length (attrs_at rules.schema table)
   pub named : HaveTexts texts ids
 
--- The rows of the master tables, each a tuple of its table that stands for its texts; the matched columns of each editing
--- rule are looked up.
+-- The rows of the master tables, each a tuple of its table that stands for its texts; looked up are the matched columns of
+-- the editing rules, each list once.
 pub record AreMastersOf (rules : Book) (texts : List (List ℕ)) (state : State) (masters : Masters) : Type 0 where
   pub rows : (table row : ℕ) → option_map (map (text_of texts)) (finmap.get masters.rows (table, row)) ≡ master_texts rules.schema state table row
   pub tuples : (table row : ℕ) → IfSome (finmap.get masters.rows (table, row)) (IsTupleAt rules texts table)
-  pub columns : All (λ (rule : EditRule). Contains masters.lists (record { master = rule.master; columns = rule.xm })) (book_edits rules)
+  pub lists : masters.lists ≡ master_lists rules

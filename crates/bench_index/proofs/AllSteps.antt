@@ -1,6 +1,6 @@
 -- All indexes in step with tuples: what they hold of a row, and that they stay in step.
 use Rattle.std.proofs.Common.{◌≡◌, ℕ, Bool, true, false, cond, List, get_or, Option, None, Result, Ok, Err, OnOk, sym, ap, ◌∙◌, subst}
-use Rattle.std.specs.Prelude.{All, Contains, IfSome}
+use Rattle.std.specs.Prelude.{All, IfSome}
 use Rattle.std.specs.Option.{ForSome}
 use Rattle.std.specs.FinMap as finite
 use Rattle.schema_core.specs.Lookups.{master_at}
@@ -19,14 +19,12 @@ use Rattle.master_index.specs.Masters.{IsWideFor}
 use Rattle.bench_index.specs.InStep.{AreInStep, AreMadeAlike, AreTheSame, CanFollow, Follow}
 use Rattle.bench_index.specs.Watching.{group_watch, cind_watch}
 use Rattle.bench_index.specs.Indexes.{AreIndexesOf, IsIndexOfDep, IsIndexOfCind}
-use Rattle.bench_index.specs.MasterLists.{columns_of}
 use Rattle.bench_index.specs.AllIndexes.{Tuples, AreInStepWith, IsAsWide, HaveRow, AllFollow, AreAsBefore, FollowAsMaster}
 use Rattle.bench_index.specs.declared.index.BenchIndex.{BenchIndex}
 use Rattle.bench_index.specs.declared.all_indexes.AllIndexes.{AllIndexes}
 use Rattle.bench_index.proofs.Zips.{zip_weaker, zip_joined, Joined}
 use Rattle.bench_index.proofs.Made.{index-kept, cind_index-kept}
 use Rattle.bench_index.proofs.WatchSteps.{made-same}
-use Rattle.bench_index.proofs.ListsOnce.{lists-of_rules}
 use Rattle.bench_index.proofs.MasterChanges.{masters-followed}
 use Rattle.bench_index.proofs.Widths.{wide_for_groups, wide_for_cinds, wide_for_masters}
 
@@ -133,7 +131,3 @@ module _ (rules : Book) (texts : List (List ℕ)) (tuples : Tuples) (all : AllIn
       by : (b : Bool) → IfSome (cond b (tuples table row) None) (IsGood table)
       by true = good table row
       by false = tt
-
-  -- the matched columns of each editing rule are looked up
-  pub each_rule_is_looked_up : All (λ (rule : EditRule). Contains all.masters.lists (record { master = rule.master; columns = rule.xm })) (book_edits rules)
-  each_rule_is_looked_up = subst (λ lists. All (λ (rule : EditRule). Contains lists (columns_of rule)) (book_edits rules)) (sym in_step.lists) (lists-of_rules (book_edits rules))

@@ -1,16 +1,11 @@
-//! Lists of ids, and the ids of a tuple at attributes.
+//! The ids of a tuple at attributes, held against a list of ids.
 ghost use Rattle.std.specs.Prelude.{◌≡◌, ◌≤◌, length};
 ghost use Rattle.std.specs.Str.{bytes_eq};
 ghost use Rattle.row_store.specs.Tuple.{ids_at, ids_of};
 ghost use Rattle.row_store.specs.Watch.{IsWide};
 
 use row_store::Tuple;
-use smallvec::SmallVec;
 use value_pool::ValueId;
-
-/// The ids of a key, or of pattern values. Most rules compare one or two attributes, so two ids stand in place, without
-/// memory of their own. More take an allocation.
-pub(crate) type Ids = SmallVec<ValueId, 2>;
 
 /// Whether these are the ids at the attributes.
 pub(crate) fn has_ids(tuple: &Tuple, attributes: &[usize], ids: &[ValueId]) -> bool

@@ -9,14 +9,14 @@ ghost use Rattle.cind_index.specs.KeysHeld.{lefts, rights, AreMarkedRight, HaveR
 ghost use Rattle.cind_index.specs.Totals.{AreTotals};
 ghost use Rattle.cind_index.specs.Orphans.{AreOrphans, IsDirtyCount, IsOrphanCount};
 
-use crate::ids::{Ids, has_ids};
+use crate::ids::has_ids;
 use crate::keys::Keys;
 use crate::totals::Totals;
 use cfd_semantics::{Inclusion, InclusionRow};
 use hash_keys::HashKeys;
 use marked_map::MarkedMap;
 use probe_steps::Steps;
-use row_store::{RowId, Tuple, write_key};
+use row_store::{Key, RowId, Tuple, write_key};
 use std::alloc::{AllocError, Global};
 use std::sync::ledger::Ledger;
 use value_pool::ValueId;
@@ -33,8 +33,8 @@ pub struct CindIndex {
     pub(crate) keys: Keys,
     pub(crate) totals: Totals,
     // Room for one key and for pattern values, so that an entry is taken away without memory.
-    pub(crate) key: Ids,
-    pub(crate) pattern: Ids,
+    pub(crate) key: Key,
+    pub(crate) pattern: Key,
     ghost marks: { AreMarkedRight rule.rows keys },
     ghost counted: { AreTotals rule.rows keys totals },
     ghost room: { 0 < length keys.pairs → HaveRoom rule key pattern },
@@ -63,8 +63,8 @@ impl CindIndex {
             rule,
             totals,
             keys: MarkedMap::with_hasher(alloc, hash_keys),
-            key: Ids::new(alloc),
-            pattern: Ids::new(alloc),
+            key: Key::new(alloc),
+            pattern: Key::new(alloc),
         }
     }
 
@@ -172,7 +172,7 @@ impl CindIndex {
             return Ok(false);
         }
         let x = self.rule.x.as_slice();
-        let mut key = Ids::with_capacity(*self.key.allocator(), x.len())?;
+        let mut key = Key::with_capacity(*self.key.allocator(), x.len())?;
         write_key(&mut key, tuple, x);
         match self.keys.find(&key, steps) {
             Some(place) => Ok(!self.keys.value_at(place).has_answer(tableau_row)),

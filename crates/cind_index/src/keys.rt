@@ -7,19 +7,18 @@ ghost use Rattle.cind_index.specs.Entries.{is_entry};
 ghost use Rattle.cind_index.specs.Totals.{AreTotals};
 ghost use Rattle.cind_index.specs.KeysHeld.{held, AreMarkedRight, AreMarkedRightBut, HasKeyAt, HoldTheSame, HoldsMore, HoldsLess, KeepsKeys};
 
-use crate::ids::Ids;
 use crate::key_rows::KeyRows;
 use crate::side::Side;
 use crate::totals::{Change, Totals};
 use cfd_semantics::InclusionRow;
 use marked_map::MarkedMap;
 use probe_steps::Steps;
-use row_store::RowId;
+use row_store::{Key, RowId};
 use std::alloc::{AllocError, Global};
 use std::sync::ledger::Ledger;
 use value_pool::ValueId;
 
-pub(crate) type Keys = MarkedMap<Ids, KeyRows>;
+pub(crate) type Keys = MarkedMap<Key, KeyRows>;
 
 /// Puts an entry in, in one probe. Gives the place of its key where the entry is new.
 pub(crate) fn put_entry<L: Ledger>(
@@ -27,7 +26,7 @@ pub(crate) fn put_entry<L: Ledger>(
     totals: &mut Totals,
     tableau: &[InclusionRow<ValueId>],
     side: Side,
-    key: Ids,
+    key: Key,
     pattern: &[ValueId],
     row: RowId,
     steps: &mut Steps<L>,
@@ -54,7 +53,7 @@ fn enter_entry<L: Ledger>(
     totals: &mut Totals,
     tableau: &[InclusionRow<ValueId>],
     side: Side,
-    key: Ids,
+    key: Key,
     pattern: &[ValueId],
     row: RowId,
     steps: &mut Steps<L>,
@@ -91,7 +90,7 @@ pub(crate) fn take_entry<L: Ledger>(
     totals: &mut Totals,
     tableau: &[InclusionRow<ValueId>],
     side: Side,
-    key: &Ids,
+    key: &Key,
     pattern: &[ValueId],
     row: RowId,
     steps: &mut Steps<L>,

@@ -11,13 +11,12 @@ ghost use Rattle.cind_index.specs.KeysHeld.{held, HaveRoom, HoldTheSame, HoldsMo
 ghost use Rattle.cind_index.specs.Index.{made_of, given, HoldsOfRowOn, StandsAt, KeepsMade};
 ghost use Rattle.cind_index.specs.declared.side.Side.TheVariants.{Left, Right};
 
-use crate::ids::Ids;
 use crate::index::CindIndex;
 use crate::keys::{put_entry, take_at, take_entry};
 use crate::side::Side;
 use cfd_semantics::Inclusion;
 use probe_steps::Steps;
-use row_store::{RowId, Tuple, agree, make_room, write_key};
+use row_store::{Key, RowId, Tuple, agree, make_room, write_key};
 use std::alloc::AllocError;
 use std::sync::ledger::Ledger;
 use value_pool::ValueId;
@@ -122,7 +121,7 @@ impl CindIndex {
         }
         write_key(&mut self.key, new, key_on(&self.rule, side));
         write_key(&mut self.pattern, new, pattern_on(&self.rule, side));
-        let key = Ids::from_slice(*self.key.allocator(), self.key.as_slice())?;
+        let key = Key::from_slice(*self.key.allocator(), self.key.as_slice())?;
         let tableau = self.rule.rows.as_slice();
         let pattern = self.pattern.as_slice();
         put_entry(

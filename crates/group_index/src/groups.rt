@@ -6,14 +6,14 @@ ghost use Rattle.group_index.specs.Groups.{AreMarked, AreMarkedBut, IsMarkedBy, 
 
 use crate::group::Group;
 use crate::index::IdRow;
-use crate::key::{Key, matches_all};
+use crate::key::matches_all;
 use crate::leads::Leads;
 use crate::spread::Spread;
 use crate::tableau::Tableau;
 use crate::totals::{Change, Extent, Totals};
 use marked_map::MarkedMap;
 use probe_steps::Steps;
-use row_store::RowId;
+use row_store::{Key, RowId};
 use std::alloc::{AllocError, Global};
 use std::sync::ledger::Ledger;
 use value_pool::ValueId;

@@ -9,7 +9,7 @@ ghost use Rattle.group_index.specs.Answers.{AreDirty, IsSettled, AreViolationsOf
 
 use crate::counting::count;
 use crate::groups::{Groups, least_partner, put_entry, take_entry};
-use crate::key::{Key, same_entry};
+use crate::key::same_entry;
 use crate::tableau::Tableau;
 use crate::totals::Totals;
 use crate::violations::collect;
@@ -17,8 +17,7 @@ use cfd_semantics::{Pattern, TableauRow, Violation};
 use hash_keys::HashKeys;
 use marked_map::MarkedMap;
 use probe_steps::Steps;
-use row_store::{RowId, Tuple, Watch, make_room, write_key};
-use smallvec::SmallVec;
+use row_store::{Key, RowId, Tuple, Watch, make_room, write_key};
 use std::alloc::{AllocError, Global};
 use std::marker::Model;
 use std::sync::ledger::Ledger;
@@ -76,7 +75,7 @@ impl GroupIndex {
             tableau: Tableau::new(alloc, rows),
             totals,
             groups: MarkedMap::with_hasher(alloc, keys),
-            key: SmallVec::new(alloc),
+            key: Key::new(alloc),
         }
     }
 
@@ -155,7 +154,7 @@ impl GroupIndex {
         let _ = row;
         let tableau_row = &self.tableau.as_slice()[k];
         let x = self.x.as_slice();
-        let mut key = SmallVec::with_capacity(*self.key.allocator(), x.len())?;
+        let mut key = Key::with_capacity(*self.key.allocator(), x.len())?;
         write_key(&mut key, tuple, x);
         let a = tuple.as_slice()[self.a];
         Ok(least_partner(&self.groups, tableau_row, &key, a, steps))
@@ -204,7 +203,7 @@ impl Watch for GroupIndex {
             return Ok(());
         }
         make_room(&mut self.key, x.len())?;
-        let mut key = SmallVec::with_capacity(*self.key.allocator(), x.len())?;
+        let mut key = Key::with_capacity(*self.key.allocator(), x.len())?;
         write_key(&mut key, new, x);
         put_entry(
             &mut self.groups,

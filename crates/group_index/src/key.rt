@@ -8,11 +8,7 @@ ghost use Rattle.group_index.specs.Keys.{gives_alike};
 
 use crate::index::IdCell;
 use row_store::{Tuple, agree};
-use smallvec::SmallVec;
 use value_pool::ValueId;
-
-/// The ids of a key. Up to three stand in place, so that most groups take no memory for their key.
-pub(crate) type Key = SmallVec<ValueId, 3>;
 
 /// Whether a row gives the same entry with two tuples, one of which may be missing: they have the same ids on X and on A.
 pub(crate) fn same_entry(one: Option<&Tuple>, other: &Tuple, x: &[usize], a: usize) -> bool

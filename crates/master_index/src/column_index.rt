@@ -11,13 +11,12 @@ ghost use Rattle.master_index.specs.Tables.{rows_of_tables};
 
 use crate::column_list::ColumnList;
 use crate::column_rows::{ColumnRows, put_row, rows_with, take_row};
-use crate::key::Key;
 use crate::rising::RowIds;
 use crate::tables::Tables;
 use hash_keys::HashKeys;
 use indexmap::IndexMap;
 use probe_steps::Steps;
-use row_store::{RowId, Tuple, agree, write_key};
+use row_store::{Key, RowId, Tuple, agree, write_key};
 use std::alloc::{AllocError, Global};
 use std::sync::ledger::Ledger;
 use value_pool::ValueId;

@@ -11,14 +11,14 @@ ghost use Rattle.master_index.specs.ColumnSets.{has_column};
 ghost use Rattle.master_index.specs.Tables.{rows_of_tables};
 
 use crate::column_set::{ColumnSet, differences};
-use crate::key::{Ids, Key};
+use crate::key::Ids;
 use crate::rising::RowIds;
 use crate::tables::Tables;
 use hash_keys::HashKeys;
 use indexmap::IndexMap;
 use marked_map::find_or_push;
 use probe_steps::Steps;
-use row_store::{RowId, Tuple};
+use row_store::{Key, RowId, Tuple};
 use std::alloc::AllocError;
 use std::sync::ledger::Ledger;
 use value_pool::ValueId;

@@ -5,13 +5,9 @@ ghost use Rattle.std.specs.Cmp.Lexicographic.{bytes_decides, nat_list_eq_equiv};
 ghost use Rattle.std.specs.Hash as fed;
 
 use indexmap::Equivalent;
-use smallvec::SmallVec;
+use row_store::Key;
 use std::hash::Hash;
 use value_pool::ValueId;
-
-/// A key. Most lists name one or two columns, so up to two ids stand in place, without memory of their own. More lie in
-/// an allocation.
-pub(crate) type Key = SmallVec<ValueId, 2>;
 
 /// Ids by which a key is looked up. To make a key of them may take memory, and this takes none.
 #[derive(Clone, Copy, PartialEq, Eq, Hash)]

@@ -1,5 +1,4 @@
-//! Keys: the ids that a tuple has at some attributes, by which maps look rows up. Each map says how many of them stand in
-//! place, without memory of their own.
+//! Keys: the ids that a tuple has at some attributes, by which maps look rows up.
 ghost use Rattle.std.specs.Prelude.{◌≡◌, ◌≤◌, length, OnErr, OnOk};
 ghost use Rattle.std.specs.Str.{bytes_eq};
 ghost use Rattle.row_store.specs.Tuple.{ids_at, ids_of};
@@ -10,26 +9,22 @@ use smallvec::SmallVec;
 use std::alloc::AllocError;
 use value_pool::ValueId;
 
+/// The ids of a key. Up to four stand in place, so that most keys take no memory of their own.
+pub type Key = SmallVec<ValueId, 4>;
+
 /// Makes room for a key of so many ids.
-pub fn make_room<const N: usize>(
-    key: &mut SmallVec<ValueId, N>,
-    count: usize,
-) -> Result<(), AllocError>
+pub fn make_room(key: &mut Key, count: usize) -> Result<(), AllocError>
     ensures ok { OnOk result (count ≤ key.new.capacity) }
     ensures err { OnErr result (key.new ≡ key.old) }
 {
     if key.capacity() < count {
-        *key = SmallVec::with_capacity(*key.allocator(), count)?;
+        *key = Key::with_capacity(*key.allocator(), count)?;
     }
     Ok(())
 }
 
 /// Writes the ids of a tuple at the attributes into a key that has the room.
-pub fn write_key<const N: usize>(
-    key: &mut SmallVec<ValueId, N>,
-    tuple: &Tuple,
-    attributes: &[usize],
-)
+pub fn write_key(key: &mut Key, tuple: &Tuple, attributes: &[usize])
     requires room { length attributes.now ≤ key.old.capacity }
     requires wide { IsWide attributes.now (ids_of tuple.now) }
     ensures ids { key.new.items ≡ ids_at (ids_of tuple.now) attributes.now }

@@ -12,7 +12,7 @@ mod store;
 mod watch;
 mod watches;
 
-pub use key::{agree, make_room, write_key};
+pub use key::{Key, agree, make_room, write_key};
 pub use rows::Rows;
 pub use store::{RowId, RowStore, Tuple};
 pub use watch::Watch;

@@ -27,6 +27,7 @@ use Rattle.bench_core.specs.State.{IsTableState, State, TableState, texts_of as 
 use Rattle.bench_core.specs.declared.edit.Applied.{Applied}
 use Rattle.bench_core.specs.declared.edit.Applied.TheVariants.{Changed}
 use Rattle.bench_core.specs.declared.edit.EditFault.TheVariants.{UnknownAttr}
+use Rattle.bench_core.proofs.MasterRows.{each_rule_is_looked_up}
 use Rattle.bench_core.proofs.RowsById.{texts_of-fit}
 use Rattle.rule_runs.specs.declared.marks.Marks.{Marks}
 use Rattle.rule_runs.specs.declared.moves.Move.{Move}
@@ -92,7 +93,7 @@ module _ (rules : Book) (limits : Limits) (texts : List (List ℕ)) (state : Sta
     can-be-asked = record {
       there = there.there;
       is_tuple = record { width = is-wide; ids = there.named };
-      are_masters = record { rows = tuples; columns = are.columns };
+      are_masters = record { rows = tuples; columns = each_rule_is_looked_up rules masters are.lists };
     }
       where
         tuple-in : (table : ℕ) (o : Option (List ℕ)) → IfSome o (IsTupleAt rules texts table) → IfSome o (IsTupleIn rules texts table)
