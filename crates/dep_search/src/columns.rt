@@ -54,5 +54,6 @@ fn intern(pool: &mut Pool, text: &str) -> Result<usize, AllocError>
     ensures few { OnOk result (length pool.new ≤ length pool.old + 1) }
     ensures kept { KeepsIds pool.old pool.new }
 {
-    Ok(pool.intern(text)? as usize)
+    let id = pool.intern(text)?;
+    Ok(id as usize)
 }
