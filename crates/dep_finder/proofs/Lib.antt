@@ -1,5 +1,9 @@
 pub mod Comment
+pub mod DepsAgain
+pub mod FaultlessRows
+pub mod FoundBook
 pub mod FoundLists
+pub mod FoundNames
 pub mod KeptParts
 pub mod Laws
 pub mod LeastFound
@@ -9,3 +13,4 @@ pub mod Numbered
 pub mod Over
 pub mod ReadAgain
 pub mod SameTexts
+pub mod ValidFound

@@ -2,3 +2,4 @@ pub mod Deps
 pub mod FoundText
 pub mod Minimal
 pub mod ReadAgain
+pub mod Valid

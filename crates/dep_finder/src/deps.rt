@@ -7,6 +7,7 @@ ghost use Rattle.dep_search.specs.declared.candidate.Candidate.{Candidate};
 ghost use Rattle.dep_search.specs.declared.finder.FindFault.TheVariants.{TooMany};
 ghost use Rattle.dep_finder.specs.Deps.{AreFound, AreMore, IsOver, cell_of, cells_of, dep_of, deps_from, found_name, rule_of};
 ghost use Rattle.dep_finder.specs.Minimal.{AreLeast};
+ghost use Rattle.dep_finder.specs.Valid.{AreValid, HasOneRow, HasTexts, HaveNames, IsTextCell};
 
 use cfd_semantics::{Dependency, Pattern, TableauRow};
 use dep_search::{Candidate, FindFault, all_found, left_sides, sorted};
@@ -16,7 +17,8 @@ use schema_core::{List, Table, Text, Texts};
 use std::alloc::{AllocError, Global};
 
 /// The dependencies of at most so many attributes on the left that the rows of a table satisfy, and of which they satisfy no
-/// part: plain ones, and constant ones that at least so many rows match. They are named d1, d2 and so on.
+/// part: plain ones, and constant ones that at least so many rows match. They are named d1, d2 and so on, and are rules of the
+/// table wherever the rows keep to its domains.
 pub fn find_deps(
     alloc: Global,
     keys: HashKeys,
@@ -34,6 +36,9 @@ pub fn find_deps(
     ensures found { IfOk result (AreFound table.now number rows.now width support) }
     ensures least { IfOk result (λ found. AreLeast rows.now (length table.now.attrs) width support (map (λ dep. dep.rule) found)) }
     ensures over { IfOk result (All (IsOver table.now.attrs)) }
+    ensures valid { IfOk result (AreValid table.now number rows.now) }
+    ensures one_row { IfOk result (All HasOneRow) }
+    ensures names { IfOk result HaveNames }
     ensures few { IfOk result (λ found. length found ≤ most) }
     ensures many { IfErr result (λ fault. fault ≡ TooMany → AreMore table.now rows.now width support most) }
 {
@@ -53,7 +58,8 @@ fn deps_of(
     found: &[Candidate],
 ) -> Result<List<Dep>, AllocError>
     requires { All (IsCandidate rows.now sides.now) found.now }
-    ensures { IfOk result (λ deps. deps ≡ deps_from number rows.now sides.now 0 found.now) }
+    ensures is { IfOk result (λ deps. deps ≡ deps_from number rows.now sides.now 0 found.now) }
+    ensures texts { IfOk result (All (λ dep. HasTexts dep.rule)) }
 {
     let mut deps = List::new(alloc);
     for place in 0..found.len() {
@@ -72,7 +78,8 @@ fn dep_of(
 ) -> Result<Dep, AllocError>
     requires candidate { IsCandidate rows.now sides.now candidate.now }
     requires place { place < 9223372036854775808 }
-    ensures { IfOk result (λ dep. dep ≡ dep_of number rows.now sides.now place candidate.now) }
+    ensures is { IfOk result (λ dep. dep ≡ dep_of number rows.now sides.now place candidate.now) }
+    ensures texts { IfOk result (λ dep. HasTexts dep.rule) }
 {
     Ok(Dep {
         name: numbered(alloc, place + 1)?,
@@ -96,7 +103,8 @@ fn rule_of(
     requires row { (r : ℕ) → candidate.now.row ≡ Some r → r < length rows.now }
     requires x { (r : ℕ) → candidate.now.row ≡ Some r → All (λ attr. attr < length (row_at rows.now r)) x.now }
     requires a { (r : ℕ) → candidate.now.row ≡ Some r → candidate.now.a < length (row_at rows.now r) }
-    ensures { IfOk result (λ rule. rule ≡ rule_of rows.now x.now candidate.now) }
+    ensures is { IfOk result (λ rule. rule ≡ rule_of rows.now x.now candidate.now) }
+    ensures texts { IfOk result HasTexts }
 {
     let row = TableauRow {
         x: cells_of(alloc, rows, candidate.row, x)?,
@@ -119,7 +127,8 @@ fn cells_of(
 ) -> Result<List<Cell>, AllocError>
     requires row { (r : ℕ) → row ≡ Some r → r < length rows.now }
     requires attrs { (r : ℕ) → row ≡ Some r → All (λ attr. attr < length (row_at rows.now r)) attrs.now }
-    ensures { IfOk result (λ cells. cells ≡ cells_of rows.now row attrs.now) }
+    ensures is { IfOk result (λ cells. cells ≡ cells_of rows.now row attrs.now) }
+    ensures texts { IfOk result (All IsTextCell) }
 {
     let mut cells = List::new(alloc);
     for attr in attrs {
@@ -128,6 +137,7 @@ fn cells_of(
     Ok(cells)
 }
 
+/// A text is copied from its `&str`, which is known to be UTF-8.
 fn cell_of(
     alloc: Global,
     rows: &[Texts],
@@ -136,10 +146,11 @@ fn cell_of(
 ) -> Result<Cell, AllocError>
     requires row { (r : ℕ) → row ≡ Some r → r < length rows.now }
     requires attr { (r : ℕ) → row ≡ Some r → attr < length (row_at rows.now r) }
-    ensures { IfOk result (λ cell. cell ≡ cell_of rows.now row attr) }
+    ensures is { IfOk result (λ cell. cell ≡ cell_of rows.now row attr) }
+    ensures texts { IfOk result IsTextCell }
 {
     match row {
         None => Ok(Pattern::Any),
-        Some(r) => Ok(Pattern::Is(rows[r].as_slice()[attr].clone()?)),
+        Some(r) => Ok(Pattern::Is(Text::new(alloc, rows[r].as_slice()[attr].as_str())?)),
     }
 }

@@ -15,8 +15,8 @@ use schema_core::{Attr, List, Table, Text, Texts, push_number};
 use std::alloc::{AllocError, Global};
 use std::slice;
 
-/// The rule file of dependencies of a table, with a comment that tells how many there are. Where a rule book may have them,
-/// it is read as them.
+/// The rule file of dependencies of a table, with a comment that tells how many there are. Where they are valid, have names of
+/// their own, and are as few as the limits allow, it is read as them.
 pub fn found_text(alloc: Global, table: &Table, found: &List<Dep>) -> Result<Vec<u8>, AllocError>
     requires { All (IsOver table.now.attrs) found.now }
     ensures text { IfOk result (λ text. text.items ≡ found_text table.now found.now) }
