@@ -1,4 +1,4 @@
-use Rattle.std.proofs.Common.{rules, arith, sym, ap, subst, refl, ◌∙◌, ℕ, Option, Some, None}
+use Rattle.std.proofs.Common.{sym, ap, subst, refl, ◌∙◌, ℕ, Option, Some, None}
 use Rattle.std.specs.Prelude.{IfSome}
 use Rattle.std.proofs.lemmas.Option.{same_Some}
 use Rattle.row_store.specs.Tuple.{ids_at, ids_of}
@@ -15,13 +15,13 @@ if_some : (P Q : ℕ → Type 0) (o : Option ℕ) → ((v : ℕ) → P v → Q v
 if_some P Q None f p = tt
 if_some P Q (Some v) f p = f v p
 
-pub write_key-requires-2 : goal.write_key-requires-2
-write_key-requires-2 g c =
+pub write_key-requires-2-clause-wide : goal.write_key-requires-2-clause-wide
+write_key-requires-2-clause-wide g c =
     let index = c.args.self.now in
     let ids = ids_of c.args.new.now in
     let side = c.args.side in
     let wide = wide_here (made_of index) c.args.table side ids (c.if-not-differs_on.ensures.here refl) c.requires.wide_new in
-    (omega arith, (search rules, subst (λ xs. IsWide xs ids) (sym c.pattern_on.ensures) (wide_back (key_on index.rule side) (pattern_on index.rule side) ids wide)))
+    subst (λ xs. IsWide xs ids) (sym c.pattern_on.ensures) (wide_back (key_on index.rule side) (pattern_on index.rule side) ids wide)
 
 pub returns-clause-ok : goal.returns-clause-ok
 returns-clause-ok g c =

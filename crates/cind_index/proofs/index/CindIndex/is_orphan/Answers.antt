@@ -1,4 +1,4 @@
-use Rattle.std.proofs.Common.{rules, arith, sym, ap, subst, ◌∙◌, get_or, not, true, false}
+use Rattle.std.proofs.Common.{sym, ap, subst, ◌∙◌, get_or, not, true, false}
 use Rattle.std.specs.Str.{bytes_eq}
 use Rattle.row_store.specs.Tuple.{ids_at, ids_of}
 use Rattle.row_store.specs.Watch.{IsWide}
@@ -13,10 +13,10 @@ has_ids-requires g c =
     let rule = c.args.self.now.rule in
     subst (λ xs. IsWide xs (ids_of c.args.tuple.now)) (sym c.as_slice-2.ensures) (wide_back rule.x rule.xp (ids_of c.args.tuple.now) c.requires.wide)
 
-pub write_key-requires : goal.write_key-requires
-write_key-requires g c =
+pub write_key-requires-clause-wide : goal.write_key-requires-clause-wide
+write_key-requires-clause-wide g c =
     let rule = c.args.self.now.rule in
-    (omega arith, (search rules, subst (λ xs. IsWide xs (ids_of c.args.tuple.now)) (sym c.as_slice-x.ensures) (wide_front rule.x rule.xp (ids_of c.args.tuple.now) c.requires.wide)))
+    subst (λ xs. IsWide xs (ids_of c.args.tuple.now)) (sym c.as_slice-x.ensures) (wide_front rule.x rule.xp (ids_of c.args.tuple.now) c.requires.wide)
 
 pub returns-then-not-has_ids-clause-orphan : goal.returns-then-not-has_ids-clause-orphan
 returns-then-not-has_ids-clause-orphan g c x at row left is =

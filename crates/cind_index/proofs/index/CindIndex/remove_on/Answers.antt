@@ -1,4 +1,4 @@
-use Rattle.std.proofs.Common.{rules, arith, sym, ap, subst, refl, ◌∙◌}
+use Rattle.std.proofs.Common.{sym, ap, subst, refl, ◌∙◌}
 use Rattle.row_store.specs.Tuple.{ids_at, ids_behind, ids_of}
 use Rattle.row_store.specs.Watch.{IsWide}
 use Rattle.cind_index.specs.Entries.{is_entry, gives_on, key_on, pattern_on}
@@ -6,13 +6,13 @@ use Rattle.cind_index.specs.Index.{made_of}
 use Rattle.cind_index.proofs.SideFacts.{wide_here, wide_back, less_by, gives_own, gone_by}
 use Rattle.cind_index.proofs.index.CindIndex.remove_on.Goals as goal
 
-pub write_key-requires-2 : goal.write_key-requires-2
-write_key-requires-2 g c =
+pub write_key-requires-2-clause-wide : goal.write_key-requires-2-clause-wide
+write_key-requires-2-clause-wide g c =
     let index = c.args.self.now in
     let ids = ids_of c.args.old.now in
     let side = c.args.side in
     let wide = wide_here (made_of index) c.args.table side ids (c.if-not-differs_on.ensures.here refl) c.requires.wide_old in
-    (omega arith, (search rules, subst (λ xs. IsWide xs ids) (sym c.pattern_on.ensures) (wide_back (key_on index.rule side) (pattern_on index.rule side) ids wide)))
+    subst (λ xs. IsWide xs ids) (sym c.pattern_on.ensures) (wide_back (key_on index.rule side) (pattern_on index.rule side) ids wide)
 
 pub returns-clause-left : goal.returns-clause-left
 returns-clause-left g c =

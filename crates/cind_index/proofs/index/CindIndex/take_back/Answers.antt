@@ -1,4 +1,4 @@
-use Rattle.std.proofs.Common.{rules, arith, sym, ap, subst, ◌∙◌}
+use Rattle.std.proofs.Common.{sym, ap, subst, ◌∙◌}
 use Rattle.row_store.specs.Tuple.{ids_at, ids_of}
 use Rattle.row_store.specs.Watch.{IsWide}
 use Rattle.cind_index.specs.declared.side.Side.TheVariants.{Left}
@@ -8,10 +8,10 @@ use Rattle.cind_index.proofs.KeyFacts.{has_place}
 use Rattle.cind_index.proofs.SideFacts.{wide_front, wide_back, less_by, gives_own}
 use Rattle.cind_index.proofs.index.CindIndex.take_back.Goals as goal
 
-pub write_key-requires : goal.write_key-requires
-write_key-requires c =
+pub write_key-requires-clause-wide : goal.write_key-requires-clause-wide
+write_key-requires-clause-wide c =
     let rule = c.args.self.now.rule in
-    (omega arith, (search rules, subst (λ xs. IsWide xs (ids_of c.args.tuple.now)) (sym c.as_slice.ensures) (wide_back rule.x rule.xp (ids_of c.args.tuple.now) c.requires.wide)))
+    subst (λ xs. IsWide xs (ids_of c.args.tuple.now)) (sym c.as_slice.ensures) (wide_back rule.x rule.xp (ids_of c.args.tuple.now) c.requires.wide)
 
 pub take_at-requires-clause-within : goal.take_at-requires-clause-within
 take_at-requires-clause-within c =

@@ -1,4 +1,4 @@
-use Rattle.std.proofs.Common.{rules, arith, ◌≡◌, ◌<◌, length, get_or, sym, ap, ◌∙◌, subst}
+use Rattle.std.proofs.Common.{◌≡◌, ◌<◌, length, get_or, sym, ap, ◌∙◌, subst}
 use Rattle.std.specs.Prelude.{slice_index}
 use Rattle.std.proofs.lemmas.List.Elements.{All-tail}
 use Rattle.row_store.specs.Tuple.{ids_at, ids_of}
@@ -7,12 +7,12 @@ use Rattle.group_index.proofs.PartnerFacts.{partner_of_row}
 use Rattle.group_index.proofs.WatchFacts.{wide_from}
 use Rattle.group_index.proofs.index.GroupIndex.partner.Goals as goal
 
-pub write_key-requires : goal.write_key-requires
-write_key-requires g c =
+pub write_key-requires-clause-wide : goal.write_key-requires-clause-wide
+write_key-requires-clause-wide g c =
     let made : GroupsMade = record { table = c.self.inside.table; dependency = record { x = c.self.inside.x; a = c.self.inside.a; rows = c.self.inside.tableau } } in
     let wide = All-tail (λ attribute. attribute < length (ids_of c.args.tuple.now)) c.self.inside.a c.self.inside.x
     (wide_from made c.self.inside.groups c.args.self.now c.args.self.now.made.table (ids_of c.args.tuple.now) c.self.view_is (sym (ap (λ (s : GroupSet). s.made.table) c.self.view_is)) c.requires.wide) in
-    (omega arith, (search rules, rw c.as_slice-x.ensures wide))
+    rw c.as_slice-x.ensures wide
 
 pub returns-clause-partner : goal.returns-clause-partner
 returns-clause-partner g c =

@@ -1,4 +1,4 @@
-use Rattle.std.proofs.Common.{rules, arith, ◌<◌, length, sym, ap, ◌∙◌}
+use Rattle.std.proofs.Common.{◌<◌, length, sym, ap, ◌∙◌}
 use Rattle.std.specs.Prelude.{false, slice_index}
 use Rattle.std.specs.Option.{option_map_or}
 use Rattle.std.proofs.lemmas.List.Elements.{All-tail}
@@ -28,11 +28,11 @@ returns-then-same_entry-clause-ok g c =
     (ap (λ x. option_map_or (λ own. gives_alike own (ids_of c.args.new.now) x c.self.inside.a) (ids_behind c.args.old) false) (sym c.as_slice-x.ensures) ∙ sym c.same_entry.ensures ∙ c.if-same_entry.true)
     c.requires.present
 
-pub write_key-requires : goal.write_key-requires
-write_key-requires g c =
+pub write_key-requires-clause-wide : goal.write_key-requires-clause-wide
+write_key-requires-clause-wide g c =
     let made : GroupsMade = record { table = c.self.inside.table; dependency = record { x = c.self.inside.x; a = c.self.inside.a; rows = c.self.inside.tableau } } in
     let wide = All-tail (λ attribute. attribute < length (ids_of c.args.new.now)) c.self.inside.a c.self.inside.x (wide_from made c.self.inside.groups c.args.self.now c.args.table (ids_of c.args.new.now) c.self.view_is c.if-table-self.false c.requires.wide_new) in
-    (omega arith, (search rules, rw c.as_slice-x.ensures wide))
+    rw c.as_slice-x.ensures wide
 
 pub returns-clause-ok : goal.returns-clause-ok
 returns-clause-ok g c =

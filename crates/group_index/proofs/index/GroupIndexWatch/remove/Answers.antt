@@ -1,4 +1,4 @@
-use Rattle.std.proofs.Common.{rules, arith, ◌<◌, ◌≤◌, length, sym, ap, ◌∙◌, subst}
+use Rattle.std.proofs.Common.{◌<◌, ◌≤◌, length, sym, ap, ◌∙◌, subst}
 use Rattle.std.specs.Prelude.{false, slice_index}
 use Rattle.std.specs.Option.{option_map_or}
 use Rattle.std.proofs.lemmas.List.Elements.{All-tail}
@@ -32,7 +32,7 @@ write_key-requires g c =
     let made : GroupsMade = record { table = c.self.inside.table; dependency = record { x = c.self.inside.x; a = c.self.inside.a; rows = c.self.inside.tableau } } in
     let wide = wide_from made c.self.inside.groups c.args.self.now c.args.table (ids_of c.args.old.now) c.self.view_is c.if-table-self.false c.requires.wide_old in
     let room = c.self.invariant.room (some_group made c.self.inside.groups c.args.self.now c.args.table c.args.row c.self.view_is c.if-table-self.false (ids_of c.args.old.now) (ids_behind c.args.new) wide c.requires.present) in
-    (omega arith, (rw c.as_slice-x.ensures room, rw c.as_slice-x.ensures (All-tail (λ attribute. attribute < length (ids_of c.args.old.now)) c.self.inside.a c.self.inside.x wide)))
+    record { room = rw c.as_slice-x.ensures room; wide = rw c.as_slice-x.ensures (All-tail (λ attribute. attribute < length (ids_of c.args.old.now)) c.self.inside.a c.self.inside.x wide) }
 
 pub returns-clause-left : goal.returns-clause-left
 returns-clause-left g c =
