@@ -1,5 +1,5 @@
 -- The list of a rule is empty exactly where none of its groups or keys is dirty.
-use Rattle.std.proofs.Common.{◌≡◌, ℕ, ◌<◌, ◌↔◌, Bool, true, false, cond, ◌&&◌, ◌||◌, List, [], ◌∷◌, map, filter, length, Some, None, refl, sym, ap, subst, ◌∙◌, arith}
+use Rattle.std.proofs.Common.{◌≡◌, ℕ, ◌+◌, ◌<◌, ◌↔◌, Bool, true, false, cond, ◌||◌, List, [], ◌∷◌, map, filter, length, Some, None, refl, sym, ap, subst, ◌∙◌, arith}
 use Rattle.std.specs.Prelude.{Contains, slice_get}
 use Rattle.std.specs.List.{list_any}
 use Rattle.std.specs.Option.{option_map, option_map_or}
@@ -22,12 +22,16 @@ use Rattle.rule_model.specs.declared.dep.Dep.{Dep}
 use Rattle.rule_model.specs.declared.cind.Cind.{Cind}
 use Rattle.rule_model.specs.Books.{Book, book_deps, book_cinds}
 use Rattle.bench_core.specs.Answers.{cind_orphans, dep_violations}
-use Rattle.bench_core.specs.DirtyCounts.{cind_dirty, dep_dirty, dirty_groups, dirty_groups_at, dirty_keys, dirty_keys_at, lacks_answer, violates}
+use Rattle.bench_core.specs.DirtyCounts.{cind_dirty, dep_dirty, dirty_groups, dirty_keys, lacks_answer, violates}
 use Rattle.bench_core.specs.State.{State, rows_at}
 use Rattle.bench_core.proofs.Answering.{item-there}
 use Rattle.violation_report.specs.Listing.{dep_line, dep_lines, cind_line, cind_lines, listing, IsSatisfied}
+use Rattle.violation_report.specs.RuleNumbers.{IsRuleOf, number_at, rule_at, rule_count}
 use Rattle.violation_report.specs.declared.line.Line.{Line}
+use Rattle.violation_report.specs.declared.rules.Rule.{Rule}
+use Rattle.violation_report.specs.declared.rules.Rule.TheVariants.{Dep as DepNumber, Cind as CindNumber}
 use Rattle.violation_report.proofs.Lists.{listing_is_empty}
+use Rattle.violation_report.proofs.RuleLoops.{at-cind, at-dep}
 
 clash : (b : Bool) → b ≡ true → b ≡ false → ⊥
 clash b one other = cc
@@ -148,25 +152,21 @@ module _ (rules : Book) (state : State) where
   cinds_as : (cind : Cind) → cind_dirty state cind ≡ 0 ↔ cind_orphans state cind ≡ []
   cinds_as cind = keys_clean bytes_eq cind.rule (left_entries cind.rule (rows_at state cind.left)) (right_entries cind.rule (rows_at state cind.right))
 
-  pub deps_clean : ((number : ℕ) → number < length (book_deps rules) → dirty_groups_at rules state number ≡ 0) → dep_lines rules state ≡ []
-  deps_clean each = all_clean (dep_violations state) (dep_dirty state) deps_as (book_deps rules) dep_line each
+  abbrev dirty : Rule → ℕ
+  dirty = number_at (dep_dirty state) (cind_dirty state) rules
 
-  pub deps_dirty : (number : ℕ) → number < length (book_deps rules) → (dirty_groups_at rules state number ≡ 0 → ⊥) → dep_lines rules state ≡ [] → ⊥
-  deps_dirty number within some empty = some_dirty (dep_violations state) (dep_dirty state) deps_as (book_deps rules) dep_line number within some empty
+  -- the list is empty where no rule has anything dirty, and nowhere else
+  pub rules_clean : ((place : ℕ) → place < rule_count rules → number_at (dep_dirty state) (cind_dirty state) rules (rule_at rules place) ≡ 0) → listing rules state ≡ []
+  rules_clean each =
+      let deps = all_clean (dep_violations state) (dep_dirty state) deps_as (book_deps rules) dep_line (λ n within. sym (ap dirty (at-dep rules n within)) ∙ each n (omega arith)) in
+      let cinds = all_clean (cind_orphans state) (cind_dirty state) cinds_as (book_cinds rules) cind_line (λ n within. sym (ap dirty (at-cind rules n)) ∙ each (length (book_deps rules) + n) (omega arith)) in
+      rw (deps, cinds) refl
 
-  pub cinds_clean : ((number : ℕ) → number < length (book_cinds rules) → dirty_keys_at rules state number ≡ 0) → cind_lines rules state ≡ []
-  cinds_clean each = all_clean (cind_orphans state) (cind_dirty state) cinds_as (book_cinds rules) cind_line each
+  pub rule_dirty : (rule : Rule) → IsRuleOf rules rule → (number_at (dep_dirty state) (cind_dirty state) rules rule ≡ 0 → ⊥) → listing rules state ≡ [] → ⊥
+  rule_dirty (DepNumber n) within some empty = some_dirty (dep_violations state) (dep_dirty state) deps_as (book_deps rules) dep_line n within some (append-empty (dep_lines rules state) (cind_lines rules state) empty).0
+  rule_dirty (CindNumber n) within some empty = some_dirty (cind_orphans state) (cind_dirty state) cinds_as (book_cinds rules) cind_line n within some (append-empty (dep_lines rules state) (cind_lines rules state) empty).1
 
-  pub cinds_dirty : (number : ℕ) → number < length (book_cinds rules) → (dirty_keys_at rules state number ≡ 0 → ⊥) → cind_lines rules state ≡ [] → ⊥
-  cinds_dirty number within some empty = some_dirty (cind_orphans state) (cind_dirty state) cinds_as (book_cinds rules) cind_line number within some empty
-
-  -- the list is empty where both of its parts are, and nowhere else
-  pub both_clean : (deps cinds : Bool) → (deps ≡ true ↔ dep_lines rules state ≡ []) → (cinds ≡ true ↔ cind_lines rules state ≡ []) → (deps && cinds) ≡ true ↔ listing rules state ≡ []
-  both_clean true true one other = ((λ yes. rw (one.0 refl, other.0 refl) refl), (λ empty. refl))
-  both_clean true false one other = ((λ no. absurd (cc)), (λ empty. other.1 (append-empty (dep_lines rules state) (cind_lines rules state) empty).1))
-  both_clean false cinds one other = ((λ no. absurd (cc)), (λ empty. one.1 (append-empty (dep_lines rules state) (cind_lines rules state) empty).0))
-
-  pub both_satisfied : (clean : Bool) → (clean ≡ true ↔ listing rules state ≡ []) → clean ≡ true ↔ IsSatisfied rules state
-  both_satisfied clean one =
+  pub clean_satisfied : (clean : Bool) → (clean ≡ true ↔ listing rules state ≡ []) → clean ≡ true ↔ IsSatisfied rules state
+  clean_satisfied clean one =
       let law = listing_is_empty rules state in
       ((λ yes. law.0 (one.0 yes)), (λ satisfied. one.1 (law.1 satisfied)))

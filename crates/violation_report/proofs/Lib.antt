@@ -3,5 +3,5 @@ pub mod Loops
 pub mod Taken
 pub mod Reports
 pub mod RowLines
-pub mod Probed
+pub mod RuleLoops
 pub mod CleanFacts

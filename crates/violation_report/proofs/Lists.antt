@@ -1,11 +1,11 @@
 -- Facts on the list of a state: when it is empty, and that its lines are in range of the rules.
-use Rattle.std.proofs.Common.{◌≡◌, ℕ, ◌+◌, ◌<◌, ◌↔◌, List, [], ◌∷◌, map, length, drop, get_or, Option, None, Some, Result, Ok, Err, IfOk, refl, sym, ap, subst, ◌∙◌, inl, inr, arith}
+use Rattle.std.proofs.Common.{◌≡◌, ℕ, ◌+◌, ◌<◌, ◌↔◌, List, [], ◌∷◌, map, length, drop, get_or, Option, None, Some, refl, sym, ap, subst, ◌∙◌, inl, inr, arith}
 use Rattle.std.specs.List.{All, Contains, enumerate_from, flat_map, slice_get}
 use Rattle.std.specs.Option.{IsSomeAnd}
 use Rattle.std.proofs.lemmas.Bool.{cases_lt}
 use Rattle.std.proofs.lemmas.Cmp.{nat_list_eq_equiv}
 use Rattle.std.specs.Str.{bytes_eq}
-use Rattle.std.proofs.lemmas.List.{drop_more, drop_all, get_or-map, length-append, length-map}
+use Rattle.std.proofs.lemmas.List.{drop_more, drop_all, get_or-map, length-map}
 use Rattle.std.proofs.lemmas.Option.{slice_get-get_or}
 use Rattle.std.proofs.lemmas.List.Elements.{All-nil, All-append, All-map, All-weaker, Contains-get_or}
 use Rattle.cfd_semantics.specs.declared.violation.Violation.{Violation}
@@ -74,12 +74,6 @@ law_of_length rules state lines long =
       (λ none. law.0 (no_items (listing rules state) (sym long ∙ none))),
       (λ satisfied. long ∙ ap (λ (ls : List Line). length ls) (law.1 satisfied)),
     )
-
-pub law_counted : {E : Type 0} (rules : Book) (state : State) (deps cinds : ℕ) (result : Result ℕ E) → deps ≡ length (dep_lines rules state) → cinds ≡ length (cind_lines rules state) → IfOk result (λ sum. sum ≡ deps + cinds)
-    → IfOk result (λ lines. lines ≡ 0 ↔ IsSatisfied rules state)
-law_counted rules state deps cinds (Err e) deps_are cinds_are sum = tt
-law_counted rules state deps cinds (Ok lines) deps_are cinds_are sum =
-    law_of_length rules state lines (sum ∙ (λ i. deps_are i + cinds_are i) ∙ sym (length-append (dep_lines rules state) (cind_lines rules state)))
 
 -- ---- numbers in range
 

@@ -1,25 +1,26 @@
 -- Of the lines of the whole list, those that are about a row are the lines asked for that row.
-use Rattle.std.proofs.Common.{◌≡◌, ℕ, ◌+◌, ◌<◌, ◌==◌, ◌&&◌, Bool, true, false, List, [], ◌∷◌, ◌++◌, map, length, take, filter, Option, Some, None, All, refl, sym, ap, subst, ◌∙◌, arith}
+use Rattle.std.proofs.Common.{◌≡◌, ℕ, ◌+◌, ◌<◌, ◌≤◌, ◌==◌, ◌&&◌, Bool, true, false, List, [], ◌∷◌, map, length, filter, Option, Some, None, All, refl, sym, ap, subst, ◌∙◌, arith}
 use Rattle.std.specs.Prelude.{IsSome, is_some, slice_get, option_and_then, option_map}
 use Rattle.std.specs.FinMap as finmap
 use Rattle.std.specs.List.{find, list_any}
 use Rattle.std.specs.Option.{option_map_or}
-use Rattle.std.proofs.lemmas.List.Elements.{All-filter, filter-append}
+use Rattle.std.proofs.lemmas.List.Elements.{All-filter}
 use Rattle.cfd_semantics.specs.declared.violation.Violation.{Violation}
-use Rattle.cfd_semantics.specs.Numbered.{numbered}
 use Rattle.rule_model.specs.declared.dep.Dep.{Dep}
 use Rattle.rule_model.specs.declared.cind.Cind.{Cind}
 use Rattle.rule_model.specs.Books.{Book, book_cinds, book_deps}
-use Rattle.bench_core.specs.Answers.{IsRowOfCind, IsRowOfDep, cind_orphans, dep_violations, orphans_at, orphans_of_row, row_texts, violations_at, violations_of_row}
+use Rattle.bench_core.specs.Answers.{IsRowOfCind, IsRowOfDep, orphans_at, orphans_of_row, row_texts, violations_at, violations_of_row}
 use Rattle.bench_core.specs.State.{Row, State, TableState, has_id, texts_of}
 use Rattle.bench_core.specs.Stored.{Stored, table_state}
 use Rattle.bench_core.proofs.Planned.{texts-absent, texts-there}
-use Rattle.violation_report.specs.declared.line.Line.{Line}
 use Rattle.violation_report.specs.Explained.{cind_is_of, dep_is_of, explained, has_row, is_about}
-use Rattle.violation_report.specs.Listing.{cind_line, cind_lines, cind_lines_at, dep_line, dep_lines, dep_lines_at, listing}
+use Rattle.violation_report.specs.Listing.{cind_line, cind_lines_at, dep_line, dep_lines_at, listing}
+use Rattle.violation_report.specs.Probes.{cind_rows_of, dep_rows_of}
+use Rattle.violation_report.specs.RuleNumbers.{is_of, lines_at}
 use Rattle.violation_report.specs.Text.{IsLineOf}
+use Rattle.violation_report.specs.declared.rules.Rule.{Rule}
+use Rattle.violation_report.specs.declared.rules.Rule.TheVariants.{Dep as DepNumber, Cind as CindNumber}
 use Rattle.violation_report.proofs.Lists.{cind_lines-in_range, dep_lines-in_range, listing_in_range}
-use Rattle.violation_report.proofs.Loops.{cind-lines-more, dep-lines-more}
 
 -- ---- lines that are kept
 
@@ -58,33 +59,22 @@ module _ (rules : Book) (table row n : ℕ) where
   pub own-dep-lines : dep_is_of rules table n ≡ true → (found : List (ℕ × Violation)) → filter (is_about rules table row) (dep_lines_at n found) ≡ dep_lines_at n (filter (λ violation. violation.1.row == row) found)
   own-dep-lines own = kept_mapped (is_about rules table row) (λ one. dep_line (n, one)) (λ violation. violation.1.row == row) (λ one. dep-about one ∙ ap (λ b. one.1.row == row && b) own ∙ and_true (one.1.row == row))
 
-  pub other-dep-lines : dep_is_of rules table n ≡ false → (found : List (ℕ × Violation)) → filter (is_about rules table row) (dep_lines_at n found) ≡ []
+  other-dep-lines : dep_is_of rules table n ≡ false → (found : List (ℕ × Violation)) → filter (is_about rules table row) (dep_lines_at n found) ≡ []
   other-dep-lines other = none_kept (is_about rules table row) (λ one. dep_line (n, one)) (λ one. dep-about one ∙ ap (λ b. one.1.row == row && b) other ∙ and_false (one.1.row == row))
 
   -- the same for an inclusion
   pub own-cind-lines : cind_is_of rules table n ≡ true → (found : List (ℕ × ℕ)) → filter (is_about rules table row) (cind_lines_at n found) ≡ cind_lines_at n (filter (λ orphan. orphan.1 == row) found)
   own-cind-lines own = kept_mapped (is_about rules table row) (λ one. cind_line (n, one)) (λ orphan. orphan.1 == row) (λ one. ap (λ b. one.1 == row && b) own ∙ and_true (one.1 == row))
 
-  pub other-cind-lines : cind_is_of rules table n ≡ false → (found : List (ℕ × ℕ)) → filter (is_about rules table row) (cind_lines_at n found) ≡ []
+  other-cind-lines : cind_is_of rules table n ≡ false → (found : List (ℕ × ℕ)) → filter (is_about rules table row) (cind_lines_at n found) ≡ []
   other-cind-lines other = none_kept (is_about rules table row) (λ one. cind_line (n, one)) (λ one. ap (λ b. one.1 == row && b) other ∙ and_false (one.1 == row))
 
--- the lines about the row in those of one rule more
-module _ (rules : Book) (state : State) (table row n : ℕ) where
-  abbrev about : Line → Bool
-  about = is_about rules table row
-
-  pub dep-more : n < length (book_deps rules)
-      → filter about (map dep_line (numbered (dep_violations state) (take (n + 1) (book_deps rules)))) ≡ filter about (map dep_line (numbered (dep_violations state) (take n (book_deps rules)))) ++ filter about (dep_lines_at n (violations_at rules state n))
-  dep-more within = ap (filter about) (dep-lines-more rules state n within) ∙ filter-append about (map dep_line (numbered (dep_violations state) (take n (book_deps rules)))) (dep_lines_at n (violations_at rules state n))
-
-  pub cind-more : n < length (book_cinds rules)
-      → filter about (map cind_line (numbered (cind_orphans state) (take (n + 1) (book_cinds rules)))) ≡ filter about (map cind_line (numbered (cind_orphans state) (take n (book_cinds rules)))) ++ filter about (cind_lines_at n (orphans_at rules state n))
-  cind-more within = ap (filter about) (cind-lines-more rules state n within) ∙ filter-append about (map cind_line (numbered (cind_orphans state) (take n (book_cinds rules)))) (cind_lines_at n (orphans_at rules state n))
+-- of the lines of a rule of another table, none is about a row of this one
+pub other-lines : (rules : Book) (state : State) (table row : ℕ) (rule : Rule) → is_of rules table rule ≡ false → filter (is_about rules table row) (lines_at rules state rule) ≡ []
+other-lines rules state table row (DepNumber n) other = other-dep-lines rules table row n other (violations_at rules state n)
+other-lines rules state table row (CindNumber n) other = other-cind-lines rules table row n other (orphans_at rules state n)
 
 -- ---- the whole list
-
-pub explained-parts : (rules : Book) (state : State) (table row : ℕ) → explained rules state table row ≡ filter (is_about rules table row) (dep_lines rules state) ++ filter (is_about rules table row) (cind_lines rules state)
-explained-parts rules state table row = filter-append (is_about rules table row) (dep_lines rules state) (cind_lines rules state)
 
 pub explained-in_range : (rules : Book) (state : State) (table row : ℕ) → All (IsLineOf rules) (explained rules state table row)
 explained-in_range rules state table row = All-filter (is_about rules table row) (IsLineOf rules) (listing rules state) (listing_in_range rules state)
@@ -99,6 +89,16 @@ module _ (rules : Book) (state : State) (table row n : ℕ) where
   own-cind-in_range within own =
       let found = orphans_at rules state n in
       subst (All (IsLineOf rules)) (own-cind-lines rules table row n own found) (All-filter (is_about rules table row) (IsLineOf rules) (cind_lines_at n found) (cind_lines-in_range rules state n within))
+
+-- a rule of the table has all its tableau rows
+module _ (table next steps : ℕ) where
+  pub dep-rows-own : (o : Option Dep) → option_map_or (λ (d : Dep). d.table == table) o false ≡ true → next ≤ steps + option_map_or (λ (d : Dep). length d.rule.rows) o 0 → next ≤ steps + option_map_or (dep_rows_of table) o 0
+  dep-rows-own None own few = few
+  dep-rows-own (Some d) own few = rw own few
+
+  pub cind-rows-own : (o : Option Cind) → option_map_or (λ (c : Cind). c.left == table) o false ≡ true → next ≤ steps + option_map_or (λ (c : Cind). length c.rule.rows) o 0 → next ≤ steps + option_map_or (cind_rows_of table) o 0
+  cind-rows-own None own few = few
+  cind-rows-own (Some c) own few = rw own few
 
 -- ---- a row that is there
 

@@ -6,3 +6,4 @@ pub mod Explained
 pub mod Report
 pub mod Written
 pub mod Probes
+pub mod RuleNumbers

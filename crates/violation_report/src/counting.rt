@@ -1,11 +1,12 @@
 //! How long the list is.
 
-ghost use Rattle.std.specs.Prelude.{◌≡◌, ◌↔◌, ◌+◌, ◌^◌, ◌<◌, ◌≤◌, IfOk, length, sum_by};
-ghost use Rattle.rule_model.specs.Books.{book_cinds, book_deps};
+ghost use Rattle.std.specs.Prelude.{◌≡◌, ◌↔◌, ◌+◌, ◌≤◌, IfOk, length};
 ghost use Rattle.bench_core.specs.DirtyCounts.{cind_walk, dep_walk};
-ghost use Rattle.violation_report.specs.Listing.{IsSatisfied, cind_lines, dep_lines, listing};
+ghost use Rattle.violation_report.specs.Listing.{IsSatisfied, listing};
 ghost use Rattle.violation_report.specs.Probes.{list_probes};
+ghost use Rattle.violation_report.specs.RuleNumbers.{IsRuleOf, lines_at, number_at};
 
+use crate::rules::{Rule, rule_at, rule_count};
 use bench_core::BenchQueries;
 use probe_steps::Steps;
 use std::alloc::AllocError;
@@ -19,9 +20,12 @@ pub fn count<L: Ledger>(bench: &BenchQueries<'_>, steps: &mut Steps<L>) -> Resul
     ensures law { IfOk result (λ lines. lines ≡ 0 ↔ IsSatisfied bench.now.rules bench.now.history.present) }
     ensures probes { steps.new ≤ steps.old + list_probes bench.now.rules bench.now.history.present }
 {
-    let deps = count_deps(bench, steps)?;
-    let cinds = count_cinds(bench, steps)?;
-    sum_of(deps, cinds)
+    let mut count: usize = 0;
+    for place in 0..rule_count(bench) {
+        let more = count_of(bench, rule_at(bench, place), steps)?;
+        count = sum_of(count, more)?;
+    }
+    Ok(count)
 }
 
 fn sum_of(one: usize, other: usize) -> Result<usize, AllocError>
@@ -33,32 +37,17 @@ fn sum_of(one: usize, other: usize) -> Result<usize, AllocError>
     }
 }
 
-fn count_deps<L: Ledger>(
+fn count_of<L: Ledger>(
     bench: &BenchQueries<'_>,
+    rule: Rule,
     steps: &mut Steps<L>,
 ) -> Result<usize, AllocError>
-    ensures count { IfOk result (λ lines. lines ≡ length (dep_lines bench.now.rules bench.now.history.present)) }
-    ensures probes { steps.new ≤ steps.old + sum_by (dep_walk bench.now.history.present) (book_deps bench.now.rules) }
+    requires { IsRuleOf bench.now.rules rule }
+    ensures count { IfOk result (λ lines. lines ≡ length (lines_at bench.now.rules bench.now.history.present rule)) }
+    ensures probes { steps.new ≤ steps.old + number_at (dep_walk bench.now.history.present) (cind_walk bench.now.history.present) bench.now.rules rule }
 {
-    let mut count: usize = 0;
-    for number in 0..bench.dep_count() {
-        let more = bench.violation_count(number, steps)?;
-        count = sum_of(count, more)?;
+    match rule {
+        Rule::Dep(number) => bench.violation_count(number, steps),
+        Rule::Cind(number) => bench.orphan_count(number, steps),
     }
-    Ok(count)
-}
-
-fn count_cinds<L: Ledger>(
-    bench: &BenchQueries<'_>,
-    steps: &mut Steps<L>,
-) -> Result<usize, AllocError>
-    ensures count { IfOk result (λ lines. lines ≡ length (cind_lines bench.now.rules bench.now.history.present)) }
-    ensures probes { steps.new ≤ steps.old + sum_by (cind_walk bench.now.history.present) (book_cinds bench.now.rules) }
-{
-    let mut count: usize = 0;
-    for number in 0..bench.cind_count() {
-        let more = bench.orphan_count(number, steps)?;
-        count = sum_of(count, more)?;
-    }
-    Ok(count)
 }

@@ -1,17 +1,15 @@
 //! The lines of the list that a row has.
 
-ghost use Rattle.std.specs.Prelude.{◌≡◌, ◌++◌, ◌+◌, ◌<◌, ◌≤◌, [], true, length, filter, sum_by, slice_get, All, IfOk, OnOk};
-ghost use Rattle.std.specs.Option.{option_map_or};
+ghost use Rattle.std.specs.Prelude.{◌≡◌, ◌++◌, ◌+◌, ◌<◌, ◌≤◌, true, length, filter, All, IfOk, OnOk};
 ghost use Rattle.line_grammar.specs.Faults.{IsUnlessMemory};
-ghost use Rattle.rule_model.specs.Books.{book_cinds, book_deps};
-ghost use Rattle.bench_core.specs.Answers.{orphans_at, violations_at};
 ghost use Rattle.violation_report.specs.Explained.{cind_is_of, dep_is_of, explain_tells, explained, explanation, has_row, is_about};
-ghost use Rattle.violation_report.specs.Listing.{cind_lines, cind_lines_at, dep_lines, dep_lines_at};
 ghost use Rattle.violation_report.specs.Probes.{cind_rows_of, dep_rows_of, explain_probes, row_probes};
+ghost use Rattle.violation_report.specs.RuleNumbers.{IsRuleOf, is_of, lines_at, number_at};
 ghost use Rattle.violation_report.specs.Text.{IsLineOf};
 ghost use Rattle.violation_report.specs.declared.explaining.ExplainFault.TheVariants as explain_fault;
 
 use crate::line::Line;
+use crate::rules::{Rule, rule_at, rule_count};
 use crate::walking::{put_orphans, put_violations};
 use bench_core::{Bench, BenchQueries};
 use probe_steps::Steps;
@@ -86,86 +84,49 @@ fn lines_of<L: Ledger>(
     ensures probes { steps.new ≤ steps.old + row_probes bench.now.rules table }
 {
     let mut lines = List::new(alloc);
-    explain_deps(bench, table, row, &mut lines, steps)?;
-    explain_cinds(bench, table, row, &mut lines, steps)?;
+    for place in 0..rule_count(bench) {
+        explain_rule(bench, table, rule_at(bench, place), row, &mut lines, steps)?;
+    }
     Ok(lines)
 }
 
-fn explain_deps<L: Ledger>(
+/// Appends the lines about the row that a rule has: none where it is of another table, as an inclusion is that has another one
+/// on its left.
+fn explain_rule<L: Ledger>(
     bench: &BenchQueries<'_>,
     table: usize,
+    rule: Rule,
     row: RowId,
     lines: &mut List<Line>,
     steps: &mut Steps<L>,
 ) -> Result<(), AllocError>
-    requires start { lines.old ≡ [] }
+    requires rule { IsRuleOf bench.now.rules rule }
     requires there { has_row bench.now.history.present table row ≡ true }
-    ensures lines { OnOk result (lines.new ≡ filter (is_about bench.now.rules table row) (dep_lines bench.now.rules bench.now.history.present)) }
-    ensures probes { steps.new ≤ steps.old + sum_by (dep_rows_of table) (book_deps bench.now.rules) }
+    ensures lines { OnOk result (lines.new ≡ lines.old ++ filter (is_about bench.now.rules table row) (lines_at bench.now.rules bench.now.history.present rule)) }
+    ensures probes { steps.new ≤ steps.old + number_at (dep_rows_of table) (cind_rows_of table) bench.now.rules rule }
 {
-    for number in 0..bench.dep_count() {
-        explain_dep(bench, table, number, row, lines, steps)?;
-    }
-    Ok(())
-}
-
-/// Appends the lines about the row that a numbered dependency has: none where it is of another table.
-fn explain_dep<L: Ledger>(
-    bench: &BenchQueries<'_>,
-    table: usize,
-    number: usize,
-    row: RowId,
-    lines: &mut List<Line>,
-    steps: &mut Steps<L>,
-) -> Result<(), AllocError>
-    requires dep { number < length (book_deps bench.now.rules) }
-    requires there { has_row bench.now.history.present table row ≡ true }
-    ensures lines { OnOk result (lines.new ≡ lines.old ++ filter (is_about bench.now.rules table row) (dep_lines_at number (violations_at bench.now.rules bench.now.history.present number))) }
-    ensures probes { steps.new ≤ steps.old + option_map_or (dep_rows_of table) (slice_get (book_deps bench.now.rules) number) 0 }
-{
-    if !dep_is_of(bench, table, number) {
+    if !is_of(bench, table, rule) {
         return Ok(());
     }
-    let found = bench.violations_of_row(number, row, steps)?;
-    put_violations(bench.rules(), number, found.as_slice(), lines)
+    match rule {
+        Rule::Dep(number) => {
+            let found = bench.violations_of_row(number, row, steps)?;
+            put_violations(bench.rules(), number, found.as_slice(), lines)
+        }
+        Rule::Cind(number) => {
+            let found = bench.orphans_of_row(number, row, steps)?;
+            put_orphans(bench.rules(), number, found.as_slice(), lines)
+        }
+    }
 }
 
-fn explain_cinds<L: Ledger>(
-    bench: &BenchQueries<'_>,
-    table: usize,
-    row: RowId,
-    lines: &mut List<Line>,
-    steps: &mut Steps<L>,
-) -> Result<(), AllocError>
-    requires { has_row bench.now.history.present table row ≡ true }
-    ensures lines { OnOk result (lines.new ≡ lines.old ++ filter (is_about bench.now.rules table row) (cind_lines bench.now.rules bench.now.history.present)) }
-    ensures probes { steps.new ≤ steps.old + sum_by (cind_rows_of table) (book_cinds bench.now.rules) }
+fn is_of(bench: &BenchQueries<'_>, table: usize, rule: Rule) -> bool
+    ensures { result ≡ is_of bench.now.rules table rule }
 {
-    for number in 0..bench.cind_count() {
-        explain_cind(bench, table, number, row, lines, steps)?;
+    match rule {
+        Rule::Dep(number) => dep_is_of(bench, table, number),
+        Rule::Cind(number) => cind_is_of(bench, table, number),
     }
-    Ok(())
-}
-
-/// The same of a numbered inclusion, which may have another table on its left.
-fn explain_cind<L: Ledger>(
-    bench: &BenchQueries<'_>,
-    table: usize,
-    number: usize,
-    row: RowId,
-    lines: &mut List<Line>,
-    steps: &mut Steps<L>,
-) -> Result<(), AllocError>
-    requires cind { number < length (book_cinds bench.now.rules) }
-    requires there { has_row bench.now.history.present table row ≡ true }
-    ensures lines { OnOk result (lines.new ≡ lines.old ++ filter (is_about bench.now.rules table row) (cind_lines_at number (orphans_at bench.now.rules bench.now.history.present number))) }
-    ensures probes { steps.new ≤ steps.old + option_map_or (cind_rows_of table) (slice_get (book_cinds bench.now.rules) number) 0 }
-{
-    if !cind_is_of(bench, table, number) {
-        return Ok(());
-    }
-    let found = bench.orphans_of_row(number, row, steps)?;
-    put_orphans(bench.rules(), number, found.as_slice(), lines)
 }
 
 fn dep_is_of(bench: &BenchQueries<'_>, table: usize, dep: usize) -> bool

@@ -8,6 +8,7 @@ mod explaining;
 mod json;
 mod line;
 mod listing;
+mod rules;
 mod taker;
 mod told;
 mod walking;
