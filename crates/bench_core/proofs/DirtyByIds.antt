@@ -25,15 +25,11 @@ use Rattle.group_index.specs.Answers.{AreDirty}
 use Rattle.group_index.specs.GroupSet.{GroupSet, holds_entry}
 use Rattle.cind_index.specs.Orphans.{IsDirtyCount}
 use Rattle.bench_index.proofs.Settled.{exact_ids}
+use Rattle.bench_index.proofs.Lines.{same_test}
 use Rattle.bench_core.specs.DirtyCounts.{dirty_groups, dirty_keys, lacks_answer, violates}
 
 same_ids : (x y : List ℕ) → Decides (same_values nat_eq x y) (x ≡ y)
 same_ids x y = pointwise_decides exact_ids x y
-
-same_test : (b d : Bool) → (b ≡ true → d ≡ true) → (d ≡ true → b ≡ true) → b ≡ d
-same_test true d to from = sym (to refl)
-same_test false true to from = from refl
-same_test false false to from = refl
 
 either : (a b : Bool) → (a || b) ≡ true → (a ≡ true) ⊎ (b ≡ true)
 either true b is = inl refl

@@ -6,6 +6,7 @@ use Rattle.std.proofs.lemmas.List.Elements.{filter-append}
 use Rattle.std.proofs.lemmas.List.Sums.{sum_by-append}
 use Rattle.rule_model.specs.declared.edit_rule.EditRule.{EditRule}
 use Rattle.bench_core.specs.Sizes.{distinct_by, column_lists, columns_of, columns_weight, same_columns}
+use Rattle.bench_index.proofs.ListsOnce.{list_any-map}
 
 more_cases : {X : Type 0} (same : X → X → Bool) (x y : X) (xs : List X) (here later : Bool) → same x y ≡ here → distinct_by same (xs ++ y ∷ []) ≡ cond later (distinct_by same xs) (distinct_by same xs ++ y ∷ [])
     → distinct_by same ((x ∷ xs) ++ y ∷ []) ≡ cond (here || later) (distinct_by same (x ∷ xs)) (distinct_by same (x ∷ xs) ++ y ∷ [])
@@ -20,10 +21,6 @@ more_cases same x y xs false false is ih =
 pub distinct_by-push : {X : Type 0} (same : X → X → Bool) (xs : List X) (y : X) → distinct_by same (xs ++ y ∷ []) ≡ cond (list_any (λ x. same x y) xs) (distinct_by same xs) (distinct_by same xs ++ y ∷ [])
 distinct_by-push same [] y = refl
 distinct_by-push same (x ∷ xs) y = more_cases same x y xs (same x y) (list_any (λ x. same x y) xs) refl (distinct_by-push same xs y)
-
-list_any-map : {X Y : Type 0} (p : Y → Bool) (f : X → Y) (xs : List X) → list_any p (map f xs) ≡ list_any (λ x. p (f x)) xs
-list_any-map p f [] = refl
-list_any-map p f (x ∷ xs) = ap (λ later. p (f x) || later) (list_any-map p f xs)
 
 -- the column lists with that of one more rule
 column_lists-more : (edits : List EditRule) (i : ℕ) (rule : EditRule) → i < length edits → rule ≡ get_or edits i rule

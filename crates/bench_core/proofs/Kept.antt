@@ -24,7 +24,7 @@ use Rattle.bench_core.specs.State.{Row, TableState, IsTableState, has_id, texts_
 use Rattle.bench_core.proofs.RowsById.{texts_of-fit}
 use Rattle.bench_core.proofs.Fits.{bound_parts, then_parts, required, fits_if_required, fits-set}
 
-some_if_ok : {X E : Type 0} (found : Option X) (fault : E) (x : X) → ok_or found fault ≡ Ok x → found ≡ Some x
+pub some_if_ok : {X E : Type 0} (found : Option X) (fault : E) (x : X) → ok_or found fault ≡ Ok x → found ≡ Some x
 some_if_ok None fault x is = absurd (cc)
 some_if_ok (Some y) fault x is = let same : y ≡ x = cc in ap Some same
 

@@ -22,3 +22,4 @@ mod tuples;
 pub use bench::Bench;
 pub use edit::{Applied, EditFault, LoadFault, RedoFault, UndoFault};
 pub use queries::BenchQueries;
+pub use tuples::texts_of;

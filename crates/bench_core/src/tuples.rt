@@ -48,8 +48,8 @@ pub(crate) fn with_text(
     RcSlice::from_vec(ids)
 }
 
-/// The texts of a tuple.
-pub(crate) fn texts_of(alloc: Global, pool: &Pool, tuple: &Tuple) -> Result<Texts, AllocError>
+/// The texts that the ids of a tuple name.
+pub fn texts_of(alloc: Global, pool: &Pool, tuple: &Tuple) -> Result<Texts, AllocError>
     requires { HaveTexts pool.now (ids_of tuple.now) }
     ensures { IfOk result (λ texts. texts ≡ map (text_of pool.now) (ids_of tuple.now)) }
 {

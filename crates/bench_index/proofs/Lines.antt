@@ -70,7 +70,7 @@ module _ (texts : List (List ℕ)) (ids : List ℕ) (named : All (HasText texts)
 no_lefts : IsSideList (λ (e : SideEntry ℕ). false) []
 no_lefts = record { rising = rising-nil (λ (e : SideEntry ℕ). e.row); members = λ e. ((λ held. absurd (cc)), (λ inside. absurd (contains_nothing e inside))) }
 
-same_test : (b d : Bool) → (b ≡ true → d ≡ true) → (d ≡ true → b ≡ true) → b ≡ d
+pub same_test : (b d : Bool) → (b ≡ true → d ≡ true) → (d ≡ true → b ≡ true) → b ≡ d
 same_test true d to from = sym (to refl)
 same_test false true to from = from refl
 same_test false false to from = refl

@@ -34,7 +34,7 @@ each_once-push : (xs : List ColumnList) (y : ColumnList) → each_once (xs ++ y 
 each_once-push [] y = refl
 each_once-push (x ∷ xs) y = more_cases x y xs (is_same_list x y) (list_any (λ x. is_same_list x y) xs) refl (each_once-push xs y)
 
-list_any-map : {X Y : Type 0} (p : Y → Bool) (f : X → Y) (xs : List X) → list_any p (map f xs) ≡ list_any (λ x. p (f x)) xs
+pub list_any-map : {X Y : Type 0} (p : Y → Bool) (f : X → Y) (xs : List X) → list_any p (map f xs) ≡ list_any (λ x. p (f x)) xs
 list_any-map p f [] = refl
 list_any-map p f (x ∷ xs) = ap (λ later. p (f x) || later) (list_any-map p f xs)
 

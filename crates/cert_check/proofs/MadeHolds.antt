@@ -30,6 +30,7 @@ use Rattle.rule_model.specs.Judged.{judged_dep}
 use Rattle.rule_model.specs.Rules.{IsCellOf, IsConstantOf, IsValidDep, IsValidRow}
 use Rattle.rule_model.specs.declared.dep.Dep.{Dep}
 use Rattle.rule_parser.proofs.Judging.{judged_again}
+use Rattle.rule_parser.proofs.DepsAgain.{cell_written, cells_written, named}
 use Rattle.cell_values.specs.Tuples.{IsTupleOf, answer_bytes}
 use Rattle.cfd_consistency.specs.declared.decider.Consistency.{Consistency}
 use Rattle.cfd_consistency.specs.declared.decider.Consistency.TheVariants as found
@@ -167,22 +168,6 @@ right_over question answer text valid one found told rules dep good is =
 
 -- ---- the declaration can be written
 
-all_constants : (domain : Domain) (values : List (List ℕ)) → AllByRecursion (IsConstantOf domain) values → AllByRecursion IsConstant values
-all_constants domain [] are = tt
-all_constants domain (v ∷ values) are = (are.0.constant, all_constants domain values are.1)
-
-cell_written : (domain : Domain) (cell : Pattern (List ℕ)) → IsCellOf domain cell → IsWrittenCell cell
-cell_written domain patterns.Any is = tt
-cell_written domain (patterns.Is value) is = is.constant
-cell_written domain (patterns.In values) is = record { some = is.some; few = is.few; constants = All-from_recursion IsConstant values (all_constants domain values (recursion_from_All (IsConstantOf domain) values is.each)) }
-cell_written domain (patterns.NotIn values) is = record { some = is.some; few = is.few; constants = All-from_recursion IsConstant values (all_constants domain values (recursion_from_All (IsConstantOf domain) values is.each)) }
-
-cells_written : (attrs : List Attr) (xs : List ℕ) (cells : List (Pattern (List ℕ))) → AllZip (λ n cell. IsCellOf (domain_at attrs n) cell) xs cells → AllByRecursion IsWrittenCell cells
-cells_written attrs [] [] are = tt
-cells_written attrs [] (cell ∷ cells) are = absurd are
-cells_written attrs (n ∷ xs) [] are = absurd are
-cells_written attrs (n ∷ xs) (cell ∷ cells) are = (cell_written (domain_at attrs n) cell are.0, cells_written attrs xs cells are.1)
-
 rows_written : (attrs : List Attr) (left : List ℕ) (right : ℕ) (rows : List (TableauRow (List ℕ))) → AllByRecursion (IsValidRow attrs left right) rows → AllByRecursion IsWrittenRow (map decl_row rows)
 rows_written attrs left right [] are = tt
 rows_written attrs left right (row ∷ rows) are = (
@@ -196,10 +181,6 @@ rows_written attrs left right (row ∷ rows) are = (
 one_cell_each : (rows : List (TableauRow (List ℕ))) → AllByRecursion (λ (row : CfdRow). length row.y ≡ 1) (map decl_row rows)
 one_cell_each [] = tt
 one_cell_each (row ∷ rows) = (refl, one_cell_each rows)
-
-named : (attrs : List Attr) (xs : List ℕ) → ((n : ℕ) → n < length attrs → IsName (attr_name attrs n)) → AllByRecursion (λ n. n < length attrs) xs → AllByRecursion IsName (map (attr_name attrs) xs)
-named attrs [] each inside = tt
-named attrs (n ∷ xs) each inside = (each n inside.0, named attrs xs each inside.1)
 
 pub decl_written : (schema : Schema) (dep : Dep) → IsValidSchema schema → IsValidDep schema dep → length dep.rule.rows ≡ 1 → IsDepDecl (decl_of schema dep)
 decl_written schema dep valid dep_valid one =

@@ -5,9 +5,9 @@ ghost use Rattle.text_lists.specs.Names.{IsName};
 ghost use Rattle.case_tree.specs.CaseTree.{leaf_count};
 ghost use Rattle.rule_model.specs.Books.{Book, IsBook};
 ghost use Rattle.rule_model.specs.Judged.{judged_dep};
-ghost use Rattle.rule_model.specs.Rules.{AreAttrsOf, IsValidDep};
+ghost use Rattle.rule_model.specs.Rules.{IsValidDep};
 ghost use Rattle.rule_model.specs.declared.dep.Dep.{Dep as AnyDep};
-ghost use Rattle.rule_parser.specs.RuleText.{attr_name, table_name};
+ghost use Rattle.rule_parser.specs.RuleText.{table_name};
 ghost use Rattle.cfd_implication.specs.Question.{asked_of};
 ghost use Rattle.cert_text.specs.CertFiles.{kind_of};
 ghost use Rattle.rule_parser.specs.ReadRules.{IsDepDecl};
@@ -15,7 +15,7 @@ ghost use Rattle.cert_text.specs.Written.{IsBudget, IsQuestion};
 ghost use Rattle.cert_check.specs.Made.{HaveNames, IsCertOf, IsCertOfDep, IsDeclaredCert, IsFound, IsFoundOfDep, IsNamedCert, IsRightText, IsSomeText, IsTreeCert, IsWrittenAnswer, IsWrittenDepAnswer, decl_of, decl_row, name_of, names_asked, names_asked_of};
 
 use crate::copies::{copy_cell, copy_cells};
-use crate::names::{Naming, attr_name};
+use crate::names::Naming;
 use crate::tree_lines::push_nodes;
 use case_tree::{Node, Tree};
 use cell_values::attrs_at;
@@ -23,7 +23,8 @@ use cert_text::{Question, counter_text, tree_head, witness_text};
 use cfd_consistency::{Consistency, TableQuestion};
 use cfd_implication::{DepQuestion, Implication};
 use rule_model::{CfdDecl, CfdRow, Dep, DepRow};
-use schema_core::{Attr, List, Schema, Text, Texts};
+use rule_parser::attr_names;
+use schema_core::{List, Schema, Text};
 use std::alloc::{AllocError, Global};
 use std::slice;
 
@@ -132,17 +133,6 @@ pub fn consistency_text(
 }
 
 // ---- implication
-
-fn attr_names(alloc: Global, attrs: &[Attr], numbers: &[usize]) -> Result<Texts, AllocError>
-    requires { AreAttrsOf attrs.now numbers.now }
-    ensures { IfOk result (λ names. names ≡ map (attr_name attrs.now) numbers.now) }
-{
-    let mut names = List::new(alloc);
-    for number in numbers {
-        names.push(attr_name(attrs, *number).clone()?)?;
-    }
-    Ok(names)
-}
 
 fn decl_row(alloc: Global, row: &DepRow) -> Result<CfdRow, AllocError>
     ensures { IfOk result (λ made. made ≡ decl_row row.now) }

@@ -19,7 +19,8 @@ use cert_text::answers::Kind;
 use cert_text::{CellName, VarName};
 use cfd_consistency::TableQuestion;
 use cfd_implication::DepQuestion;
-use schema_core::{Attr, Text};
+use rule_parser::attr_name;
+use schema_core::Attr;
 use std::alloc::{AllocError, Global};
 use std::marker::Model;
 
@@ -105,13 +106,6 @@ impl<'a> Naming<'a> {
     {
         push_cell(out, self.kind, self.attrs, self.values, number)
     }
-}
-
-pub fn attr_name(attrs: &[Attr], number: usize) -> &Text
-    requires { number < length attrs.now }
-    ensures { result.now ≡ attr_name attrs.now number }
-{
-    &attrs[number].name
 }
 
 /// The place of a variable among those of an attribute, or their number.

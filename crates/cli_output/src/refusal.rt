@@ -9,7 +9,7 @@ use rule_parser::ParseCause;
 use schema_core::{Limit, SchemaCause, Text, push_number, push_quoted};
 use std::alloc::{AllocError, Global};
 
-/// What is wrong with a line of a file that has no causes of its own: of a script, or of a certificate.
+/// What is wrong with a line of a file that has no causes of its own: a script, a file of events, or a certificate.
 #[derive(Clone, Copy, Debug, PartialEq, Eq)]
 pub enum LineFlaw {
     NotUtf8,

@@ -39,27 +39,9 @@ use Rattle.dep_finder.specs.ReadAgain.{book_of}
 use Rattle.dep_finder.specs.Valid.{AreRules, HasOneRow, HaveNames}
 use Rattle.dep_finder.proofs.DepsAgain.{deps_again}
 use Rattle.dep_finder.proofs.FaultlessRows.{dep_passes, none_first}
+use Rattle.rule_parser.proofs.DepsAgain.{cell_written, cells_written}
 
 -- ---- they can be written
-
-set_written : (domain : Domain) (values : List (List ℕ)) → IsSetOf domain values → IsWrittenSet values
-set_written domain values is = record {
-  some = is.some;
-  few = is.few;
-  constants = All-weaker (IsConstantOf domain) IsConstant (λ value of. of.constant) values is.each;
-}
-
-cell_written : (domain : Domain) (cell : Pattern (List ℕ)) → IsCellOf domain cell → IsWrittenCell cell
-cell_written domain Any is = tt
-cell_written domain (Is value) is = is.constant
-cell_written domain (In values) is = set_written domain values is
-cell_written domain (NotIn values) is = set_written domain values is
-
-cells_written : (attrs : List Attr) (xs : List ℕ) (cells : List (Pattern (List ℕ))) → AllZip (λ n cell. IsCellOf (domain_at attrs n) cell) xs cells → AllByRecursion IsWrittenCell cells
-cells_written attrs [] [] are = tt
-cells_written attrs [] (cell ∷ cells) are = absurd are
-cells_written attrs (n ∷ xs) [] are = absurd are
-cells_written attrs (n ∷ xs) (cell ∷ cells) are = (cell_written (domain_at attrs n) cell are.0, cells_written attrs xs cells are.1)
 
 row_written : (attrs : List Attr) (x : List ℕ) (a : ℕ) (row : TableauRow (List ℕ)) → IsValidRow attrs x a row → IsWrittenRow (row_decl row)
 row_written attrs x a row is = record {

@@ -19,6 +19,7 @@ use Rattle.cfd_semantics.specs.declared.dependency.TableauRow.{TableauRow}
 use Rattle.cfd_semantics.specs.declared.pattern.Pattern.{Pattern}
 use Rattle.rule_model.specs.Rules.{AreAttrsOf, IsCellOf, IsConstantOf, IsValidDep, IsValidRow}
 use Rattle.rule_model.specs.declared.dep.Dep.{Dep}
+use Rattle.rule_model.proofs.ValidRules.{at_place}
 use Rattle.dep_search.specs.Found.{IsFound, IsInOrder, all_found, left_sides, side_at}
 use Rattle.dep_search.specs.Rows.{Row, row_at}
 use Rattle.dep_search.specs.declared.candidate.Candidate.{Candidate}
@@ -32,13 +33,6 @@ use Rattle.dep_finder.proofs.Meaning.{texts_at}
 use Rattle.dep_finder.proofs.SameTexts.{short_texts}
 
 -- ---- the domain of a text of a row
-
-at_place : {X Y : Type 0} (R : X → Y → Type 0) (xs : List X) (ys : List Y) (i : ℕ) (d : X) (e : Y) → AllZip R xs ys → i < length xs → R (get_or xs i d) (get_or ys i e)
-at_place R [] [] i d e h lt = absurd (omega arith)
-at_place R [] (y ∷ ys) i d e h lt = absurd h
-at_place R (x ∷ xs) [] i d e h lt = absurd h
-at_place R (x ∷ xs) (y ∷ ys) zero d e h lt = h.0
-at_place R (x ∷ xs) (y ∷ ys) (suc i) d e h lt = at_place R xs ys i d e h.1 (omega arith)
 
 abbrev nowhere : Attr
 nowhere = record { name = []; domain = AnyText }

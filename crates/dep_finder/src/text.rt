@@ -2,16 +2,15 @@
 ghost use Rattle.std.specs.Prelude.{◌≡◌, ◌++◌, ◌∷◌, [], ◌<◌, length, map, All, IfOk, OnOk};
 ghost use Rattle.std.specs.List.{flat_map};
 ghost use Rattle.line_grammar.specs.Spelling.{file_text, line_text};
-ghost use Rattle.rule_model.specs.Rules.{AreAttrsOf};
 ghost use Rattle.rule_model.specs.declared.dep.Dep.{Dep};
-ghost use Rattle.rule_parser.specs.RuleText.{attr_name, canonical, cfd_line, cfd_row_line, decl_lines};
+ghost use Rattle.rule_parser.specs.RuleText.{canonical, cfd_line, cfd_row_line, decl_lines};
 ghost use Rattle.dep_finder.specs.Deps.{IsOver};
 ghost use Rattle.dep_finder.specs.FoundText.{decl_of, found_text, head_of, row_decl};
 ghost use Rattle.dep_finder.specs.ReadAgain.{IsReadAs};
 
 use rule_model::{Cell, Dep, DepRow};
-use rule_parser::{Cells, push_row, push_sides};
-use schema_core::{Attr, List, Table, Text, Texts, push_number};
+use rule_parser::{Cells, attr_names, push_row, push_sides};
+use schema_core::{List, Table, push_number};
 use std::alloc::{AllocError, Global};
 use std::slice;
 
@@ -83,22 +82,4 @@ fn push_rows(text: &mut Vec<u8>, rows: &[DepRow]) -> Result<(), AllocError>
         text.push(b'\n')?;
     }
     Ok(())
-}
-
-fn attr_name(attrs: &[Attr], number: usize) -> &Text
-    requires { number < length attrs.now }
-    ensures { result.now ≡ attr_name attrs.now number }
-{
-    &attrs[number].name
-}
-
-fn attr_names(alloc: Global, attrs: &[Attr], numbers: &[usize]) -> Result<Texts, AllocError>
-    requires { AreAttrsOf attrs.now numbers.now }
-    ensures { IfOk result (λ names. names ≡ map (attr_name attrs.now) numbers.now) }
-{
-    let mut names = List::new(alloc);
-    for number in numbers {
-        names.push(attr_name(attrs, *number).clone()?)?;
-    }
-    Ok(names)
 }

@@ -13,7 +13,7 @@ abbrev pub Lead : Book → Limits → History → List Edit → History → Type
 Lead rules limits start [] end = end ≡ start
 Lead rules limits start (edit ∷ edits) end = (next : History) × (applied : Applied) × (history_edited rules limits start edit ≡ Ok (next, applied)) × Lead rules limits next edits end
 
--- between the two desks some edits were accepted, each of which is an entry
+-- between the two desks some edits were accepted, and as many entries came
 pub record AreOneHistory (before after : DeskModel) : Type 0 where
   pub edits : List Edit
   pub lead : Lead before.rules before.limits before.history edits after.history

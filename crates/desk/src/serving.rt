@@ -46,10 +46,10 @@ pub fn serve_desk<O: Sink, L: Ledger>(
 ) -> Result<(), DeskFault>
     ensures ok { OnOk result (Answers IsReply desk.old events.now desk.new (O.told out.old).written (O.told out.new).written) }
 
-    // No event took more probes than it may, at the desk at which it was answered.
+    // All of them took no more probes than the sum of what each may, at the desk at which it is answered.
     ensures probes { OnOk result (Answers IsCountedReply (desk.old, steps.old) events.now (desk.new, steps.new) (O.told out.old).written (O.told out.new).written) }
 
-    // After a fault some of the events were answered, the last reply perhaps not to its end.
+    // After a fault some of the events were answered, the last reply perhaps not to its end or not at all.
     ensures fault { OnErr result (AnswersFront IsReply desk.old events.now desk.new (O.told out.old).written (O.told out.new).written) }
 
     // Whoever made them and wherever the answers end: the accepted edits are those of one history.

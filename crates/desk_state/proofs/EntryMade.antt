@@ -26,6 +26,7 @@ use Rattle.bench_core.specs.declared.edit.Applied.{Applied}
 use Rattle.bench_core.specs.declared.edit.Applied.TheVariants.{Changed, Inserted}
 use Rattle.bench_core.specs.declared.edit.EditFault.TheVariants.{IdsSpent, RowsFull, UnknownAttr, UnknownRow, UnknownTable}
 use Rattle.bench_core.proofs.Fits.{bound_parts, then_parts}
+use Rattle.bench_core.proofs.Kept.{some_if_ok}
 use Rattle.desk_state.proofs.RowFound.{texts-at}
 use Rattle.desk_state.proofs.RowsEdited.{next-at, next-grows, next-set, next_at, texts-others, texts-set, with_row-other, with_row-own, with_texts-other, with_texts-own, without_row-other, without_row-own}
 use Rattle.desk_state.proofs.Standing.{OwnRow}
@@ -103,10 +104,6 @@ place-named schema name n place =
     ap (λ o. option_map_or (λ (t : Table). t.name) o []) (slice_get-get_or schema.tables n nowhere within) ∙ (bytes_eq-Decides (get_or schema.tables n nowhere).name name).0 same
 
 -- ---- what each edit makes of its table
-
-some_if_ok : {X E : Type 0} (found : Option X) (fault : E) (x : X) → ok_or found fault ≡ Ok x → found ≡ Some x
-some_if_ok None fault x is = absurd (cc)
-some_if_ok (Some y) fault x is = let same : y ≡ x = cc in ap Some same
 
 pub ok-parts : {A B E : Type 0} (a x : A) (b y : B) → ◌≡◌ {A = Result (A × B) E} (Ok (a, b)) (Ok (x, y)) → (a ≡ x) × (b ≡ y)
 ok-parts {A} {B} {E} a x b y is = some_pair_parts a x b y (ap (result_ok {E = E}) is)

@@ -11,8 +11,8 @@ ghost use Rattle.desk_state.specs.Probes.{IsWithin, back_probes};
 
 use crate::making::{new_entry, opposite, row_of_edit};
 use crate::reply::Reply;
-use crate::rows::{find_row, texts_of};
-use bench_core::{Bench, EditFault};
+use crate::rows::find_row;
+use bench_core::{Bench, EditFault, texts_of};
 use desk_entries::{Entries, NewEntry};
 use desk_events::{Act, Event};
 use edit_log::Edit;

@@ -7,11 +7,10 @@ ghost use Rattle.bench_core.specs.declared.edit.EditFault.TheVariants as edit_fa
 ghost use Rattle.desk_state.specs.Desk.{row_named};
 ghost use Rattle.row_store.specs.Tuple.{ids_of};
 
-use bench_core::{Bench, EditFault};
+use bench_core::{Bench, EditFault, texts_of};
 use row_store::{RowId, Tuple};
-use schema_core::{List, Text, Texts};
+use schema_core::{Text, Texts};
 use std::alloc::{AllocError, Global};
-use value_pool::Pool;
 
 /// A row that is there.
 #[derive(Clone, Copy)]
@@ -58,16 +57,4 @@ pub(crate) fn row_texts(
         Some(tuple) => Ok(Some(texts_of(alloc, bench.pool(), tuple)?)),
         None => Ok(None),
     }
-}
-
-/// The texts of a tuple.
-pub(crate) fn texts_of(alloc: Global, pool: &Pool, tuple: &Tuple) -> Result<Texts, AllocError>
-    requires { HaveTexts pool.now (ids_of tuple.now) }
-    ensures { IfOk result (λ texts. texts ≡ map (text_of pool.now) (ids_of tuple.now)) }
-{
-    let mut texts = List::new(alloc);
-    for id in tuple.as_slice() {
-        texts.push(Text::new(alloc, pool.text(*id))?)?;
-    }
-    Ok(texts)
 }

@@ -19,7 +19,7 @@ use Rattle.line_grammar.specs.declared.tokens.Token.TheVariants.{Name, Number, Q
 use Rattle.line_grammar.specs.Tokens.{is_blank, after_blanks, is_comment, piece, quoted, mark_at, name_len, digits_len, token_at}
 use Rattle.line_grammar.specs.Spelling.{mark_text, spelling}
 use Rattle.line_grammar.proofs.Digits.{digit_value-digit}
-use Rattle.line_grammar.proofs.Utf8.{IsUtf8-cons, is_name_byte-ascii, is_ascii_digit-ascii}
+use Rattle.line_grammar.proofs.Utf8.{IsUtf8-cons, is_ascii_digit-ascii, is_name_byte-ascii, take_front}
 use Rattle.line_grammar.proofs.TokenLemmas.{token_at-letter, token_at-zero, token_at-digit, letter-is_name_byte}
 use Rattle.line_grammar.proofs.SpelledTexts.{piece-plain, token_at-quoted, IsUtf8-quoted}
 
@@ -48,10 +48,6 @@ run-whole p zero (x ∷ front) rest all stops few = absurd (omega arith)
 run-whole p (suc n) (x ∷ front) rest all stops few =
     let parts = and_parts (p x) (list_all p front) all in
     cond-true (p x) (1 + prefix_len p (take n (front ++ rest))) 0 parts.0 ∙ one_plus _ ∙ ap suc (run-whole p n front rest parts.1 stops (omega arith))
-
-take_front : (front rest : List ℕ) → take (length front) (front ++ rest) ≡ front
-take_front [] rest = refl
-take_front (x ∷ front) rest = ap (λ (xs : List ℕ). x ∷ xs) (take_front front rest)
 
 drop_front : (front rest : List ℕ) → drop (length front) (front ++ rest) ≡ rest
 drop_front [] rest = refl

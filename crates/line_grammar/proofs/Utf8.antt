@@ -13,7 +13,7 @@ ascii_at : (front rest : List ℕ) (b : ℕ) → b < 128 → get_or (front ++ b 
 ascii_at [] rest b small = small
 ascii_at (x ∷ front) rest b small = ascii_at front rest b small
 
-take_front : (front rest : List ℕ) → take (length front) (front ++ rest) ≡ front
+pub take_front : (front rest : List ℕ) → take (length front) (front ++ rest) ≡ front
 take_front [] rest = refl
 take_front (x ∷ front) rest = ap (λ (xs : List ℕ). x ∷ xs) (take_front front rest)
 

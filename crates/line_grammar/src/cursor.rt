@@ -65,6 +65,7 @@ impl<'a> Tokens<'a> {
     }
 
     /// The first token, as it stands in the bytes, and the bytes after it.
+    #[inline(always)]
     fn front(&self) -> Option<(Lead<'a>, &'a [u8])>
         ensures front { IfSome result (λ x. self.now ≡ token_of x.0 ∷ tokens_left (is_word (token_of x.0)) x.1.now) }
         ensures none { IfNone result (self.now ≡ []) }
@@ -237,6 +238,7 @@ fn owned(alloc: Global, lead: Lead<'_>) -> Result<Token, AllocError>
     }
 }
 
+#[inline(always)]
 fn same_mark(left: Mark, right: Mark) -> bool
     ensures { result ≡ same_mark left right }
 {

@@ -17,6 +17,7 @@ pub enum Lead<'a> {
 
 impl<'a> Lead<'a> {
     /// Whether it is a name or a number.
+    #[inline(always)]
     pub fn is_word(&self) -> bool
         ensures { result ≡ is_word (token_of self.now) }
     {

@@ -23,12 +23,14 @@ pub fn is_utf8(bytes: &[u8]) -> bool
     str::from_utf8(bytes).is_ok()
 }
 
+#[inline(always)]
 fn is_blank(byte: u8) -> bool
     ensures { result ≡ is_blank byte }
 {
     byte == b' ' || byte == b'\t'
 }
 
+#[inline(always)]
 fn is_name_byte(byte: u8) -> bool
     ensures { result ≡ is_name_byte byte }
 {
@@ -36,6 +38,7 @@ fn is_name_byte(byte: u8) -> bool
 }
 
 /// The first byte, and those after it.
+#[inline(always)]
 fn cut_first(bytes: &[u8]) -> Option<(u8, &[u8])>
     ensures none { IfNone result (bytes.now ≡ []) }
     ensures parts { IfSome result (λ x. bytes.now ≡ x.0 ∷ x.1.now) }
@@ -46,6 +49,7 @@ fn cut_first(bytes: &[u8]) -> Option<(u8, &[u8])>
     }
 }
 
+#[inline(always)]
 pub fn after_blanks(bytes: &[u8]) -> &[u8]
     ensures { result.now ≡ after_blanks bytes.now }
 {
@@ -59,6 +63,7 @@ pub fn after_blanks(bytes: &[u8]) -> &[u8]
     rest
 }
 
+#[inline(always)]
 fn begins_blank(bytes: &[u8]) -> bool
     ensures { result ≡ begins_blank bytes.now }
 {
@@ -261,6 +266,7 @@ pub fn meant_text(alloc: Global, bytes: &[u8]) -> Result<Text, AllocError>
     }
 }
 
+#[inline(always)]
 fn one_mark(byte: u8) -> Option<Mark>
     ensures { result ≡ one_mark byte }
 {
@@ -279,6 +285,7 @@ fn one_mark(byte: u8) -> Option<Mark>
     }
 }
 
+#[inline(always)]
 fn two_marks(first: u8, second: u8) -> Option<Mark>
     ensures { result ≡ two_marks first second }
 {
@@ -291,6 +298,7 @@ fn two_marks(first: u8, second: u8) -> Option<Mark>
 }
 
 #[tactic(auto, unfolding(crate::specs::Tokens::mark_at))]
+#[inline(always)]
 fn mark_at(bytes: &[u8]) -> Option<(Lead<'_>, &[u8])>
     ensures { option_map (λ x. (token_of x.0, x.1.now)) result ≡ mark_at bytes.now }
 {
@@ -335,6 +343,7 @@ fn quoted_at(bytes: &[u8]) -> Option<(Lead<'_>, &[u8])>
 
 /// The longest token at the front, and the bytes after it.
 #[tactic(auto, unfolding(crate::specs::Tokens::token_at))]
+#[inline(always)]
 pub fn lead_at(bytes: &[u8]) -> Option<(Lead<'_>, &[u8])>
     ensures { option_map (λ x. (token_of x.0, x.1.now)) result ≡ token_at bytes.now }
 {
@@ -353,6 +362,7 @@ pub fn lead_at(bytes: &[u8]) -> Option<(Lead<'_>, &[u8])>
 }
 
 /// Whether the token at the front of `rest` is a word, and so was what ends right before it.
+#[inline(always)]
 pub fn lacks_blank(after_word: bool, rest: &[u8], lead: &Lead<'_>) -> bool
     ensures { result ≡ (after_word && not (begins_blank rest.now) && is_word (token_of lead.now)) }
 {

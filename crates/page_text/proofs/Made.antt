@@ -9,6 +9,7 @@ use Rattle.cfd_semantics.specs.declared.pattern.Pattern.TheVariants.{Any, Is, In
 use Rattle.schema_core.specs.declared.schema.Attr.{Attr}
 use Rattle.schema_core.specs.declared.schema.Table.{Table}
 use Rattle.rule_model.specs.Books.{Book, book_cinds, book_deps}
+use Rattle.cfd_semantics.specs.declared.inclusion.InclusionRow.{InclusionRow}
 use Rattle.rule_model.specs.declared.cind.Cind.{Cind}
 use Rattle.rule_model.specs.declared.dep.Dep.{Dep}
 use Rattle.violation_groups.specs.declared.Findings.{Findings}
@@ -20,7 +21,7 @@ use Rattle.page_text.specs.Markup.{markup, more_text}
 use Rattle.page_text.specs.Parts.{IsMadeOfParts, Part, Markup, Style, Element, Text, Number, part_text}
 use Rattle.page_text.specs.Words.{attr_code, attr_codes, cind_words, dep_words, dep_words_of, line_name, side_of, wanted, wanted_of}
 use Rattle.page_text.specs.Rows.{id_end, id_text, rows_cells}
-use Rattle.page_text.specs.Groups.{caption, group_head, group_text, groups_text, missing_row, missing_rows, missing_table, value_row, values_rows}
+use Rattle.page_text.specs.Groups.{caption, chosen_by, equals_text, group_head, group_text, groups_text, missing_row, missing_rows, missing_table, shared_text, value_row, values_rows}
 use Rattle.page_text.specs.Kinds.{Kind, cind_kind, dep_kind}
 use Rattle.page_text.specs.Overview.{bar, row_end, rule_name, rule_row_at, rule_row_of, rule_rows, table_at, table_of, tables_rows}
 use Rattle.page_text.specs.Sections.{body_of, counts_line, section, section_at, section_head, section_of, sections}
@@ -154,10 +155,13 @@ values_made : (shown : Shown) (values : List ValueRows) → IsMadeOfParts (value
 unfolding values_rows
 values_made shown values = each (value_row shown) (value_made shown) (take shown.first values) +++ more_made piece.WideCell shown.first (length values) piece.LastCellEnd
 
+equals_made : (attrs : List Attr) (places : List ℕ) (values : List (List ℕ)) → IsMadeOfParts (equals_text attrs places values)
+equals_made attrs places values = attrs_made attrs places +++ piece_part piece.Equals +++ each bold bold_made values
+
 caption_made : (attrs : List Attr) (dep : Dep) (group : Group) → IsMadeOfParts (caption attrs dep group)
 unfolding caption
 caption_made attrs dep group =
-    line_name_made dep.name group.k +++ attrs_made attrs dep.rule.x +++ piece_part piece.Equals +++ each bold bold_made group.key +++ wanted_of_made (slice_get dep.rule.rows group.k)
+    line_name_made dep.name group.k +++ whether (length dep.rule.x == 0) (piece_part piece.AnyValues) (equals_made attrs dep.rule.x group.key) +++ wanted_of_made (slice_get dep.rule.rows group.k)
 
 group_head_made : (attrs : List Attr) (dep : Dep) (group : Group) → IsMadeOfParts (group_head attrs dep group)
 unfolding group_head
@@ -171,17 +175,21 @@ groups_made : (attrs : List Attr) (dep : Dep) (shown : Shown) (groups : List Gro
 groups_made attrs dep shown groups =
     each (group_text attrs dep shown) (group_made attrs dep shown) (take shown.first groups) +++ more_made piece.MoreGroups shown.first (length groups) piece.MoreGroupsEnd
 
-missing_made : (cind : Cind) (shown : Shown) (missing : Missing) → IsMadeOfParts (missing_row cind shown missing)
-missing_made cind shown missing =
-    piece_part piece.FirstCell +++ line_name_made cind.name missing.k +++ each marked marked_made missing.key +++ piece_part piece.CellEnd +++ rows_made shown missing.rows
+chosen_made : (attrs : List Attr) (places : List ℕ) (row : Option (InclusionRow (List ℕ))) → IsMadeOfParts (chosen_by attrs places row)
+chosen_made attrs places None = nothing
+chosen_made attrs places (Some row) = whether (length places == 0) nothing (piece_part piece.Where +++ equals_made attrs places row.xp)
 
-missing_rows_made : (cind : Cind) (shown : Shown) (all : List Missing) → IsMadeOfParts (missing_rows cind shown all)
+missing_made : (attrs : List Attr) (cind : Cind) (shown : Shown) (missing : Missing) → IsMadeOfParts (missing_row attrs cind shown missing)
+missing_made attrs cind shown missing =
+    piece_part piece.FirstCell +++ line_name_made cind.name missing.k +++ each marked marked_made missing.key +++ chosen_made attrs cind.rule.xp (slice_get cind.rule.rows missing.k) +++ piece_part piece.CellEnd +++ rows_made shown missing.rows
+
+missing_rows_made : (attrs : List Attr) (cind : Cind) (shown : Shown) (all : List Missing) → IsMadeOfParts (missing_rows attrs cind shown all)
 unfolding missing_rows
-missing_rows_made cind shown all = each (missing_row cind shown) (missing_made cind shown) (take shown.first all) +++ more_made piece.WideCell shown.first (length all) piece.LastCellEnd
+missing_rows_made attrs cind shown all = each (missing_row attrs cind shown) (missing_made attrs cind shown) (take shown.first all) +++ more_made piece.WideCell shown.first (length all) piece.LastCellEnd
 
 missing_table_made : (attrs : List Attr) (cind : Cind) (shown : Shown) (all : List Missing) → IsMadeOfParts (missing_table attrs cind shown all)
 missing_table_made attrs cind shown all =
-    piece_part piece.MissingTable +++ attrs_made attrs cind.rule.x +++ piece_part piece.Columns +++ missing_rows_made cind shown all +++ piece_part piece.TableEnd
+    piece_part piece.MissingTable +++ attrs_made attrs cind.rule.x +++ piece_part piece.Columns +++ missing_rows_made attrs cind shown all +++ piece_part piece.TableEnd
 
 -- ---- tables, and rules with their bars
 

@@ -1,7 +1,8 @@
 -- The groups of a dependency, and the keys that an inclusion misses.
-use Rattle.std.specs.Prelude.{ℕ, List, ◌++◌, take, length, slice_get}
+use Rattle.std.specs.Prelude.{ℕ, ◌==◌, if◌then◌else◌, List, [], ◌++◌, Option, Some, None, take, length, slice_get}
 use Rattle.std.specs.List.{flat_map}
 use Rattle.schema_core.specs.declared.schema.Attr.{Attr}
+use Rattle.cfd_semantics.specs.declared.inclusion.InclusionRow.{InclusionRow}
 use Rattle.rule_model.specs.declared.cind.Cind.{Cind}
 use Rattle.rule_model.specs.declared.dep.Dep.{Dep}
 use Rattle.violation_groups.specs.declared.Group.{Group}
@@ -24,10 +25,17 @@ unfoldable pub values_rows : Shown → List ValueRows → List ℕ
 values_rows shown values =
     flat_map (value_row shown) (take shown.first values) ++ more_text piece.WideCell shown.first (length values) piece.LastCellEnd
 
--- what the rows of a group share, and what is asked of them
+-- attributes with their values
+abbrev pub equals_text : List Attr → List ℕ → List (List ℕ) → List ℕ
+equals_text attrs places values = attr_codes attrs places ++ markup piece.Equals ++ flat_map bold values
+
+-- what the rows of a group share: with no attribute on the left they may have any values
+abbrev pub shared_text : List Attr → List ℕ → List (List ℕ) → List ℕ
+shared_text attrs places values = if length places == 0 then markup piece.AnyValues else equals_text attrs places values
+
+-- that, and what is asked of them
 unfoldable pub caption : List Attr → Dep → Group → List ℕ
-caption attrs dep group =
-    line_name dep.name group.k ++ attr_codes attrs dep.rule.x ++ markup piece.Equals ++ flat_map bold group.key ++ wanted_of (slice_get dep.rule.rows group.k)
+caption attrs dep group = line_name dep.name group.k ++ shared_text attrs dep.rule.x group.key ++ wanted_of (slice_get dep.rule.rows group.k)
 
 unfoldable pub group_head : List Attr → Dep → Group → List ℕ
 group_head attrs dep group =
@@ -42,15 +50,20 @@ groups_text attrs dep shown groups =
 
 -- ---- missing keys
 
--- a key that is missing, with the rows that have it
-abbrev pub missing_row : Cind → Shown → Missing → List ℕ
-missing_row cind shown missing =
-    markup piece.FirstCell ++ line_name cind.name missing.k ++ flat_map marked missing.key ++ markup piece.CellEnd ++ rows_cells shown missing.rows
+-- the constants by which a tableau row chooses its rows, if there are any
+abbrev pub chosen_by : List Attr → List ℕ → Option (InclusionRow (List ℕ)) → List ℕ
+chosen_by attrs places None = []
+chosen_by attrs places (Some row) = if length places == 0 then [] else markup piece.Where ++ equals_text attrs places row.xp
 
-unfoldable pub missing_rows : Cind → Shown → List Missing → List ℕ
-missing_rows cind shown all =
-    flat_map (missing_row cind shown) (take shown.first all) ++ more_text piece.WideCell shown.first (length all) piece.LastCellEnd
+-- a key that is missing, with the rows that have it
+abbrev pub missing_row : List Attr → Cind → Shown → Missing → List ℕ
+missing_row attrs cind shown missing =
+    markup piece.FirstCell ++ line_name cind.name missing.k ++ flat_map marked missing.key ++ chosen_by attrs cind.rule.xp (slice_get cind.rule.rows missing.k) ++ markup piece.CellEnd ++ rows_cells shown missing.rows
+
+unfoldable pub missing_rows : List Attr → Cind → Shown → List Missing → List ℕ
+missing_rows attrs cind shown all =
+    flat_map (missing_row attrs cind shown) (take shown.first all) ++ more_text piece.WideCell shown.first (length all) piece.LastCellEnd
 
 abbrev pub missing_table : List Attr → Cind → Shown → List Missing → List ℕ
 missing_table attrs cind shown all =
-    markup piece.MissingTable ++ attr_codes attrs cind.rule.x ++ markup piece.Columns ++ missing_rows cind shown all ++ markup piece.TableEnd
+    markup piece.MissingTable ++ attr_codes attrs cind.rule.x ++ markup piece.Columns ++ missing_rows attrs cind shown all ++ markup piece.TableEnd

@@ -2,7 +2,7 @@
 use Rattle.std.specs.Prelude.{ℕ, List, [], codes}
 use Rattle.html_text.specs.Elements.{more_in}
 use Rattle.page_text.specs.declared.markup.Piece.{Piece}
-use Rattle.page_text.specs.declared.markup.Piece.TheVariants.{Head, StyleOpen, StyleClose, AsRead, AfterScript, Tables, Row, RowEnd, Rules, RulesEnd, DepLink, CindLink, LinkText, LinkEnd, Break, Bar, Slash, BarEnd, NoBar, DepSection, CindSection, Heading, HeadingEnd, Violations, Groups, Keys, CountsEnd, SectionEnd, GroupTable, CaptionEnd, MissingTable, Columns, TableEnd, FirstCell, Cell, CellEnd, LastCellEnd, WideCell, More, MoreEnd, MoreGroups, MoreGroupsEnd, Small, Dot, SmallEnd, Blank, Star, Colon, Arrow, Equals, SideOpen, SideMid, SideClose, In, MustBe, OneOf, NoneOf, Checks, NoChecks, ChecksOpen, Item, ItemEnd, ChecksClose, Foot}
+use Rattle.page_text.specs.declared.markup.Piece.TheVariants.{Head, StyleOpen, StyleClose, AsRead, AfterScript, Tables, Row, RowEnd, Rules, RulesEnd, DepLink, CindLink, LinkText, LinkEnd, Break, Bar, Slash, BarEnd, NoBar, DepSection, CindSection, Heading, HeadingEnd, Violations, Groups, Keys, CountsEnd, SectionEnd, GroupTable, CaptionEnd, MissingTable, Columns, TableEnd, FirstCell, Cell, CellEnd, LastCellEnd, WideCell, More, MoreEnd, MoreGroups, MoreGroupsEnd, Small, Dot, SmallEnd, Blank, Star, Colon, Arrow, Equals, SideOpen, SideMid, SideClose, In, MustBe, OneOf, NoneOf, AnyValues, Where, Checks, NoChecks, ChecksOpen, Item, ItemEnd, ChecksClose, Foot}
 
 -- between the words and the numbers of a line
 unfoldable pub word_markup : Piece → List ℕ
@@ -14,6 +14,8 @@ word_markup Star = codes "* "
 word_markup Colon = codes ": "
 word_markup Arrow = codes "&rarr; "
 word_markup Equals = codes "= "
+word_markup AnyValues = codes "any values "
+word_markup Where = codes "where "
 word_markup SideOpen = codes "[ "
 word_markup SideMid = codes "; "
 word_markup SideClose = codes "] "

@@ -1,14 +1,14 @@
 //! The groups of a dependency.
 ghost use Rattle.std.specs.Prelude.{◌≡◌, ◌++◌, OnOk};
 ghost use Rattle.std.specs.List.{flat_map};
-ghost use Rattle.page_text.specs.Groups.{caption, group_head, group_text, groups_text, value_row, values_rows};
+ghost use Rattle.page_text.specs.Groups.{caption, equals_text, group_head, group_text, groups_text, shared_text, value_row, values_rows};
 
 use crate::markup::{Piece, push, push_more_in};
 use crate::rows::{Shown, push_rows};
 use crate::words::{push_attr, push_attrs, push_bolds, push_line_name, push_wanted};
 use html_text::{front_of, push_marked};
 use rule_model::Dep;
-use schema_core::Attr;
+use schema_core::{Attr, Text};
 use std::alloc::AllocError;
 use violation_groups::{Group, ValueRows};
 
@@ -90,11 +90,38 @@ fn push_caption(
     ensures { OnOk result (out.new.items ≡ out.old.items ++ caption attrs.now dep.now group.now) }
 {
     push_line_name(out, &dep.name, group.k)?;
-    push_attrs(out, attrs, dep.rule.x.as_slice())?;
-    push(out, Piece::Equals)?;
-    push_bolds(out, group.key.as_slice())?;
+    push_shared(out, attrs, dep.rule.x.as_slice(), group.key.as_slice())?;
     push_wanted(out, dep.rule.rows.as_slice(), group.k)?;
     Ok(())
+}
+
+fn push_shared(
+    out: &mut Vec<u8>,
+    attrs: &[Attr],
+    places: &[usize],
+    values: &[Text],
+) -> Result<(), AllocError>
+    ensures { OnOk result (out.new.items ≡ out.old.items ++ shared_text attrs.now places.now values.now) }
+{
+    if places.is_empty() {
+        push(out, Piece::AnyValues)
+    } else {
+        push_equals(out, attrs, places, values)
+    }
+}
+
+/// Tells attributes with their values.
+pub fn push_equals(
+    out: &mut Vec<u8>,
+    attrs: &[Attr],
+    places: &[usize],
+    values: &[Text],
+) -> Result<(), AllocError>
+    ensures { OnOk result (out.new.items ≡ out.old.items ++ equals_text attrs.now places.now values.now) }
+{
+    push_attrs(out, attrs, places)?;
+    push(out, Piece::Equals)?;
+    push_bolds(out, values)
 }
 
 #[tactic(auto, unfolding(crate::specs::Groups::values_rows))]

@@ -33,7 +33,7 @@ pub fn run_project<S: Shelf, O: Sink, L: Ledger>(
     ensures written { Writes (Output limits.now (run_task limits.now project.now) (S.told shelf.old).holding) result (O.told out.old).written (O.told out.new).written }
     ensures devices { UsesDevices limits.now (run_task limits.now project.now) result (S.told shelf.old) (S.told shelf.new) (O.told out.old) (O.told out.new) }
 
-    // Where the script was answered, no command took more probes than it may.
+    // Where the script was answered, all of it took no more probes than the sum of what each command may.
     ensures probes { IsWhole result → Writes (Output limits.now (counted_run_task steps.old steps.new limits.now project.now) (S.told shelf.old).holding) result (O.told out.old).written (O.told out.new).written }
 {
     let mut left = limits.all_bytes;

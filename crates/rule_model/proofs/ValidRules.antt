@@ -84,7 +84,7 @@ both_equal a b c d e =
 
 -- ---- dependencies
 
-at_place : {X Y : Type 0} (R : X → Y → Type 0) (xs : List X) (ys : List Y) (i : ℕ) (d : X) (e : Y) → AllZip R xs ys → i < length xs → R (get_or xs i d) (get_or ys i e)
+pub at_place : {X Y : Type 0} (R : X → Y → Type 0) (xs : List X) (ys : List Y) (i : ℕ) (d : X) (e : Y) → AllZip R xs ys → i < length xs → R (get_or xs i d) (get_or ys i e)
 at_place R [] [] i d e h lt = absurd (omega arith)
 at_place R [] (y ∷ ys) i d e h lt = absurd h
 at_place R (x ∷ xs) [] i d e h lt = absurd h

@@ -40,7 +40,7 @@ use Rattle.rule_parser.proofs.Judging.{judged_again}
 
 -- ---- valid cells can be written
 
-all_constants : (domain : Domain) (values : List (List ℕ)) → AllByRecursion (IsConstantOf domain) values → AllByRecursion IsConstant values
+pub all_constants : (domain : Domain) (values : List (List ℕ)) → AllByRecursion (IsConstantOf domain) values → AllByRecursion IsConstant values
 all_constants domain [] are = tt
 all_constants domain (v ∷ values) are = (are.0.constant, all_constants domain values are.1)
 
@@ -51,19 +51,19 @@ set_written domain values is = record {
   constants = All-from_recursion IsConstant values (all_constants domain values (recursion_from_All (IsConstantOf domain) values is.each));
 }
 
-cell_written : (domain : Domain) (cell : Pattern (List ℕ)) → IsCellOf domain cell → IsWrittenCell cell
+pub cell_written : (domain : Domain) (cell : Pattern (List ℕ)) → IsCellOf domain cell → IsWrittenCell cell
 cell_written domain Any is = tt
 cell_written domain (Is value) is = is.constant
 cell_written domain (In values) is = set_written domain values is
 cell_written domain (NotIn values) is = set_written domain values is
 
-cells_written : (attrs : List Attr) (xs : List ℕ) (cells : List (Pattern (List ℕ))) → AllZip (λ n cell. IsCellOf (domain_at attrs n) cell) xs cells → AllByRecursion IsWrittenCell cells
+pub cells_written : (attrs : List Attr) (xs : List ℕ) (cells : List (Pattern (List ℕ))) → AllZip (λ n cell. IsCellOf (domain_at attrs n) cell) xs cells → AllByRecursion IsWrittenCell cells
 cells_written attrs [] [] are = tt
 cells_written attrs [] (cell ∷ cells) are = absurd are
 cells_written attrs (n ∷ xs) [] are = absurd are
 cells_written attrs (n ∷ xs) (cell ∷ cells) are = (cell_written (domain_at attrs n) cell are.0, cells_written attrs xs cells are.1)
 
-named : (attrs : List Attr) (xs : List ℕ) → ((n : ℕ) → n < length attrs → IsName (attr_name attrs n)) → AllByRecursion (λ n. n < length attrs) xs → AllByRecursion IsName (map (attr_name attrs) xs)
+pub named : (attrs : List Attr) (xs : List ℕ) → ((n : ℕ) → n < length attrs → IsName (attr_name attrs n)) → AllByRecursion (λ n. n < length attrs) xs → AllByRecursion IsName (map (attr_name attrs) xs)
 named attrs [] each inside = tt
 named attrs (n ∷ xs) each inside = (each n inside.0, named attrs xs each inside.1)
 

@@ -14,6 +14,7 @@ use Rattle.line_grammar.specs.Spelling.{file_text, tokens_in, IsReadable}
 use Rattle.schema_core.specs.Schemas.{IsValidSchema}
 use Rattle.line_grammar.specs.declared.writing.Part.{Part}
 use Rattle.schema_core.specs.declared.schema.Schema.{Schema}
+use Rattle.schema_core.proofs.RoundTrip.{all_append}
 use Rattle.line_grammar.proofs.WrittenFiles.{written_lines, Written, lines_of, group_at, IsGroup, Takes, read_groups-written}
 use Rattle.cfd_semantics.specs.declared.inclusion.InclusionRow.{InclusionRow}
 use Rattle.rule_model.specs.declared.decl.CfdRow.{CfdRow}
@@ -135,10 +136,6 @@ lines_of_decl (Edit edit) = refl
 lines_of_decls : (decls : List Decl) → flat_map lines_of (map decl_group decls) ≡ flat_map decl_lines decls
 lines_of_decls [] = refl
 lines_of_decls (decl ∷ decls) = ap (λ ls. ls ++ flat_map lines_of (map decl_group decls)) (lines_of_decl decl) ∙ ap (λ ls. decl_lines decl ++ ls) (lines_of_decls decls)
-
-all_append : {X : Type 0} (P : X → Type 0) (xs ys : List X) → AllByRecursion P xs → AllByRecursion P ys → AllByRecursion P (xs ++ ys)
-all_append P [] ys left right = right
-all_append P (x ∷ xs) ys left right = (left.0, all_append P xs ys left.1 right)
 
 abbrev book_with : Book → List Decl → Book
 book_with book decls = record { schema = book.schema; limits = book.limits; decls = decls }

@@ -14,4 +14,6 @@ pub use alone::{DepLine, parse_dep};
 pub use cells::CellPart;
 pub use fault::{ParseCause, ParseFault};
 pub use file::parse_rules;
-pub use print::{Cells, Values, print_dep, print_rules, push_row, push_sides};
+pub use print::{
+    Cells, Values, attr_name, attr_names, print_dep, print_rules, push_row, push_sides,
+};

@@ -316,14 +316,16 @@ fn table_at(schema: &Schema, number: usize) -> &Table
     &schema.tables.as_slice()[number]
 }
 
-fn attr_name(attrs: &[Attr], number: usize) -> &Text
+/// The name of an attribute of a table, by its number.
+pub fn attr_name(attrs: &[Attr], number: usize) -> &Text
     requires { number < length attrs.now }
     ensures { result.now ≡ attr_name attrs.now number }
 {
     &attrs[number].name
 }
 
-fn attr_names(alloc: Global, attrs: &[Attr], numbers: &[usize]) -> Result<Texts, AllocError>
+/// Those of several.
+pub fn attr_names(alloc: Global, attrs: &[Attr], numbers: &[usize]) -> Result<Texts, AllocError>
     requires { AreAttrsOf attrs.now numbers.now }
     ensures { IfOk result (λ names. names ≡ map (attr_name attrs.now) numbers.now) }
 {

@@ -30,7 +30,7 @@ fn is_left_out(left_out: Option<usize>, target: usize) -> bool
     }
 }
 
-/// The first move that applies, by rule number and then by master row, whose target isn't left
+/// The first move that applies, by rule number and then by master row, which no clause says, whose target isn't left
 /// out. It takes no memory.
 pub fn first_move(
     start: &Start<'_>,

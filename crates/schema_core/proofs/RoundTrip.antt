@@ -37,17 +37,17 @@ use Rattle.line_grammar.proofs.WrittenFiles.{written_lines, Written, lines_of, g
 
 -- ---- distinct names are found to be distinct
 
-AreDistinct-head : {X : Type 0} (x : X) (xs : List X) → AreDistinct (x ∷ xs) → AllByRecursion (λ y. x ≢ y) xs
+pub AreDistinct-head : {X : Type 0} (x : X) (xs : List X) → AreDistinct (x ∷ xs) → AllByRecursion (λ y. x ≢ y) xs
 AreDistinct-head x xs distinct = recursion_from_All (λ y. x ≢ y) xs (λ k d inside. distinct 0 (suc k) d (omega arith) (omega arith))
 
-AreDistinct-tail : {X : Type 0} (x : X) (xs : List X) → AreDistinct (x ∷ xs) → AreDistinct xs
+pub AreDistinct-tail : {X : Type 0} (x : X) (xs : List X) → AreDistinct (x ∷ xs) → AreDistinct xs
 AreDistinct-tail x xs distinct = λ i j d lt inside. distinct (suc i) (suc j) d (omega arith) (omega arith)
 
-at_middle : {X : Type 0} (P : List ℕ → Type 0) (f : X → List ℕ) (xs : List X) (x : X) (ys : List X) → AllByRecursion P (map f (xs ++ x ∷ ys)) → P (f x)
+pub at_middle : {X : Type 0} (P : List ℕ → Type 0) (f : X → List ℕ) (xs : List X) (x : X) (ys : List X) → AllByRecursion P (map f (xs ++ x ∷ ys)) → P (f x)
 at_middle P f [] x ys all = all.0
 at_middle P f (y ∷ xs) x ys all = at_middle P f xs x ys all.1
 
-not_before : {X : Type 0} (f : X → List ℕ) (xs : List X) (x : X) (ys : List X) → AreDistinct (map f (xs ++ x ∷ ys)) → list_any (λ y. bytes_eq (f y) (f x)) xs ≡ false
+pub not_before : {X : Type 0} (f : X → List ℕ) (xs : List X) (x : X) (ys : List X) → AreDistinct (map f (xs ++ x ∷ ys)) → list_any (λ y. bytes_eq (f y) (f x)) xs ≡ false
 not_before f [] x ys distinct = refl
 not_before f (y ∷ xs) x ys distinct =
     let other = at_middle (λ n. f y ≢ n) f xs x ys (AreDistinct-head (f y) (map f (xs ++ x ∷ ys)) distinct) in
@@ -170,7 +170,7 @@ script_added schema file number is none = rw (is_file_name-true file is, none) r
 abbrev groups_of : Schema → List Written
 groups_of schema = map table_group schema.tables ++ (file_groups (codes "rules") schema.rules ++ file_groups (codes "script") schema.script)
 
-all_append : {X : Type 0} (P : X → Type 0) (xs ys : List X) → AllByRecursion P xs → AllByRecursion P ys → AllByRecursion P (xs ++ ys)
+pub all_append : {X : Type 0} (P : X → Type 0) (xs ys : List X) → AllByRecursion P xs → AllByRecursion P ys → AllByRecursion P (xs ++ ys)
 all_append P [] ys left right = right
 all_append P (x ∷ xs) ys left right = (left.0, all_append P xs ys left.1 right)
 

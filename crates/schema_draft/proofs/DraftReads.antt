@@ -33,7 +33,7 @@ use Rattle.schema_core.specs.Schemas.{IsValidAttr, IsValidSchema, IsValidTable, 
 use Rattle.schema_core.specs.declared.schema.Attr.{Attr}
 use Rattle.schema_core.specs.declared.schema.Domain.TheVariants.{AnyText, Finite}
 use Rattle.schema_core.specs.declared.schema.Table.{Table}
-use Rattle.schema_core.proofs.RoundTrip.{reads-canonical}
+use Rattle.schema_core.proofs.RoundTrip.{all_append, not_before, reads-canonical}
 use Rattle.schema_draft.specs.Columns.{are_few, column_of, distinct_values, few_values, is_key, new_values}
 use Rattle.schema_draft.specs.Drafts.{attr_parts, attr_text, column_text, columns_text, comment, domain_note, draft_behind, draft_of, has_sheet, head_parts, head_text, key_note, names_column, notes_on, only_if, sheet_text, whole_line}
 use Rattle.schema_draft.specs.DraftSchemas.{HoldTexts, any_table, schema_of}
@@ -235,23 +235,6 @@ Spells-columns sheet (suc place) within named are =
 
 -- ---- names that stand once
 
-AreDistinct-head : {X : Type 0} (x : X) (xs : List X) → AreDistinct (x ∷ xs) → AllByRecursion (λ y. x ≢ y) xs
-AreDistinct-head x xs distinct = recursion_from_All (λ y. x ≢ y) xs (λ k d inside. distinct 0 (suc k) d (omega arith) (omega arith))
-
-AreDistinct-tail : {X : Type 0} (x : X) (xs : List X) → AreDistinct (x ∷ xs) → AreDistinct xs
-AreDistinct-tail x xs distinct = λ i j d lt inside. distinct (suc i) (suc j) d (omega arith) (omega arith)
-
-at_middle : {X : Type 0} (P : List ℕ → Type 0) (f : X → List ℕ) (xs : List X) (x : X) (ys : List X) → AllByRecursion P (map f (xs ++ x ∷ ys)) → P (f x)
-at_middle P f [] x ys all = all.0
-at_middle P f (y ∷ xs) x ys all = at_middle P f xs x ys all.1
-
-not_before : {X : Type 0} (f : X → List ℕ) (xs : List X) (x : X) (ys : List X) → AreDistinct (map f (xs ++ x ∷ ys)) → list_any (λ y. bytes_eq (f y) (f x)) xs ≡ false
-not_before f [] x ys distinct = refl
-not_before f (y ∷ xs) x ys distinct =
-    let other = at_middle (λ n. f y ≢ n) f xs x ys (AreDistinct-head (f y) (map f (xs ++ x ∷ ys)) distinct) in
-    or_from (bytes_eq (f y) (f x)) _ (false_from_ne_true (bytes_eq (f y) (f x)) (λ t. other (bytes_eq-tells.same (f y) (f x) t)))
-    (not_before f xs x ys (AreDistinct-tail (f y) (map f (xs ++ x ∷ ys)) distinct))
-
 -- ---- the columns of a valid table
 
 split_at : {X : Type 0} (xs : List X) (place : ℕ) (x : X) → slice_get xs place ≡ Some x → xs ≡ take place xs ++ x ∷ drop (suc place) xs
@@ -338,10 +321,6 @@ tables_said (sheet ∷ sheets) =
 attrs_readable : (attrs : List Attr) → AllByRecursion IsValidAttr (any_texts (names_of_attrs attrs)) → AllByRecursion IsReadable (map attr_line (any_texts (names_of_attrs attrs)))
 attrs_readable [] valid = tt
 attrs_readable (attr ∷ attrs) valid = (any_readable attr.name valid.0.name, attrs_readable attrs valid.1)
-
-all_append : {X : Type 0} (P : X → Type 0) (xs ys : List X) → AllByRecursion P xs → AllByRecursion P ys → AllByRecursion P (xs ++ ys)
-all_append P [] ys left right = right
-all_append P (x ∷ xs) ys left right = (left.0, all_append P xs ys left.1 right)
 
 tables_readable : (sheets : List Sheet) → AllByRecursion (λ (s : Sheet). IsValidTable (any_table s.table)) sheets → AllByRecursion IsReadable (flat_map table_lines (map (λ (s : Sheet). any_table s.table) sheets))
 tables_readable [] valid = tt

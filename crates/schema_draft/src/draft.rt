@@ -106,7 +106,7 @@ fn names_column(attrs: &[Attr], place: usize, words: &Text) -> bool
     is_name(bytes) && !has_name(&attrs[..place], bytes)
 }
 
-// The line of the column at a place, under a note only_if its text names no attribute.
+// The line of the column at a place, under a note where its text names no attribute.
 fn push_attr(
     alloc: Global,
     out: &mut Vec<u8>,

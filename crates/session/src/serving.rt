@@ -33,10 +33,10 @@ pub fn serve<O: Sink, L: Ledger>(
 ) -> Result<(), ServeFault>
     ensures ok { OnOk result (Answers (IsReply bench.old.rules bench.old.limits) bench.old.history commands.now bench.new.history (O.told out.old).written (O.told out.new).written) }
 
-    // No command took more probes than it may, in the history in which it was answered.
+    // All of them took no more probes than the sum of what each may, in the history in which it is answered.
     ensures probes { OnOk result (Answers (IsCountedReply bench.old.rules bench.old.limits) (bench.old.history, steps.old) commands.now (bench.new.history, steps.new) (O.told out.old).written (O.told out.new).written) }
 
-    // After a fault some of the commands were answered, the last reply perhaps not to its end.
+    // After a fault some of the commands were answered, the last reply perhaps not to its end or not at all.
     ensures fault { OnErr result (AnswersFront (IsReply bench.old.rules bench.old.limits) bench.old.history commands.now bench.new.history (O.told out.old).written (O.told out.new).written) }
     ensures made_with { (bench.new.rules ≡ bench.old.rules) × (bench.new.limits ≡ bench.old.limits) }
     ensures write_fault { result ≡ Err ServeFault.WriteFault → Rose (O.told out.old).faults (O.told out.new).faults }

@@ -1,9 +1,8 @@
 -- Transcripts one after the other, and what of them was appended.
-use Rattle.std.proofs.Common.{◌≡◌, ℕ, zero, suc, ◌+◌, ◌<◌, ◌≤◌, List, [], ◌∷◌, ◌++◌, length, take, drop, get_or, Option, None, Some, refl, ap, sym, ◌∙◌, subst, append_assoc}
+use Rattle.std.proofs.Common.{◌≡◌, ℕ, ◌+◌, ◌<◌, ◌≤◌, List, [], ◌∷◌, ◌++◌, length, take, drop, get_or, Option, None, Some, inl, inr, refl, ap, sym, ◌∙◌, subst, append_assoc}
 use Rattle.std.proofs.lemmas.List.{append-nil, take_all, take_more, take-append-drop}
-use Rattle.std.proofs.Math.Seq.{take-nil}
 use Rattle.shelf_io.specs.Sink.{Appends, FrontOf, appended}
-use Rattle.shelf_io.specs.Transcript.{Replies, IsTranscript, Answers, AnswersFront}
+use Rattle.shelf_io.specs.Transcript.{Replies, IsTranscript, IsCutShort, Answers, AnswersFront}
 use Rattle.shelf_io.proofs.Puts.{appended-append}
 
 -- ---- what was appended
@@ -96,58 +95,69 @@ module _ {State Command : Type 0} (IsReply : Replies State Command) where
   pub answers-all : (start end : State) (commands : List Command) (place : ℕ) (before after : Option (List ℕ)) → length commands ≤ place → Answers IsReply start (take place commands) end before after → Answers IsReply start commands end before after
   answers-all start end commands place before after past all = subst (λ (cs : List Command). Answers IsReply start cs end before after) (take_all place commands past) all
 
-  taken : (commands : List Command) (place count : ℕ) (command : Command) → place < length commands → command ≡ get_or commands place command → (all : ℕ) × (take place commands ++ take count (command ∷ []) ≡ take all commands)
-  taken commands place zero command within is = (place, append-nil (take place commands))
-  taken commands place (suc count) command within is =
-      (place + 1, ap (λ rest. take place commands ++ command ∷ rest) (take-nil count) ∙ one_more commands place command within is)
+  -- what is cut short is so, too, where more commands follow
+  cut-longer : (start end : State) (commands others : List Command) (bytes : List ℕ) → IsCutShort IsReply start commands bytes end → IsCutShort IsReply start (commands ++ others) bytes end
+  cut-longer start end [] [] bytes cut = cut
+  cut-longer start end [] (other ∷ others) bytes cut = inl cut
+  cut-longer start end (command ∷ commands) others bytes (inl cut) = inl cut
+  cut-longer start end (command ∷ commands) others bytes (inr (inl cut)) = inr (inl cut)
+  cut-longer start end (command ∷ commands) others bytes (inr (inr cut)) = inr (inr (cut.0, cut.1, cut.2, cut.3, cut.4, cut-longer cut.1 end commands others cut.2 cut.5))
+
+  cut-from_same : (start mid end : State) (commands : List Command) (bytes more : List ℕ) → bytes ≡ [] → mid ≡ start → IsCutShort IsReply mid commands more end → IsCutShort IsReply start commands (bytes ++ more) end
+  cut-from_same start mid end commands bytes more empty same cut =
+      subst (λ b. IsCutShort IsReply start commands (b ++ more) end) (sym empty) (subst (λ s. IsCutShort IsReply s commands more end) same cut)
+
+  -- a transcript, and behind it what is cut short
+  cut-append : (start mid end : State) (commands others : List Command) (bytes more : List ℕ) → IsTranscript IsReply start commands bytes mid → IsCutShort IsReply mid others more end → IsCutShort IsReply start (commands ++ others) (bytes ++ more) end
+  cut-append start mid end [] others bytes more first next = cut-from_same start mid end others bytes more first.0 first.1 next
+  cut-append start mid end (command ∷ commands) others bytes more first next =
+      inr (inr (first.0, first.1, first.2 ++ more, first.3, ap (λ b. b ++ more) first.4 ∙ append_assoc first.0 first.2 more, cut-append first.1 mid end commands others first.2 more first.5 next))
 
   -- one more command is answered in part, or not at all
   pub answers-cut : (start mid end : State) (commands : List Command) (place : ℕ) (command : Command) (before between after : Option (List ℕ)) → place < length commands → command ≡ get_or commands place command
       → Answers IsReply start (take place commands) mid before between → AnswersFront IsReply mid (command ∷ []) end between after → AnswersFront IsReply start commands end before after
   answers-cut start mid end commands place command before between after within is first next =
-      let Some_of = λ (cs : List Command) (from to : State) (bytes : List ℕ). IsTranscript IsReply from cs bytes to in
-      let last = take next.answered (command ∷ []) in
-      let all = taken commands place next.answered command within is in
-      record {
-        answered = all.0;
-        front = subst (λ (cs : List Command). Appends (FrontOf (Some_of cs start end)) before after) all.1
-            (Appends-next before between after
-            (λ a front. FrontOf-next (Some_of (take place commands) start mid) (Some_of last mid end) (Some_of (take place commands ++ last) start end)
-            (λ a b. transcript-append start mid end (take place commands) last a b) a front)
-            first next.front);
-      }
+      Appends-next before between after
+      (λ a front done cut.
+      let some = subst (λ (cs : List Command). IsCutShort IsReply start cs (a ++ front) end) (one_more commands place command within is) (cut-append start mid end (take place commands) (command ∷ []) a front done cut) in
+      subst (λ (cs : List Command). IsCutShort IsReply start cs (a ++ front) end) (take-append-drop (place + 1) commands) (cut-longer start end (take (place + 1) commands) (drop (place + 1) commands) (a ++ front) some))
+      first next
+
+  not_begun : (start end : State) (commands : List Command) → end ≡ start → IsCutShort IsReply start commands [] end
+  not_begun start end [] same = (refl, same)
+  not_begun start end (command ∷ commands) same = inl (refl, same)
 
   -- where nothing is appended yet, a command is answered in part: not begun, or done and its reply not yet written
   pub front-not_begun : (start end : State) (commands : List Command) (told : Option (List ℕ)) → end ≡ start → AnswersFront IsReply start commands end told told
-  front-not_begun start end commands told same = record { answered = 0; front = Appends-nothing told ([], (refl, same)) }
+  front-not_begun start end commands told same = Appends-nothing told (not_begun start end commands same)
 
   pub front-not_written : (start end : State) (command : Command) (reply : List ℕ) (told : Option (List ℕ)) → IsReply start command reply end → AnswersFront IsReply start (command ∷ []) end told told
-  front-not_written start end command reply told is = record { answered = 1; front = Appends-nothing told (reply, transcript-one start end command reply is) }
+  front-not_written start end command reply told is = Appends-nothing told (inr (inl (reply, is, (reply, refl))))
 
   -- where a front of the reply is appended
   pub front-of_reply : (start end : State) (command : Command) (reply piece : List ℕ) (before after : Option (List ℕ)) → IsReply start command reply end → piece ≡ reply → Appends (FrontOf (λ text. text ≡ piece)) before after → AnswersFront IsReply start (command ∷ []) end before after
-  front-of_reply start end command reply piece before after is same front = record {
-    answered = 1;
-    front = Appends-wider before after (λ text f. (f.0, subst (λ bytes. IsTranscript IsReply start (command ∷ []) bytes end) (sym (f.1 ∙ same)) (transcript-one start end command reply is))) front;
-  }
+  front-of_reply start end command reply piece before after is same front = Appends-wider before after (λ text f. inr (inl (reply, is, (f.0, f.1 ∙ same)))) front
 
   -- where all of it is
   pub answers-one : (start end : State) (command : Command) (reply : List ℕ) (before after : Option (List ℕ)) → IsReply start command reply end → after ≡ appended before reply → Answers IsReply start (command ∷ []) end before after
   answers-one start end command reply before after is written = record { text = reply; is_one = transcript-one start end command reply is; written = written }
 
+  -- replies that are cut short go on to a transcript of all commands
+  cut-goes_on : ((state : State) (command : Command) → (reply : List ℕ) × (next : State) × IsReply state command reply next) → (start end : State) (commands : List Command) (bytes : List ℕ) → IsCutShort IsReply start commands bytes end
+      → FrontOf (λ all. (last : State) × IsTranscript IsReply start commands all last) bytes
+  cut-goes_on reply start end [] bytes cut = ([], (start, (append-nil bytes ∙ cut.0, refl)))
+  cut-goes_on reply start end (command ∷ commands) bytes (inl cut) =
+      let all = transcript_of reply start (command ∷ commands) in
+      (all.0, (all.1, subst (λ b. IsTranscript IsReply start (command ∷ commands) (b ++ all.0) all.1) (sym cut.0) all.2))
+  cut-goes_on reply start end (command ∷ commands) bytes (inr (inl cut)) =
+      let others = transcript_of reply end commands in
+      let rest = cut.2.0 in
+      (rest ++ others.0, (others.1, (cut.0, end, others.0, cut.1, sym (append_assoc bytes rest others.0) ∙ ap (λ b. b ++ others.0) cut.2.1, others.2)))
+  cut-goes_on reply start end (command ∷ commands) bytes (inr (inr cut)) =
+      let on = cut-goes_on reply cut.1 end commands cut.2 cut.5 in
+      (on.0, (on.1.0, (cut.0, cut.1, cut.2 ++ on.0, cut.3, ap (λ b. b ++ on.0) cut.4 ∙ append_assoc cut.0 cut.2 on.0, on.1.1)))
+
   -- a front of the transcript of some commands is a front of one of all commands
   pub front-of_all : ((state : State) (command : Command) → (reply : List ℕ) × (next : State) × IsReply state command reply next) → (start end : State) (commands : List Command) (before after : Option (List ℕ)) → AnswersFront IsReply start commands end before after
       → Appends (FrontOf (λ bytes. (last : State) × IsTranscript IsReply start commands bytes last)) before after
-  front-of_all reply start end commands before after cut =
-      let others = transcript_of reply end (drop cut.answered commands) in
-      Appends-wider before after
-      (λ front f. (
-        f.0 ++ others.0,
-        (
-          others.1,
-          subst (λ bytes. IsTranscript IsReply start commands bytes others.1) (append_assoc front f.0 others.0)
-              (subst (λ (cs : List Command). IsTranscript IsReply start cs ((front ++ f.0) ++ others.0) others.1) (take-append-drop cut.answered commands)
-              (transcript-append start end others.1 (take cut.answered commands) (drop cut.answered commands) (front ++ f.0) others.0 f.1 others.2)),
-        ),
-      ))
-      cut.front
+  front-of_all reply start end commands before after = Appends-wider before after (λ bytes cut. cut-goes_on reply start end commands bytes cut)

@@ -1,5 +1,4 @@
 mod SeenSteps
-mod Zips
 mod ItemAt
 mod Parts
 mod Ends

@@ -173,19 +173,19 @@ is_yes may.Open = false
 abbrev pub may_stand : ValueVerdict → Bool
 may_stand verdict = is_yes verdict.may
 
-abbrev pub open_text : Table → List ValueVerdict → List ℕ
-open_text table values = (codes "table " ++ table.name) ++ codes ": not settled whether a row can satisfy its dependencies\n" ++ flat_map (value_line table) values
+abbrev pub open_text : Table → List ℕ
+open_text table = (codes "table " ++ table.name) ++ codes ": not settled whether a row can satisfy its dependencies\n"
 
 -- of a table whose dependencies some row satisfies only values are told
 abbrev pub verdict_line : Table → Verdict → List ℕ
 verdict_line table (Holds values) = flat_map (value_line table) values
 verdict_line table (Never rows) = never_text table rows
-verdict_line table (Open values) = open_text table values
+verdict_line table Open = open_text table
 
 abbrev pub is_good : Verdict → Bool
 is_good (Holds values) = list_all may_stand values
 is_good (Never rows) = false
-is_good (Open values) = false
+is_good Open = false
 
 abbrev pub verdict_part : Option Table → Option Verdict → List ℕ
 verdict_part None verdict = []

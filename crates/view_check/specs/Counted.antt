@@ -12,18 +12,7 @@ use Rattle.line_grammar.specs.declared.tokens.Mark.TheVariants.{Arrow}
 use Rattle.line_grammar.specs.declared.tokens.Token.{Token}
 use Rattle.line_grammar.specs.declared.tokens.Token.TheVariants as token
 use Rattle.cli_output.specs.Refusals.{limit_text}
-
-abbrev pub is_name : Token → Bool
-is_name (token.Name name) = true
-is_name (token.Number n) = false
-is_name (token.Quoted text) = false
-is_name (token.Sign mark) = false
-
-abbrev pub is_text : Token → Bool
-is_text (token.Name name) = false
-is_text (token.Number n) = false
-is_text (token.Quoted text) = true
-is_text (token.Sign mark) = false
+pub use Rattle.line_forms.specs.Pieces.{is_name, is_text}
 
 abbrev pub is_arrow : Token → Bool
 is_arrow (token.Name name) = false

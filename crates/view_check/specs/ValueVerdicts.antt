@@ -1,5 +1,5 @@
 -- Which values of the domains can stand in a row that, alone, satisfies the dependencies of its table.
-use Rattle.std.specs.Prelude.{◌≡◌, ℕ, ◌<◌, List, [], ◌∷◌, All, map, slice_get, Some}
+use Rattle.std.specs.Prelude.{◌≡◌, ℕ, List, [], ◌∷◌, All, map, slice_get, Some}
 use Rattle.std.specs.List.{enumerate_from, flat_map}
 use Rattle.cfd_semantics.specs.declared.pattern.Pattern.TheVariants.{Is, NotIn}
 use Rattle.schema_core.specs.Lookups.{attrs_at}
@@ -8,10 +8,11 @@ use Rattle.schema_core.specs.declared.schema.Domain.TheVariants.{AnyText, Finite
 use Rattle.schema_core.specs.declared.schema.Attr.{Attr}
 use Rattle.rule_model.specs.declared.dep.Dep.{Dep}
 use Rattle.rule_model.specs.Books.{Book, book_deps}
-use Rattle.case_search.specs.Enough.{enough_of}
+use Rattle.case_tree.specs.declared.tree.Node.{Node}
 use Rattle.cfd_consistency.specs.Consistent.{IsWitness}
 use Rattle.cfd_implication.specs.Implied.{IsCounter, IsImplied}
-use Rattle.cfd_implication.specs.Question.{question}
+use Rattle.cfd_implication.specs.Answers.{IsImplicationAnswer}
+use Rattle.cfd_implication.specs.declared.answer.Implication.TheVariants.{Spent}
 use Rattle.view_check.specs.declared.values.MayStand.{MayStand}
 use Rattle.view_check.specs.declared.values.MayStand.TheVariants.{Never, Open, Yes}
 use Rattle.view_check.specs.declared.values.ValueVerdict.{ValueVerdict}
@@ -32,18 +33,21 @@ bar table attr value = record {
 
 -- ---- what is answered
 
--- It can, or it can't. It may be left open only where the leaves of a search whether the dependencies bar the value may be
--- too many.
+-- a search of 100,000 leaves whether the dependency is implied has ended without an answer
+abbrev pub IsSpent : Book → Dep → Type 0
+IsSpent rules dep = (tree : List Node) × IsImplicationAnswer rules.schema (book_deps rules) dep 100000 (Spent tree)
+
+-- It can, or it can't. Or it is left open: a search whether the dependencies bar it ended at 100,000 leaves without an answer.
 abbrev pub IsMayStand : Book → ℕ → ℕ → List ℕ → MayStand → Type 0
 IsMayStand rules table attr value Yes = CanStand rules table attr value
 IsMayStand rules table attr value Never = ¬ CanStand rules table attr value
-IsMayStand rules table attr value Open = 100000 < enough_of (question rules.schema (book_deps rules) (bar table attr value)).cells
+IsMayStand rules table attr value Open = IsSpent rules (bar table attr value)
 
 -- the same, as implication of a dependency has it
 abbrev pub IsBarred : Book → Dep → MayStand → Type 0
 IsBarred rules dep Yes = (one : List (List ℕ)) × (other : List (List ℕ)) × IsCounter rules.schema (book_deps rules) dep one other
 IsBarred rules dep Never = IsImplied rules.schema (book_deps rules) dep
-IsBarred rules dep Open = 100000 < enough_of (question rules.schema (book_deps rules) dep).cells
+IsBarred rules dep Open = IsSpent rules dep
 
 abbrev pub IsValueVerdict : Book → ℕ → ValueVerdict → Type 0
 IsValueVerdict rules table verdict = IsMayStand rules table verdict.attr verdict.value verdict.may

@@ -1,27 +1,28 @@
 -- Whether some row, alone, can satisfy the dependencies of a table.
-use Rattle.std.specs.Prelude.{ℕ, ◌<◌, List, IfSome}
+use Rattle.std.specs.Prelude.{ℕ, List, IfSome}
 use Rattle.std.specs.List.{AllZip}
 use Rattle.schema_core.specs.Schemas.{table_place}
 use Rattle.schema_core.specs.declared.schema.Table.{Table}
 use Rattle.rule_model.specs.Books.{Book}
-use Rattle.case_search.specs.Enough.{enough_of}
+use Rattle.case_tree.specs.declared.tree.Node.{Node}
 use Rattle.cfd_consistency.specs.Consistent.{IsConsistent}
-use Rattle.cfd_consistency.specs.Question.{question}
+use Rattle.cfd_consistency.specs.Answer.{IsConsistencyAnswer}
+use Rattle.cfd_consistency.specs.declared.decider.Consistency.TheVariants.{Spent}
 use Rattle.view_check.specs.Cited.{AreCited}
 use Rattle.view_check.specs.ValueVerdicts.{AreValueVerdicts}
 use Rattle.view_check.specs.declared.verdicts.Verdict.{Verdict}
 use Rattle.view_check.specs.declared.verdicts.Verdict.TheVariants.{Holds, Never, Open}
 
--- It may be left open, since the leaves of a search may be too many.
+-- It is left open: a search ended at 100,000 leaves without an answer, and so many needn't suffice.
 abbrev pub IsOpen : Book → ℕ → Type 0
-IsOpen rules table = 100000 < enough_of (question rules table).cells
+IsOpen rules table = (tree : List Node) × IsConsistencyAnswer rules 100000 table (Spent tree)
 
--- Some row does; or none does, and some tree that shows it cites these tableau rows; or it is left open. Where not all rows
--- are out, the values of the domains are looked at, too. The table goes by its name and its number.
+-- Some row does, and then the values of the domains are looked at, too; or none does, and some tree that shows it cites these
+-- tableau rows; or it is left open. The table goes by its name and its number.
 abbrev pub IsVerdict : Book → List ℕ → ℕ → Verdict → Type 0
 IsVerdict rules name table (Holds values) = IsConsistent rules table × AreValueVerdicts rules table values
 IsVerdict rules name table (Never rows) = (¬ IsConsistent rules table) × AreCited rules name table rows
-IsVerdict rules name table (Open values) = IsOpen rules table × AreValueVerdicts rules table values
+IsVerdict rules name table Open = IsOpen rules table
 
 abbrev pub IsVerdictFor : Book → Table → Verdict → Type 0
 IsVerdictFor rules table verdict = IfSome (table_place rules.schema table.name) (λ place. IsVerdict rules table.name place verdict)

@@ -7,7 +7,7 @@ ghost use Rattle.case_tree.specs.CaseTree.{Refutes};
 ghost use Rattle.cfd_consistency.specs.Consistent.{IsConsistent};
 ghost use Rattle.cfd_consistency.specs.Question.{question};
 ghost use Rattle.view_check.specs.CheckForm.{by_line, is_good, never_text, open_text, row_parts, verdict_line, verdict_part, verdicts_text};
-ghost use Rattle.view_check.specs.Verdicts.{AreVerdicts, IsOpen, IsVerdictFor};
+ghost use Rattle.view_check.specs.Verdicts.{AreVerdicts, IsVerdictFor};
 
 use crate::cited::{RowName, cited_rows};
 use crate::items::item;
@@ -29,8 +29,9 @@ pub enum Verdict {
     Holds(List<ValueVerdict>),
     /// No row does, by these tableau rows.
     Never(List<RowName>),
-    /// The search ended before there was an answer; and what is known of the values of the domains.
-    Open(List<ValueVerdict>),
+    /// The search ended before there was an answer. The values of the domains aren't looked at then, since the search for
+    /// each would most likely end so, too.
+    Open,
 }
 
 /// A verdict for each table of the rules.
@@ -61,7 +62,7 @@ fn verdict_on(alloc: Global, rules: &RuleBook, table: &Table) -> Result<Verdict,
     match consistent(alloc, rules, table.name.as_str(), BUDGET) {
         Ok(Consistency::Witness(_)) => holds(alloc, rules, table),
         Ok(Consistency::Never(tree)) => never(alloc, rules, table, &tree),
-        Ok(Consistency::Spent(_)) => open(alloc, rules, table),
+        Ok(Consistency::Spent(_)) => Ok(Verdict::Open),
         // Each of the tables has its name, so only memory can be missing.
         Err(_) => Err(AllocError),
     }
@@ -73,14 +74,6 @@ fn holds(alloc: Global, rules: &RuleBook, table: &Table) -> Result<Verdict, Allo
 {
     let values = value_verdicts(alloc, rules, table)?;
     Ok(Verdict::Holds(values))
-}
-
-fn open(alloc: Global, rules: &RuleBook, table: &Table) -> Result<Verdict, AllocError>
-    requires { IfSome (table_place rules.now.schema table.now.name) (IsOpen rules.now) }
-    ensures { IfOk result (IsVerdictFor rules.now table.now) }
-{
-    let values = value_verdicts(alloc, rules, table)?;
-    Ok(Verdict::Open(values))
 }
 
 fn never(alloc: Global, rules: &RuleBook, table: &Table, tree: &Tree) -> Result<Verdict, AllocError>
@@ -129,16 +122,15 @@ fn push_verdict(out: &mut Vec<u8>, table: &Table, verdict: &Verdict) -> Result<(
     match verdict {
         Verdict::Holds(values) => push_values_told(out, table, values.as_slice()),
         Verdict::Never(rows) => push_never(out, table, rows.as_slice()),
-        Verdict::Open(values) => push_open(out, table, values.as_slice()),
+        Verdict::Open => push_open(out, table),
     }
 }
 
-fn push_open(out: &mut Vec<u8>, table: &Table, values: &[ValueVerdict]) -> Result<(), AllocError>
-    ensures { OnOk result (out.new.items ≡ out.old.items ++ open_text table.now values.now) }
+fn push_open(out: &mut Vec<u8>, table: &Table) -> Result<(), AllocError>
+    ensures { OnOk result (out.new.items ≡ out.old.items ++ open_text table.now) }
 {
     push_table(out, table)?;
-    out.extend_from_slice(b": not settled whether a row can satisfy its dependencies\n")?;
-    push_values_told(out, table, values)
+    out.extend_from_slice(b": not settled whether a row can satisfy its dependencies\n")
 }
 
 fn push_never(out: &mut Vec<u8>, table: &Table, rows: &[RowName]) -> Result<(), AllocError>
@@ -187,6 +179,6 @@ fn is_good(verdict: &Verdict) -> bool
 {
     match verdict {
         Verdict::Holds(values) => may_all_stand(values.as_slice()),
-        Verdict::Never(_) | Verdict::Open(_) => false,
+        Verdict::Never(_) | Verdict::Open => false,
     }
 }

@@ -20,3 +20,10 @@ returns-in-Explain-clause-memory g c =
     let Kept = (written : Option (List ℕ)) → AnswersFront (IsReply bench.rules bench.limits) bench.history (c.args.command.now ∷ []) bench.history written written in
     let kept : Kept = λ written. front-not_begun (IsReply bench.rules bench.limits) bench.history bench.history (c.args.command.now ∷ []) written refl in
     elim c.push_explained.result as (λ r. OnErr r Kept) [ Ok made ↦ tt | Err memory ↦ kept ]
+
+pub returns-in-Export-clause-memory : goal.returns-in-Export-clause-memory
+returns-in-Export-clause-memory g c =
+    let bench = c.args.bench.now in
+    let Kept = (written : Option (List ℕ)) → AnswersFront (IsReply bench.rules bench.limits) bench.history (c.args.command.now ∷ []) bench.history written written in
+    let kept : Kept = λ written. front-not_begun (IsReply bench.rules bench.limits) bench.history bench.history (c.args.command.now ∷ []) written refl in
+    elim c.push_exported.result as (λ r. OnErr r Kept) [ Ok made ↦ tt | Err memory ↦ kept ]

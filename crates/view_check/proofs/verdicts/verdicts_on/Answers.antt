@@ -2,7 +2,7 @@ use Rattle.std.proofs.Common.{◌+◌, [], take, sym, subst}
 use Rattle.std.specs.List.{AllZip}
 use Rattle.std.proofs.lemmas.List.{take_all}
 use Rattle.view_check.specs.Verdicts.{IsVerdictFor}
-use Rattle.view_check.proofs.Zips.{AllZip-take_more}
+use Rattle.project_forms.proofs.TableLoop.{AllZip-take_more}
 use Rattle.view_check.proofs.verdicts.verdicts_on.Goals as goal
 
 pub loop-table-init : goal.loop-table-init
