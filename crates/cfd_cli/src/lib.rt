@@ -5,4 +5,5 @@
 mod program;
 
 pub use cli_output::Status;
-pub use program::{run, run_counted, run_with, run_with_keys};
+pub use program::{run, run_counted, run_in, run_with};
+pub use project_forms::Room;

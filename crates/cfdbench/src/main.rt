@@ -2,12 +2,13 @@
 //! status's number.
 #![tactic(auto)]
 
-use cfd_cli::{Status, run_with_keys};
+use cfd_cli::{Room, Status, run_in};
 use hash_keys::HashKeys;
 use shelf_io::{FolderShelf, StdSink};
 use std::alloc::AllocError;
 use std::env;
 use std::io::ErrorKind;
+use std::mem::forget;
 use std::process::ExitCode;
 use std::rt::{Env, Files};
 use text_lists::{Limits, List, Text, Texts};
@@ -46,10 +47,11 @@ fn main(rt: HostRuntime) -> ExitCode {
         Ok(words) => {
             let mut shelf = FolderShelf::new(alloc, rt);
             let mut out = StdSink::new(rt);
-            let keys = HashKeys::drawn(&rt);
+            let mut room = Room::new(HashKeys::drawn(&rt));
             let limits = Limits::standard();
-            let status = run_with_keys(alloc, keys, &words, &mut shelf, &mut out, limits);
+            let status = run_in(alloc, &mut room, &words, &mut shelf, &mut out, limits);
             tell(rt, status, &shelf);
+            forget(room);
             status
         }
         Err(AllocError) => Status::Memory,

@@ -1,5 +1,6 @@
 -- An event is refused, or one edit leads on.
-use Rattle.std.proofs.Common.{◌≡◌, ℕ, List, [], ◌∷◌, ◌++◌, length, Bool, true, false, if◌then◌else◌, Option, None, Some, Ok, Err, refl, subst, nat_le, arith, length-append}
+use Rattle.std.proofs.Common.{◌≡◌, ℕ, List, [], ◌∷◌, ◌++◌, length, Bool, true, false, if◌then◌else◌, Option, None, Some, Ok, Err, refl, sym, ap, ◌∙◌, subst, nat_le, append_assoc}
+use Rattle.std.proofs.lemmas.List.{append-nil, map-append}
 use Rattle.std.specs.Prelude.{◌==◌}
 use Rattle.text_lists.specs.declared.limits.Limits.{Limits}
 use Rattle.rule_model.specs.Books.{Book}
@@ -12,34 +13,34 @@ use Rattle.desk_entries.specs.Entries.{Entry, entry_at, is_overtaken, last_live,
 use Rattle.desk_events.specs.declared.event.Act.{Act}
 use Rattle.desk_events.specs.declared.event.Act.TheVariants as act
 use Rattle.desk_events.specs.declared.event.Event.{Event}
-use Rattle.desk_state.specs.Desk.{Answer, DeskModel, IsDeskAnswer, act_answer, edit_answer, edit_seen, look_answer, made, opposite, row_named, take_back}
+use Rattle.desk_state.specs.Desk.{Answer, DeskModel, IsDeskAnswer, act_answer, edit_answer, edit_seen, entry_in, look_answer, made, opposite, row_named, row_of_edit, take_back}
 use Rattle.desk_state.specs.declared.reply.Reply.{Reply}
 use Rattle.desk_state.specs.declared.reply.Reply.TheVariants as reply
-use Rattle.desk.specs.OneHistory.{AreOneHistory, Lead}
+use Rattle.desk.specs.OneHistory.{AreOneHistory, Lead, Made, entries_of}
 
 -- nothing happened
 pub none_made : (desk : DeskModel) → AreOneHistory desk desk
-none_made desk = record { edits = []; lead = refl; entries = omega arith }
+none_made desk = record { made = []; lead = refl; entries = sym (append-nil desk.entries) }
 
-lead-append : (rules : Book) (limits : Limits) (start mid end : History) (edits others : List Edit) → Lead rules limits start edits mid → Lead rules limits mid others end → Lead rules limits start (edits ++ others) end
+lead-append : (rules : Book) (limits : Limits) (start mid end : History) (made others : List Made) → Lead rules limits start made mid → Lead rules limits mid others end → Lead rules limits start (made ++ others) end
 lead-append rules limits start mid end [] others first second = subst (λ h. Lead rules limits h others end) first second
-lead-append rules limits start mid end (edit ∷ edits) others first second = (first.0, first.1, first.2, lead-append rules limits first.0 mid end edits others first.3 second)
+lead-append rules limits start mid end ((edit, entry) ∷ made) others first second = (first.0, first.1, first.2, first.3, lead-append rules limits first.0 mid end made others first.4 second)
 
 -- one after the other
 pub made_on : (start mid end : DeskModel) → mid.rules ≡ start.rules → mid.limits ≡ start.limits → AreOneHistory start mid → AreOneHistory mid end → AreOneHistory start end
 made_on start mid end rules limits first second = record {
-  edits = first.edits ++ second.edits;
-  lead = lead-append start.rules start.limits start.history mid.history end.history first.edits second.edits first.lead (subst (λ l. Lead start.rules l mid.history second.edits end.history) limits (subst (λ r. Lead r mid.limits mid.history second.edits end.history) rules second.lead));
-  entries = omega (arith, first.entries, second.entries, length-append first.edits second.edits);
+  made = first.made ++ second.made;
+  lead = lead-append start.rules start.limits start.history mid.history end.history first.made second.made first.lead (subst (λ l. Lead start.rules l mid.history second.made end.history) limits (subst (λ r. Lead r mid.limits mid.history second.made end.history) rules second.lead));
+  entries = second.entries ∙ ap (λ (entries : List Entry). entries ++ entries_of second.made) first.entries ∙ append_assoc start.entries (entries_of first.made) (entries_of second.made) ∙ sym (ap (λ (entries : List Entry). start.entries ++ entries) (map-append (λ (m : Made). m.1) first.made second.made));
 }
 
 -- an edit is refused, or leads on
 made_one : (desk : DeskModel) (editor : List ℕ) (takes : Option ℕ) (edit : Edit) (done : Step (History × Applied)) → history_edited desk.rules desk.limits desk.history edit ≡ done → AreOneHistory desk (made desk editor takes edit done).1
 made_one desk editor takes edit (Err fault) is = none_made desk
 made_one desk editor takes edit (Ok (after, applied)) is = record {
-  edits = edit ∷ [];
-  lead = (after, applied, is, refl);
-  entries = length-append desk.entries _;
+  made = (edit, entry_in desk.rules desk.history.present editor takes edit (row_of_edit edit applied)) ∷ [];
+  lead = (after, applied, is, refl, refl);
+  entries = refl;
 }
 
 unless_spent : (desk : DeskModel) (editor : List ℕ) (takes : Option ℕ) (edit : Edit) (spent : Bool) → AreOneHistory desk (if spent then (reply.EditsSpent, desk) else made desk editor takes edit (history_edited desk.rules desk.limits desk.history edit)).1

@@ -5,10 +5,10 @@ ghost use Rattle.project_forms.specs.Project.{read_of};
 ghost use Rattle.project_forms.specs.ReportForm.{report_of, report_outputs, report_task};
 
 use crate::project::{Project, after_script, fetch_project};
+use crate::room::Room;
 use crate::run_form::status_of;
 use bench_core::Bench;
 use cli_output::{Status, end_by, end_with};
-use hash_keys::HashKeys;
 use probe_steps::Steps;
 use schema_core::{Limits, Text};
 use shelf_io::{Shelf, Sink};
@@ -19,7 +19,7 @@ use violation_report::json_report;
 /// Tells what the script of a project leads to.
 pub fn report_project<S: Shelf, O: Sink, L: Ledger>(
     alloc: Global,
-    keys: HashKeys,
+    room: &mut Room,
     project: &Text,
     shelf: &mut S,
     out: &mut O,
@@ -31,8 +31,8 @@ pub fn report_project<S: Shelf, O: Sink, L: Ledger>(
     ensures devices { UsesDevices limits.now (report_task limits.now project.now) result (S.told shelf.old) (S.told shelf.new) (O.told out.old) (O.told out.new) }
 {
     let mut left = limits.all_bytes;
-    match fetch_project(alloc, keys, shelf, project, limits, &mut left, steps) {
-        Ok(project) => report(alloc, project, out, steps),
+    match fetch_project(alloc, room.keys(), shelf, project, limits, &mut left, steps) {
+        Ok(project) => report(alloc, room, project, out, steps),
         Err(stop) => end_by(alloc, &stop, out),
     }
 }
@@ -40,6 +40,7 @@ pub fn report_project<S: Shelf, O: Sink, L: Ledger>(
 /// Answers the script with no one listening, and tells the list of its last state.
 fn report<O: Sink, L: Ledger>(
     alloc: Global,
+    room: &mut Room,
     project: Project,
     out: &mut O,
     steps: &mut Steps<L>,
@@ -47,7 +48,11 @@ fn report<O: Sink, L: Ledger>(
     ensures { Ends (report_outputs (read_of project)) result (O.told out.old) (O.told out.new) }
 {
     match after_script(alloc, project, steps) {
-        Ok(bench) => tell(alloc, &bench, out, steps),
+        Ok(bench) => {
+            let status = tell(alloc, &bench, out, steps);
+            room.keep(bench);
+            status
+        }
         Err(AllocError) => Status::Memory,
     }
 }

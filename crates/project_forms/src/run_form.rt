@@ -8,9 +8,9 @@ ghost use Rattle.project_forms.specs.RunForm.{counted_from, counted_run_task, ru
 ghost use Rattle.project_forms.specs.Transcripts.{found_status};
 
 use crate::project::{Project, fetch_project};
+use crate::room::Room;
 use bench_core::Bench;
 use cli_output::{Status, end_by};
-use hash_keys::HashKeys;
 use probe_steps::Steps;
 use schema_core::{Limits, Text};
 use session::{ServeFault, serve};
@@ -22,7 +22,7 @@ use violation_report::is_clean;
 /// Answers the script of a project.
 pub fn run_project<S: Shelf, O: Sink, L: Ledger>(
     alloc: Global,
-    keys: HashKeys,
+    room: &mut Room,
     project: &Text,
     shelf: &mut S,
     out: &mut O,
@@ -37,8 +37,8 @@ pub fn run_project<S: Shelf, O: Sink, L: Ledger>(
     ensures probes { IsWhole result → Writes (Output limits.now (counted_run_task steps.old steps.new limits.now project.now) (S.told shelf.old).holding) result (O.told out.old).written (O.told out.new).written }
 {
     let mut left = limits.all_bytes;
-    match fetch_project(alloc, keys, shelf, project, limits, &mut left, steps) {
-        Ok(project) => answer(alloc, project, out, steps),
+    match fetch_project(alloc, room.keys(), shelf, project, limits, &mut left, steps) {
+        Ok(project) => answer(alloc, room, project, out, steps),
         Err(stop) => end_by(alloc, &stop, out),
     }
 }
@@ -46,6 +46,7 @@ pub fn run_project<S: Shelf, O: Sink, L: Ledger>(
 /// Answers the script, and tells whether its last state has a violation.
 fn answer<O: Sink, L: Ledger>(
     alloc: Global,
+    room: &mut Room,
     project: Project,
     out: &mut O,
     steps: &mut Steps<L>,
@@ -57,11 +58,13 @@ fn answer<O: Sink, L: Ledger>(
         mut bench,
         commands,
     } = project;
-    match serve(alloc, &mut bench, &commands, out, steps) {
+    let status = match serve(alloc, &mut bench, &commands, out, steps) {
         Ok(()) => status_of(&bench),
         Err(ServeFault::WriteFault) => Status::WriteFault,
         Err(ServeFault::Memory) => Status::Memory,
-    }
+    };
+    room.keep(bench);
+    status
 }
 
 // Nothing is counted or listed for it.
