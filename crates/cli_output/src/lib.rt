@@ -12,7 +12,7 @@ pub mod table_files;
 
 pub use ending::{end_by, end_with};
 pub use fetching::{Stop, fetch_file, refused};
-pub use refusal::{Cause, LineFlaw, Refusal, refusal_line};
+pub use refusal::{Cause, LineFlaw, Refusal, limit_word, refusal_line};
 pub use rule_files::{fetch_book, fetch_rules, fetch_schema};
 pub use status::Status;
 pub use table_files::{fetch_rows, fetch_table};

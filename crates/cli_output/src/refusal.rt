@@ -166,7 +166,8 @@ fn push_limit(line: &mut Vec<u8>, limit: Limit) -> Result<(), AllocError>
     line.extend_from_slice(limit_word(limit).as_bytes())
 }
 
-fn limit_word(limit: Limit) -> &'static str
+/// What there may be only so much of, in one word.
+pub fn limit_word(limit: Limit) -> &'static str
     ensures { result.now ≡ limit_text limit }
 {
     match limit {

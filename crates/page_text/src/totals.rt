@@ -1,11 +1,10 @@
 //! How many violations there are.
-ghost use Rattle.std.specs.Prelude.{◌≡◌, ◌+◌, IfOk, fold, map, max, sum, sum_by};
-ghost use Rattle.violation_groups.specs.Groups.{group_size, missing_size, value_size};
+ghost use Rattle.std.specs.Prelude.{◌≡◌, ◌+◌, IfOk, max, sum};
 ghost use Rattle.page_text.specs.Totals.{cind_totals, counts_of, dep_totals, largest};
 
 use std::alloc::{AllocError, Global};
 use text_lists::List;
-use violation_groups::{Findings, Group, Missing, ValueRows};
+use violation_groups::{Findings, Group, Missing, groups_size, missing_size, sum_of};
 
 /// The violations of each dependency, those of each inclusion, how many the rule has that has the most, and how many
 /// there are of all rules.
@@ -15,16 +14,6 @@ pub struct Counts {
     pub cinds: List<usize>,
     pub largest: usize,
     pub all: usize,
-}
-
-/// A number beyond the last of its type is told as want of memory.
-pub fn sum_of(one: usize, other: usize) -> Result<usize, AllocError>
-    ensures { IfOk result (λ sum. sum ≡ one + other) }
-{
-    match one.checked_add(other) {
-        Some(sum) => Ok(sum),
-        None => Err(AllocError),
-    }
 }
 
 pub fn counts_of(alloc: Global, findings: &Findings) -> Result<Counts, AllocError>
@@ -81,7 +70,7 @@ fn dep_totals(alloc: Global, all: &[List<Group>]) -> Result<List<usize>, AllocEr
 {
     let mut totals = List::new(alloc);
     for groups in all {
-        totals.push(groups_total(groups.as_slice())?)?;
+        totals.push(groups_size(groups.as_slice())?)?;
     }
     Ok(totals)
 }
@@ -91,38 +80,7 @@ fn cind_totals(alloc: Global, all: &[List<Missing>]) -> Result<List<usize>, Allo
 {
     let mut totals = List::new(alloc);
     for missing in all {
-        totals.push(missing_total(missing.as_slice())?)?;
+        totals.push(missing_size(missing.as_slice())?)?;
     }
     Ok(totals)
-}
-
-fn groups_total(groups: &[Group]) -> Result<usize, AllocError>
-    ensures { IfOk result (λ total. total ≡ sum_by group_size groups.now) }
-{
-    let mut total: usize = 0;
-    for group in groups {
-        let more = values_total(group.values.as_slice())?;
-        total = sum_of(total, more)?;
-    }
-    Ok(total)
-}
-
-fn values_total(values: &[ValueRows]) -> Result<usize, AllocError>
-    ensures { IfOk result (λ total. total ≡ sum_by value_size values.now) }
-{
-    let mut total: usize = 0;
-    for value in values {
-        total = sum_of(total, value.rows.as_slice().len())?;
-    }
-    Ok(total)
-}
-
-fn missing_total(all: &[Missing]) -> Result<usize, AllocError>
-    ensures { IfOk result (λ total. total ≡ sum_by missing_size all.now) }
-{
-    let mut total: usize = 0;
-    for missing in all {
-        total = sum_of(total, missing.rows.as_slice().len())?;
-    }
-    Ok(total)
 }

@@ -7,13 +7,13 @@ ghost use Rattle.page_text.specs.Markup.{markup};
 ghost use Rattle.page_text.specs.Words.{attr_code, attr_codes, cind_words, dep_words, dep_words_of, line_name, side_of, side_words, wanted, wanted_of};
 
 use crate::markup::{Piece, markup, push};
-use crate::totals::sum_of;
 use cfd_semantics::Pattern;
 use html_text::{item, push_between, push_bold, push_code, push_marked, push_size};
 use rule_model::{Cind, Dep, DepRow};
 use schema_core::{Attr, Table};
 use std::alloc::AllocError;
 use text_lists::Text;
+use violation_groups::sum_of;
 
 pub fn push_attr(out: &mut Vec<u8>, attrs: &[Attr], place: usize) -> Result<(), AllocError>
     ensures { OnOk result (out.new.items ≡ out.old.items ++ attr_code (slice_get attrs.now place)) }

@@ -1,11 +1,10 @@
 //! The limit that a file passed.
 ghost use Rattle.std.specs.Prelude.{◌≡◌, ◌++◌, OnOk, Some};
-ghost use Rattle.cli_output.specs.Refusals.{limit_text};
 ghost use Rattle.view_check.specs.Hints.{bytes_line, file_rows, room_text, rows_line, rows_told, size_line, table_room};
 ghost use Rattle.view_check.specs.Shown.{bound_shown, limit_in, limit_in_line, limit_in_rule, limit_in_rules, limit_in_schema, limit_value, most_line};
 
 use crate::counted::push_counted;
-use cli_output::{Cause, LineFlaw};
+use cli_output::{Cause, LineFlaw, limit_word};
 use csv_tables::TableFault;
 use rule_model::RuleFault;
 use rule_parser::ParseCause;
@@ -195,21 +194,5 @@ fn limit_value(limits: &Limits, limit: Limit) -> u64
         Limit::Edits => limits.edits,
         Limit::TableauRows => limits.tableau_rows,
         Limit::Commands => limits.commands,
-    }
-}
-
-/// What there may be only so much of, in one word.
-pub fn limit_word(limit: Limit) -> &'static str
-    ensures { result.now ≡ limit_text limit }
-{
-    match limit {
-        Limit::Tables => "tables",
-        Limit::Attrs => "attrs",
-        Limit::Values => "values",
-        Limit::Deps => "deps",
-        Limit::Cinds => "cinds",
-        Limit::Edits => "edits",
-        Limit::TableauRows => "tableau_rows",
-        Limit::Commands => "commands",
     }
 }

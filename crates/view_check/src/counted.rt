@@ -4,7 +4,7 @@ ghost use Rattle.std.specs.List.{after_first};
 ghost use Rattle.line_grammar.specs.FileLines.{file_lines};
 ghost use Rattle.view_check.specs.Counted.{capped, count_at, count_shown, counted_line, has_words, head_above, head_number, is_arrow, is_name, is_text, members_behind, on_line, one_if, right_names, tokens_on};
 
-use crate::bounds::limit_word;
+use cli_output::limit_word;
 use schema_core::{Content, FileLines, Limit, Line, List, Mark, Token, push_number};
 use std::alloc::{AllocError, Global};
 

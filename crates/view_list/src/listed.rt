@@ -1,20 +1,19 @@
 //! All violations, or those that are asked for.
 
-ghost use Rattle.std.specs.Prelude.{◌≡◌, ◌++◌, [], IfOk, OnOk, sum_by, zip, if◌then◌else◌};
+ghost use Rattle.std.specs.Prelude.{◌≡◌, ◌++◌, [], IfOk, OnOk, zip, if◌then◌else◌};
 ghost use Rattle.std.specs.List.{flat_map};
-ghost use Rattle.violation_groups.specs.Groups.{group_size, missing_size, value_size};
 ghost use Rattle.view_list.specs.Groups.{group_text, missing_text};
 ghost use Rattle.view_list.specs.Listed.{cind_head, cind_part, cind_text, dep_head, dep_part, dep_text, has_rule, is_asked, is_told, keys_text, list_body, list_refusal, list_text, read_of, refused_text, rule_refusal, table_refusal, title_text};
 
 use crate::attrs::{attrs_at, table_name};
 use crate::groups::push_group;
 use crate::missing::push_missing;
-use crate::pieces::{first_of, left_out, push_counted, push_more, sum_of};
+use crate::pieces::{first_of, left_out, push_counted, push_more};
 use rule_model::{Cind, Dep, RuleBook};
 use schema_core::{Attr, List, Schema, Text, push_quoted};
 use std::alloc::{AllocError, Global};
 use view_options::ListOptions;
-use violation_groups::{Findings, Group, Missing, ValueRows};
+use violation_groups::{Findings, Group, Missing, groups_size, missing_size};
 
 // ---- what is asked for
 
@@ -57,27 +56,6 @@ fn push_title(out: &mut Vec<u8>, kind: &[u8], name: &Text, table: &str) -> Resul
 }
 
 // ---- dependencies
-
-fn group_size(values: &[ValueRows]) -> Result<usize, AllocError>
-    ensures { IfOk result (λ size. size ≡ sum_by value_size values.now) }
-{
-    let mut size = 0;
-    for value in values {
-        size = sum_of(size, value.rows.as_slice().len())?;
-    }
-    Ok(size)
-}
-
-fn groups_size(groups: &[Group]) -> Result<usize, AllocError>
-    ensures { IfOk result (λ size. size ≡ sum_by group_size groups.now) }
-{
-    let mut size = 0;
-    for group in groups {
-        let more = group_size(group.values.as_slice())?;
-        size = sum_of(size, more)?;
-    }
-    Ok(size)
-}
 
 fn push_dep_head(
     out: &mut Vec<u8>,
@@ -164,16 +142,6 @@ fn push_deps(
 }
 
 // ---- inclusions
-
-fn missing_size(missing: &[Missing]) -> Result<usize, AllocError>
-    ensures { IfOk result (λ size. size ≡ sum_by missing_size missing.now) }
-{
-    let mut size = 0;
-    for key in missing {
-        size = sum_of(size, key.rows.as_slice().len())?;
-    }
-    Ok(size)
-}
 
 fn push_cind_head(
     out: &mut Vec<u8>,

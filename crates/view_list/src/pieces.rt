@@ -1,6 +1,6 @@
 //! Counts, ids, and lists that are cut.
 
-ghost use Rattle.std.specs.Prelude.{◌≡◌, ◌++◌, ◌+◌, ◌==◌, [], if◌then◌else◌, codes, IfOk, OnOk};
+ghost use Rattle.std.specs.Prelude.{◌≡◌, ◌++◌, ◌==◌, [], if◌then◌else◌, codes, OnOk};
 ghost use Rattle.std.specs.List.{flat_map};
 ghost use Rattle.view_list.specs.Pieces.{commas, counted, first_of, further, id_text, left_out, more_text, origin_text, rows_text};
 
@@ -131,14 +131,4 @@ pub fn push_rows(
     push_ids(out, read, first_of(rows, most))?;
     push_more(out, b" ", left, b"")?;
     out.extend_from_slice(b"\n")
-}
-
-/// The sum of two counts. One beyond the last number of its type is told as want of memory.
-pub fn sum_of(one: usize, other: usize) -> Result<usize, AllocError>
-    ensures { IfOk result (λ sum. sum ≡ one + other) }
-{
-    match one.checked_add(other) {
-        Some(sum) => Ok(sum),
-        None => Err(AllocError),
-    }
 }

@@ -11,6 +11,8 @@ mod groups;
 mod listed;
 mod missing_keys;
 mod named;
+mod sizes;
 
 pub use finding::findings;
 pub use groups::{Findings, Group, Missing, ValueRows};
+pub use sizes::{groups_size, missing_size, sum_of};

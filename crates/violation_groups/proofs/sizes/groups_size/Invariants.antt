@@ -1,6 +1,6 @@
 use Rattle.std.proofs.Common.{◌≡◌, sum_by, take}
 use Rattle.violation_groups.specs.Groups.{group_size}
-use Rattle.view_list.proofs.listed.groups_size.Given as goal
+use Rattle.violation_groups.proofs.sizes.groups_size.Given as goal
 
 abbrev pub invariant-loop-group : goal.invariant-loop-group
 invariant-loop-group l = l.size ≡ sum_by group_size (take l.group-index l.groups)
