@@ -1,6 +1,0 @@
-use Rattle.std.proofs.Common.{◌≡◌, take, map}
-use Rattle.bench_core.specs.Stored.{text_of}
-use Rattle.desk_state.proofs.rows.texts_of.Given as goal
-
-abbrev pub invariant-loop-id : goal.invariant-loop-id
-invariant-loop-id l = l.texts ≡ map (text_of l.pool) (take l.id-index l.id-items)
