@@ -1,7 +1,4 @@
 mod SeenSteps
-mod ItemAt
 mod Parts
-mod Ends
 mod Barred
 mod BenchRows
-mod BehindFirst

@@ -3,7 +3,6 @@ use Rattle.std.proofs.Common.{◌≡◌, ℕ, suc, ◌+◌, Bool, ◌&&◌, List
 use Rattle.std.specs.Prelude.{slice_get}
 use Rattle.schema_core.specs.declared.schema.Table.{Table}
 use Rattle.view_check.specs.CheckForm.{part_clean, part_text, tables_clean, tables_text, verdict_part, verdicts_text}
-use Rattle.view_check.specs.Full.{count_part, counts_text}
 use Rattle.view_check.specs.declared.verdicts.Verdict.{Verdict}
 
 next : (place : ℕ) → suc place ≡ place + 1
@@ -28,10 +27,3 @@ verdicts_text-more tables verdicts place out before after table verdict so_far t
     more ∙ ap (λ b. b ++ verdict_part table verdict) so_far ∙ append_assoc out (verdicts_text tables verdicts place) (verdict_part table verdict)
     ∙ ap (λ t. out ++ (verdicts_text tables verdicts place ++ verdict_part t verdict)) table_is ∙ ap (λ v. out ++ (verdicts_text tables verdicts place ++ verdict_part (slice_get tables place) v)) verdict_is
     ∙ ap (λ n. out ++ verdicts_text tables verdicts n) (next place)
-
-pub counts_text-more : (tables : List Table) (all : List (List (List (List ℕ)))) (place : ℕ) (out before after : List ℕ) (table : Option Table) (rows : Option (List (List (List ℕ)))) → before ≡ out ++ counts_text tables all place → table ≡ slice_get tables place → rows ≡ slice_get all place
-    → after ≡ before ++ count_part table rows → after ≡ out ++ counts_text tables all (place + 1)
-counts_text-more tables all place out before after table rows so_far table_is rows_are more =
-    more ∙ ap (λ b. b ++ count_part table rows) so_far ∙ append_assoc out (counts_text tables all place) (count_part table rows)
-    ∙ ap (λ t. out ++ (counts_text tables all place ++ count_part t rows)) table_is ∙ ap (λ r. out ++ (counts_text tables all place ++ count_part (slice_get tables place) r)) rows_are
-    ∙ ap (λ n. out ++ counts_text tables all n) (next place)

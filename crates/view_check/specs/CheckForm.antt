@@ -23,10 +23,10 @@ use Rattle.cli_output.specs.declared.status.Status.{Status}
 use Rattle.cli_output.specs.declared.status.Status.TheVariants.{Clean, Findings, Refused}
 use Rattle.cli_output.specs.Output.{Only, Outputs, Task}
 use Rattle.project_forms.specs.Project.{ProjectRead}
-use Rattle.view_check.specs.RowCounts.{count_line}
+use Rattle.view_refusal.specs.RowCounts.{count_line}
 use Rattle.view_check.specs.Rows.{all_rows}
 use Rattle.view_check.specs.Seen.{SeenRead, fetch_seen}
-use Rattle.view_check.specs.Shown.{off_text}
+use Rattle.view_refusal.specs.Shown.{off_text}
 use Rattle.view_check.specs.Verdicts.{AreVerdicts}
 use Rattle.view_check.specs.declared.cited.RowName.{RowName}
 use Rattle.view_check.specs.declared.values.MayStand.{MayStand}

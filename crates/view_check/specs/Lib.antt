@@ -1,11 +1,5 @@
 pub mod Seen
-pub mod Hints
-pub mod Misfits
-pub mod RowCounts
-pub mod Full
-pub mod Counted
 pub mod Rows
-pub mod Shown
 pub mod Cited
 pub mod ValueVerdicts
 pub mod Verdicts

@@ -12,10 +12,8 @@ ghost use Rattle.view_check.specs.CheckForm.{IsTold, check_outputs, check_task, 
 
 use crate::edits::push_edits;
 use crate::fetching::{Off, Seen, fetch_seen};
-use crate::items::item;
-use crate::names::{push_count, push_name};
+use crate::names::push_name;
 use crate::rows::all_rows;
-use crate::shown::off_text;
 use crate::verdicts::{Verdict, are_good, push_verdicts, verdicts};
 use bench_core::Bench;
 use cli_output::{Status, Stop, end_by, end_with};
@@ -28,6 +26,7 @@ use shelf_io::{Shelf, Sink};
 use std::alloc::{AllocError, Global};
 use std::sync::ledger::Ledger;
 use table_flaws::{Flaw, flaws_of};
+use view_refusal::{item, off_text, push_count};
 
 /// Tells what is off in a project before anything is asked: of each table how many rows were read, and what is odd in
 /// them, and what of the rules can't work; or why a file of the project is refused, its script among them, and what stands

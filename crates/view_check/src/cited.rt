@@ -5,12 +5,12 @@ ghost use Rattle.std.specs.Option.{option_copied};
 ghost use Rattle.rule_model.specs.declared.decl.Decl.TheVariants.{Cfd};
 ghost use Rattle.view_check.specs.Cited.{asking_row, asking_rows, cited_rows, clause_row, clause_rows, is_cited, is_row, row_name, written_in, written_rows};
 
-use crate::items::item;
 use case_tree::{Node, Reason};
 use cfd_semantics::Pattern;
 use rule_model::{CfdDecl, CfdRow, Decl, Dep, DepRow, RuleBook};
 use schema_core::{List, Text};
 use std::alloc::{AllocError, Global};
+use view_refusal::item;
 
 /// A tableau row of a rule, counted from 1.
 #[derive(Debug, Drop)]

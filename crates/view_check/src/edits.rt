@@ -3,10 +3,10 @@ ghost use Rattle.std.specs.Prelude.{◌≡◌, ◌++◌, IfOk, OnOk, Some};
 ghost use Rattle.std.specs.Option.{option_copied};
 ghost use Rattle.view_check.specs.CheckForm.{asks_outside, asks_target, edits_clean, edits_text, has_no_row, is_met, is_out, is_out_at, is_out_in, never_line, never_words, none_meets, why_never};
 
-use crate::items::item;
 use rule_model::{EditCell, EditRule};
 use schema_core::{Attr, Domain, List, Schema, Table, Text, Texts};
 use std::alloc::AllocError;
+use view_refusal::item;
 
 /// Tells the editing rules that never apply, and whether each may.
 pub fn push_edits(

@@ -16,15 +16,7 @@ use schema_core::{Limits, List, Schema, Text, Texts};
 use shelf_io::Shelf;
 use std::alloc::Global;
 use std::sync::ledger::Ledger;
-
-/// What is found once more where a file is refused, each where it can be read: the bytes of that file, the schema, and the
-/// rows of all tables, where together they are too many.
-#[derive(Drop)]
-pub struct Anew {
-    pub bytes: Option<List<u8>>,
-    pub schema: Option<Schema>,
-    pub tables: Option<List<List<Texts>>>,
-}
+use view_refusal::Anew;
 
 /// A refusal, with what is found once more.
 #[derive(Drop)]

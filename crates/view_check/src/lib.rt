@@ -3,23 +3,16 @@
 #![tactic(auto)]
 
 mod answer;
-mod bounds;
 mod cited;
-mod counted;
 mod edits;
 mod fetching;
-mod full;
-mod hints;
-mod items;
-mod misfits;
 mod names;
 mod rows;
-mod shown;
 mod values;
 mod verdicts;
 
 pub use answer::{Told, look_at_project, told_of, told_on};
 pub use cited::RowName;
-pub use fetching::{Anew, Off, Seen};
+pub use fetching::{Off, Seen};
 pub use values::{MayStand, ValueVerdict};
 pub use verdicts::Verdict;

@@ -1,11 +1,10 @@
 //! Tables and attributes by their names.
 ghost use Rattle.std.specs.Prelude.{◌≡◌, ◌++◌, OnOk, codes, slice_get};
 ghost use Rattle.view_check.specs.CheckForm.{attr_name};
-ghost use Rattle.view_check.specs.RowCounts.{count_line};
 
-use crate::items::item;
-use schema_core::{Table, push_number};
+use schema_core::Table;
 use std::alloc::AllocError;
+use view_refusal::item;
 
 pub fn push_table(out: &mut Vec<u8>, table: &Table) -> Result<(), AllocError>
     ensures { OnOk result (out.new.items ≡ out.old.items ++ (codes "table " ++ table.now.name)) }
@@ -21,15 +20,4 @@ pub fn push_name(out: &mut Vec<u8>, table: &Table, attr: usize) -> Result<(), Al
         Some(attr) => out.extend_from_slice(attr.name.as_str().as_bytes()),
         None => Ok(()),
     }
-}
-
-/// Tells how many rows of a table there are.
-pub fn push_count(out: &mut Vec<u8>, table: &Table, count: usize) -> Result<(), AllocError>
-    ensures { OnOk result (out.new.items ≡ out.old.items ++ count_line table.now count) }
-{
-    out.extend_from_slice(b"table ")?;
-    out.extend_from_slice(table.name.as_str().as_bytes())?;
-    out.extend_from_slice(b": ")?;
-    push_number(out, count as u64)?;
-    out.extend_from_slice(b" rows\n")
 }

@@ -10,7 +10,6 @@ ghost use Rattle.view_check.specs.CheckForm.{by_line, is_good, never_text, open_
 ghost use Rattle.view_check.specs.Verdicts.{AreVerdicts, IsVerdictFor};
 
 use crate::cited::{RowName, cited_rows};
-use crate::items::item;
 use crate::names::push_table;
 use crate::values::{ValueVerdict, may_all_stand, push_values_told, value_verdicts};
 use case_tree::Tree;
@@ -18,6 +17,7 @@ use cfd_consistency::{Consistency, consistent};
 use rule_model::RuleBook;
 use schema_core::{List, Table, Writes, push_list, push_number};
 use std::alloc::{AllocError, Global};
+use view_refusal::item;
 
 /// How many leaves a search for an answer may have.
 pub const BUDGET: u64 = 100_000;

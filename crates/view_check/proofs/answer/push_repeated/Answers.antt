@@ -1,7 +1,7 @@
 use Rattle.std.proofs.Common.{◌++◌, List, ℕ, ap, ◌∙◌, append_assoc}
 use Rattle.std.specs.Prelude.{codes}
 use Rattle.view_check.specs.CheckForm.{row_words}
-use Rattle.view_check.proofs.Ends.{ends_ok}
+use Rattle.view_refusal.proofs.Ends.{ends_ok}
 use Rattle.view_check.proofs.answer.push_repeated.Goals as goal
 
 pub returns : goal.returns

@@ -1,6 +1,6 @@
 use Rattle.std.proofs.Common.{◌∙◌}
 use Rattle.std.specs.Prelude.{codes}
-use Rattle.view_check.proofs.Ends.{ends_ok, three_pieces}
+use Rattle.view_refusal.proofs.Ends.{ends_ok, three_pieces}
 use Rattle.view_check.proofs.edits.push_never_words.Goals as goal
 
 pub returns : goal.returns

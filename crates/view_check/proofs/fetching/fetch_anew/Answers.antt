@@ -8,7 +8,7 @@ use Rattle.cli_output.specs.Fetching.{Fetching, ◌>>=◌, file, given}
 use Rattle.cli_output.specs.RuleFiles.{fetch_schema}
 use Rattle.cli_output.proofs.FetchingSteps.{fetches-given, fetches-next, fetches-stopped}
 use Rattle.view_check.specs.Seen.{again, all_if, anew, is_full}
-use Rattle.view_check.specs.declared.fetching.Anew.{Anew}
+use Rattle.view_refusal.specs.declared.Anew.{Anew}
 use Rattle.view_check.proofs.fetching.fetch_anew.Goals as goal
 
 -- what follows each step

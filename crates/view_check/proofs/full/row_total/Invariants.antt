@@ -1,6 +1,0 @@
-use Rattle.std.proofs.Common.{◌≡◌, take}
-use Rattle.view_check.specs.Full.{row_total}
-use Rattle.view_check.proofs.full.row_total.Given as goal
-
-abbrev pub invariant-loop-rows : goal.invariant-loop-rows
-invariant-loop-rows l = l.total ≡ row_total (take l.rows-index l.all)

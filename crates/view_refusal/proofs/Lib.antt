@@ -1,0 +1,4 @@
+mod ItemAt
+mod Parts
+pub mod Ends
+mod BehindFirst

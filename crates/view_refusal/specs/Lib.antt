@@ -1,0 +1,6 @@
+pub mod Hints
+pub mod Misfits
+pub mod RowCounts
+pub mod Full
+pub mod Counted
+pub mod Shown
