@@ -1,5 +1,5 @@
 -- A line that is no line of its file's grammar at its place: the mark where it leaves its form, and the form.
-use Rattle.std.specs.Prelude.{ℕ, ◌-◌, List, [], slice_get, Option, None, Some}
+use Rattle.std.specs.Prelude.{ℕ, ◌-◌, List, [], if◌then◌else◌, slice_get, Option, None, Some}
 use Rattle.line_grammar.specs.Lines.{lines}
 use Rattle.line_forms.specs.Fits.{told_below}
 use Rattle.line_forms.specs.Forms.{place_at}
@@ -13,6 +13,7 @@ use Rattle.cli_output.specs.declared.refusal.Cause.{Cause}
 use Rattle.cli_output.specs.declared.refusal.Cause.TheVariants as cause
 use Rattle.cli_output.specs.declared.refusal.LineFlaw.{LineFlaw}
 use Rattle.cli_output.specs.declared.refusal.LineFlaw.TheVariants as flaw
+use Rattle.view_refusal.specs.Showing.{is_short}
 use Rattle.view_refusal.specs.declared.misfits.Misfit.{Misfit}
 
 -- the line of that number, in a file whose first line stands at that place
@@ -38,9 +39,10 @@ misfit_in (cause.Rules line why) = rule_misfit line why
 misfit_in (cause.Line line why) = script_misfit line why
 misfit_in other = None
 
+-- nothing below a line that isn't shown
 abbrev pub told_at : Misfit → List ℕ → Option (List ℕ) → List ℕ
 told_at at bytes None = []
-told_at at bytes (Some line) = told_below (place_at at.start at.line bytes) at.line line
+told_at at bytes (Some line) = if is_short line then told_below (place_at at.start at.line bytes) at.line line else []
 
 abbrev pub told_in : Misfit → List ℕ → List ℕ
 told_in at bytes = told_at at bytes (slice_get (lines bytes) (at.line - 1))

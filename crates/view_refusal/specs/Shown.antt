@@ -26,6 +26,7 @@ use Rattle.view_refusal.specs.Counted.{count_shown}
 use Rattle.view_refusal.specs.Full.{full_text}
 use Rattle.view_refusal.specs.Hints.{hint_text, room_text}
 use Rattle.view_refusal.specs.Misfits.{misfit_in, misfit_text}
+use Rattle.view_refusal.specs.Showing.{shown}
 use Rattle.view_refusal.specs.declared.anew.Anew.{Anew}
 
 -- ---- a line
@@ -39,7 +40,7 @@ line_in other = None
 
 abbrev pub line_shown : ℕ → Option (List ℕ) → List ℕ
 line_shown number None = []
-line_shown number (Some line) = decimal number ++ codes " | " ++ line ++ codes "\n"
+line_shown number (Some line) = decimal number ++ codes " | " ++ shown line ++ codes "\n"
 
 -- the line of that number, where the file has one
 abbrev pub line_at : Option ℕ → Option (List ℕ) → List ℕ
@@ -66,7 +67,7 @@ record_in other = None
 
 abbrev pub record_shown : ℕ → Option (List (List ℕ)) → List ℕ
 record_shown number None = []
-record_shown number (Some fields) = codes "record " ++ decimal number ++ codes " | " ++ line_text (comma_separated value_parts fields) ++ codes "\n"
+record_shown number (Some fields) = codes "record " ++ decimal number ++ codes " | " ++ shown (line_text (comma_separated value_parts fields)) ++ codes "\n"
 
 -- the record of that number, its fields between quotes
 abbrev pub record_at : Option ℕ → Option (List ℕ) → List ℕ

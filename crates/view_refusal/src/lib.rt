@@ -10,6 +10,7 @@ mod hints;
 mod items;
 mod misfits;
 mod row_counts;
+mod showing;
 mod shown;
 
 pub use anew::Anew;

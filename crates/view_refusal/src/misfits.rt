@@ -3,6 +3,7 @@ ghost use Rattle.std.specs.Prelude.{◌≡◌, ◌++◌, OnOk};
 ghost use Rattle.std.specs.Option.{option_map};
 ghost use Rattle.view_refusal.specs.Misfits.{misfit_in, misfit_text, rule_misfit, schema_misfit, script_misfit, told_at, told_in};
 
+use crate::showing::is_short;
 use crate::shown::nth_line;
 use cli_output::{Cause, LineFlaw};
 use line_forms::{Place, place_at, push_fit};
@@ -103,6 +104,9 @@ fn push_at(
     let Some(line) = line else {
         return Ok(());
     };
+    if !is_short(line) {
+        return Ok(());
+    }
     let place = place_at(alloc, at.start, at.line, bytes)?;
     push_fit(alloc, out, place, at.line, line)
 }

@@ -12,6 +12,7 @@ use crate::bounds::{push_bound, push_room};
 use crate::full::push_full;
 use crate::hints::push_hint;
 use crate::misfits::push_misfit;
+use crate::showing::push_shown;
 use cli_output::{Cause, Refusal, refusal_line};
 use csv_tables::TableFault;
 use schema_core::{
@@ -75,7 +76,7 @@ fn push_line_of(out: &mut Vec<u8>, number: usize, bytes: &[u8]) -> Result<(), Al
     };
     push_number(out, number as u64)?;
     out.extend_from_slice(b" | ")?;
-    out.extend_from_slice(line)?;
+    push_shown(out, line)?;
     out.push(b'\n')?;
     Ok(())
 }
@@ -146,19 +147,26 @@ fn push_record_of(
     ensures { OnOk result (out.new.items ≡ out.old.items ++ record_shown number (text_record (slice_get (file_records bytes.now) number))) }
 {
     let found = record_at(alloc, bytes, number)?;
-    push_texts(out, number, &found)
+    push_texts(alloc, out, number, &found)
 }
 
-fn push_texts(out: &mut Vec<u8>, number: usize, found: &Option<Texts>) -> Result<(), AllocError>
+fn push_texts(
+    alloc: Global,
+    out: &mut Vec<u8>,
+    number: usize,
+    found: &Option<Texts>,
+) -> Result<(), AllocError>
     ensures { OnOk result (out.new.items ≡ out.old.items ++ record_shown number found.now) }
 {
     let Some(texts) = found else {
         return Ok(());
     };
+    let mut record = Vec::new(alloc);
+    push_list::<Values, Text>(&mut record, texts.as_slice())?;
     out.extend_from_slice(b"record ")?;
     push_number(out, number as u64)?;
     out.extend_from_slice(b" | ")?;
-    push_list::<Values, Text>(out, texts.as_slice())?;
+    push_shown(out, record.as_slice())?;
     out.push(b'\n')?;
     Ok(())
 }
