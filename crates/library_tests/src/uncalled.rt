@@ -1,5 +1,5 @@
-//! Calls that no program makes, each with ample memory: a dependency and a certificate are printed, the clauses of both
-//! questions about rules are made, and a line is told by itself.
+//! Calls that no program makes, each with ample memory: a dependency and a certificate are printed, a line is written from
+//! its parts, the clauses of both questions about rules are made, and a line of the list is told by itself.
 
 ghost use Rattle.std.specs.Prelude.{IfSome};
 ghost use Rattle.violation_report.specs.Text.{IsLineOf};
@@ -9,7 +9,7 @@ use cfd_consistency::consistency_clauses;
 use cfd_implication::implication_clauses;
 use rule_model::RuleBook;
 use rule_parser::{parse_dep, parse_rules, print_dep};
-use schema_core::{Limits, parse_schema};
+use schema_core::{Limits, Mark, Part, Token, parse_schema, push_line};
 use std::alloc::{AllocError, Global};
 use std::test::Fail;
 use violation_report::{Line, line_text};
@@ -21,6 +21,8 @@ const RULES: &[u8] = b"cfd f t: [A] -> [B]\nrow _ || 'x'\n";
 const DEP: &str = "t: [B] -> [A] row 'x' || _";
 
 const CERT: &[u8] = b"consistent t\nnever\nleaf clause 1\n";
+
+const WRITTEN: &[u8] = b": 7";
 
 const TOLD: &[u8] = b"single f.1 B t 7\n";
 
@@ -38,6 +40,17 @@ fn dep_is_printed(alloc: Global, book: &RuleBook) -> Result<bool, Fail> {
 fn cert_is_printed(alloc: Global) -> Result<bool, Fail> {
     let cert = parse_cert(alloc, CERT)?;
     Ok(print_cert(alloc, &cert)?.as_slice() == CERT)
+}
+
+fn line_is_written(alloc: Global) -> Result<bool, AllocError> {
+    let parts = [
+        Part::Token(Token::Sign(Mark::Colon)),
+        Part::Space,
+        Part::Token(Token::Number(7)),
+    ];
+    let mut line = Vec::new(alloc);
+    push_line(&mut line, parts.as_slice())?;
+    Ok(line.as_slice() == WRITTEN)
 }
 
 fn questions_have_clauses(alloc: Global, book: &RuleBook) -> Result<bool, Fail> {
@@ -77,6 +90,7 @@ fn with_ample_memory(rt: HostRuntime) -> Result<(), Fail> {
     let book = book(alloc)?;
     assert!(rt; dep_is_printed(alloc, &book)?);
     assert!(rt; cert_is_printed(alloc)?);
+    assert!(rt; line_is_written(alloc)?);
     assert!(rt; questions_have_clauses(alloc, &book)?);
     assert!(rt; line_is_told(alloc, &book)?);
     Ok(())

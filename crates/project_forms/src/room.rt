@@ -8,13 +8,13 @@ use hash_keys::HashKeys;
 #[derive(Drop)]
 pub struct Room {
     keys: HashKeys,
-    left: Option<Bench>,
+    bench: Option<Bench>,
 }
 
 impl Room {
     /// A room in which no call was made yet. It takes no memory.
     pub fn new(keys: HashKeys) -> Room {
-        Room { keys, left: None }
+        Room { keys, bench: None }
     }
 
     pub fn keys(&self) -> HashKeys {
@@ -23,6 +23,6 @@ impl Room {
 
     /// Keeps a bench that is used no more, in place of the one of a call before.
     pub(crate) fn keep(&mut self, bench: Bench) {
-        self.left = Some(bench);
+        self.bench = Some(bench);
     }
 }
