@@ -1,5 +1,5 @@
 -- How many there are of what a file has too many of.
-use Rattle.std.specs.Prelude.{ℕ, ◌-◌, ◌^◌, ◌==◌, ◌&&◌, ◌||◌, not, nat_le, nat_lt, min, max, Bool, true, false, List, [], ◌∷◌, ◌++◌, map, filter, count_by, sum_by, if◌then◌else◌, Option, None, Some, codes, decimal}
+use Rattle.std.specs.Prelude.{ℕ, ◌-◌, ◌^◌, ◌==◌, ◌&&◌, ◌||◌, not, nat_le, nat_lt, min, max, Bool, false, List, [], ◌∷◌, ◌++◌, map, filter, count_by, sum_by, if◌then◌else◌, Option, None, Some, codes, decimal}
 use Rattle.std.specs.List.{after_first, position_or_len}
 use Rattle.text_lists.specs.declared.limits.Limit.{Limit}
 use Rattle.text_lists.specs.declared.limits.Limit.TheVariants as limit
