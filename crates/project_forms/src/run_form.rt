@@ -38,7 +38,11 @@ pub fn run_project<S: Shelf, O: Sink, L: Ledger>(
 {
     let mut left = limits.all_bytes;
     match fetch_project(alloc, room.keys(), shelf, project, limits, &mut left, steps) {
-        Ok(project) => answer(alloc, room, project, out, steps),
+        Ok(mut project) => {
+            let status = answer(alloc, &mut project, out, steps);
+            room.keep(project.bench);
+            status
+        }
         Err(stop) => end_by(alloc, &stop, out),
     }
 }
@@ -46,25 +50,18 @@ pub fn run_project<S: Shelf, O: Sink, L: Ledger>(
 /// Answers the script, and tells whether its last state has a violation.
 fn answer<O: Sink, L: Ledger>(
     alloc: Global,
-    room: &mut Room,
-    project: Project,
+    project: &mut Project,
     out: &mut O,
     steps: &mut Steps<L>,
 ) -> Status
-    ensures ends { Ends (run_outputs (read_of project)) result (O.told out.old) (O.told out.new) }
-    ensures probes { IsWhole result → Writes (counted_from steps.old steps.new (read_of project)) result (O.told out.old).written (O.told out.new).written }
+    ensures ends { Ends (run_outputs (read_of project.old)) result (O.told out.old) (O.told out.new) }
+    ensures probes { IsWhole result → Writes (counted_from steps.old steps.new (read_of project.old)) result (O.told out.old).written (O.told out.new).written }
 {
-    let Project {
-        mut bench,
-        commands,
-    } = project;
-    let status = match serve(alloc, &mut bench, &commands, out, steps) {
-        Ok(()) => status_of(&bench),
+    match serve(alloc, &mut project.bench, &project.commands, out, steps) {
+        Ok(()) => status_of(&project.bench),
         Err(ServeFault::WriteFault) => Status::WriteFault,
         Err(ServeFault::Memory) => Status::Memory,
-    };
-    room.keep(bench);
-    status
+    }
 }
 
 // Nothing is counted or listed for it.

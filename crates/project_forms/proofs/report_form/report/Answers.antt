@@ -11,5 +11,5 @@ pub returns-in-Ok : goal.returns-in-Ok
 returns-in-Ok g c =
     let start = c.args.project.bench in
     let last = c.in-Ok.bench in
-    let told = subst (λ (rules : Book). Ends (report_of rules last.history.present) c.tell.result (g.O.Sink.told c.args.out.now) (g.O.Sink.told c.tell.new.out)) c.in-Ok.ensures.made_with.0 c.tell.ensures in
-    Ends-wider (report_of start.rules last.history.present) (report_outputs (read_of c.args.project)) (λ bytes status is. (last.history, c.in-Ok.ensures.leads, is, clean_where_satisfied start.rules last.history.present status is.1)) c.tell.result (g.O.Sink.told c.args.out.now) (g.O.Sink.told c.tell.new.out) told
+    let told = subst (λ (rules : Book). Ends (report_of rules last.history.present) c.tell-status.result (g.O.Sink.told c.args.out.now) (g.O.Sink.told c.tell-status.new.out)) c.in-Ok.ensures.made_with.0 c.tell-status.ensures in
+    Ends-wider (report_of start.rules last.history.present) (report_outputs (read_of c.args.project)) (λ bytes status is. (last.history, c.in-Ok.ensures.leads, is, clean_where_satisfied start.rules last.history.present status is.1)) c.tell-status.result (g.O.Sink.told c.args.out.now) (g.O.Sink.told c.tell-status.new.out) told

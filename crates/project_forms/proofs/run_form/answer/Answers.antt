@@ -27,24 +27,24 @@ told project status sink sink_after ends =
 
 pub returns-in-Ok-clause-ends : goal.returns-in-Ok-clause-ends
 returns-in-Ok-clause-ends g c =
-    let bench = c.args.project.bench in
+    let bench = c.args.project.now.bench in
     let last = c.serve.new.bench in
     let status = subst (λ (rules : Book). HasStatus (listing rules last.history.present) c.status_of.result) c.serve.ensures.made_with.0 (inl c.status_of.ensures) in
-    told (read_of c.args.project) c.status_of.result (g.O.Sink.told c.args.out.now) (g.O.Sink.told c.serve.new.out)
-    (ends-answered (IsReply bench.rules bench.limits) (λ (history : History). listing bench.rules history.present) bench.history c.args.project.commands last.history c.status_of.result (g.O.Sink.told c.args.out.now) (g.O.Sink.told c.serve.new.out) c.in-Ok.ensures.ok status)
+    told (read_of c.args.project.now) c.status_of.result (g.O.Sink.told c.args.out.now) (g.O.Sink.told c.serve.new.out)
+    (ends-answered (IsReply bench.rules bench.limits) (λ (history : History). listing bench.rules history.present) bench.history c.args.project.now.commands last.history c.status_of.result (g.O.Sink.told c.args.out.now) (g.O.Sink.told c.serve.new.out) c.in-Ok.ensures.ok status)
 
 pub returns-in-Err-WriteFault-clause-ends : goal.returns-in-Err-WriteFault-clause-ends
 returns-in-Err-WriteFault-clause-ends g c =
-    let bench = c.args.project.bench in
-    told (read_of c.args.project) _ (g.O.Sink.told c.args.out.now) (g.O.Sink.told c.serve.new.out)
-    (ends-write_fault (IsReply bench.rules bench.limits) (λ (history : History). listing bench.rules history.present) bench.history c.args.project.commands (reply_of bench.rules bench.limits) c.serve.new.bench.history (g.O.Sink.told c.args.out.now) (g.O.Sink.told c.serve.new.out)
+    let bench = c.args.project.now.bench in
+    told (read_of c.args.project.now) _ (g.O.Sink.told c.args.out.now) (g.O.Sink.told c.serve.new.out)
+    (ends-write_fault (IsReply bench.rules bench.limits) (λ (history : History). listing bench.rules history.present) bench.history c.args.project.now.commands (reply_of bench.rules bench.limits) c.serve.new.bench.history (g.O.Sink.told c.args.out.now) (g.O.Sink.told c.serve.new.out)
     c.in-Err-WriteFault.ensures.fault (c.in-Err-WriteFault.ensures.write_fault (ap Err c.in-Err-WriteFault.field-0-is)))
 
-pub returns-clause-ends : goal.returns-clause-ends
-returns-clause-ends g c =
-    let bench = c.args.project.bench in
-    told (read_of c.args.project) _ (g.O.Sink.told c.args.out.now) (g.O.Sink.told c.serve.new.out)
-    (ends-memory (IsReply bench.rules bench.limits) (λ (history : History). listing bench.rules history.present) bench.history c.args.project.commands (reply_of bench.rules bench.limits) c.serve.new.bench.history (g.O.Sink.told c.args.out.now) (g.O.Sink.told c.serve.new.out) c.in-Err-Memory.ensures.fault)
+pub returns-in-Err-Memory-clause-ends : goal.returns-in-Err-Memory-clause-ends
+returns-in-Err-Memory-clause-ends g c =
+    let bench = c.args.project.now.bench in
+    told (read_of c.args.project.now) _ (g.O.Sink.told c.args.out.now) (g.O.Sink.told c.serve.new.out)
+    (ends-memory (IsReply bench.rules bench.limits) (λ (history : History). listing bench.rules history.present) bench.history c.args.project.now.commands (reply_of bench.rules bench.limits) c.serve.new.bench.history (g.O.Sink.told c.args.out.now) (g.O.Sink.told c.serve.new.out) c.in-Err-Memory.ensures.fault)
 
 -- the transcripts that end in this state with so many probes, each with its status
 abbrev counted_at : ProjectRead → ℕ → Counted → Outputs
@@ -53,9 +53,9 @@ counted_at project begun last bytes status =
 
 pub returns-in-Ok-clause-probes : goal.returns-in-Ok-clause-probes
 returns-in-Ok-clause-probes g c = λ whole.
-    let bench = c.args.project.bench in
+    let bench = c.args.project.now.bench in
     let last = c.serve.new.bench in
-    let project = read_of c.args.project in
+    let project = read_of c.args.project.now in
     let before = (g.O.Sink.told c.args.out.now).written in
     let after = (g.O.Sink.told c.serve.new.out).written in
     let counted : Counted = (last.history, c.serve.new.steps) in

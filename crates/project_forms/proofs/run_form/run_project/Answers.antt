@@ -8,7 +8,7 @@ pub returns-in-Ok-clause-written : goal.returns-in-Ok-clause-written
 returns-in-Ok-clause-written g c =
     let limits = c.args.limits.now in
     output-found limits (run_task limits c.args.project.now) (g.S.Shelf.told c.args.shelf.now).holding (read_of c.in-Ok.project) c.in-Ok.ensures.fetches.gives
-    c.answer.result (g.O.Sink.told c.args.out.now).written (g.O.Sink.told c.answer.new.out).written c.answer.ensures.ends.writes
+    c.answer-status.result (g.O.Sink.told c.args.out.now).written (g.O.Sink.told c.answer-status.new.out).written c.answer-status.ensures.ends.writes
 
 pub returns-in-Err-clause-written : goal.returns-in-Err-clause-written
 returns-in-Err-clause-written g c =
@@ -21,10 +21,10 @@ returns-in-Ok-clause-probes g c = λ whole.
     let limits = c.args.limits.now in
     let project = read_of c.in-Ok.project in
     let before = (g.O.Sink.told c.args.out.now).written in
-    let after = (g.O.Sink.told c.answer.new.out).written in
-    output-found limits (counted_run_task c.args.steps.now c.answer.new.steps limits c.args.project.now) (g.S.Shelf.told c.args.shelf.now).holding project c.in-Ok.ensures.fetches.gives
-    c.answer.result before after
-    (Writes-wider (counted_from c.fetch_project.new.steps c.answer.new.steps project) (counted_outputs c.args.steps.now c.answer.new.steps project) (λ bytes status o. (c.fetch_project.new.steps, c.in-Ok.ensures.probes, o)) c.answer.result before after (c.answer.ensures.probes whole))
+    let after = (g.O.Sink.told c.answer-status.new.out).written in
+    output-found limits (counted_run_task c.args.steps.now c.answer-status.new.steps limits c.args.project.now) (g.S.Shelf.told c.args.shelf.now).holding project c.in-Ok.ensures.fetches.gives
+    c.answer-status.result before after
+    (Writes-wider (counted_from c.fetch_project.new.steps c.answer-status.new.steps project) (counted_outputs c.args.steps.now c.answer-status.new.steps project) (λ bytes status o. (c.fetch_project.new.steps, c.in-Ok.ensures.probes, o)) c.answer-status.result before after (c.answer-status.ensures.probes whole))
 
 pub returns-in-Err-clause-probes : goal.returns-in-Err-clause-probes
 returns-in-Err-clause-probes g c = λ whole.
