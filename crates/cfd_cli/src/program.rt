@@ -144,6 +144,7 @@ fn answer<S: Shelf, O: Sink, L: Ledger>(
     ensures unread { (form_task limits.now (Some form.now)).most_fetches ≡ 0 → result ≢ Status.ReadFault }
     ensures probes { IsWhole result → Writes (Output limits.now (counted_form_task steps.old steps.new limits.now (Some form.now)) (S.told shelf.old).holding) result (O.told out.old).written (O.told out.new).written }
 {
+    let keys = room.keys();
     match form {
         Form::Run { project } => run_project(alloc, room, project, shelf, out, limits, steps),
         Form::Report { project } => report_project(alloc, room, project, shelf, out, limits, steps),
@@ -170,7 +171,7 @@ fn answer<S: Shelf, O: Sink, L: Ledger>(
             support,
         } => find_project(
             alloc,
-            room.keys(),
+            keys,
             project,
             table,
             *width as usize,
@@ -179,16 +180,9 @@ fn answer<S: Shelf, O: Sink, L: Ledger>(
             out,
             limits,
         ),
-        Form::Desk { project, events } => desk_project(
-            alloc,
-            room.keys(),
-            project,
-            events,
-            shelf,
-            out,
-            limits,
-            steps,
-        ),
+        Form::Desk { project, events } => {
+            desk_project(alloc, keys, project, events, shelf, out, limits, steps)
+        }
         Form::Generate { seed } => generate_project(alloc, *seed, out, steps),
     }
 }
