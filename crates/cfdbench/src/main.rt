@@ -2,9 +2,10 @@
 //! status's number.
 #![tactic(auto)]
 
+use buffered_sink::BufferedSink;
 use cfd_cli::{Room, Status, run_in};
 use hash_keys::HashKeys;
-use shelf_io::{FolderShelf, StdSink};
+use shelf_io::{FolderShelf, PutFailed, Sink, StdSink};
 use std::alloc::AllocError;
 use std::env;
 use std::io::ErrorKind;
@@ -28,6 +29,14 @@ fn words_of<R: Env + AllocGlobal>(rt: &R) -> Result<Texts, AllocError> {
     Ok(words)
 }
 
+// How the call ended, once all that is held back is written.
+fn flushed<O: Sink>(out: &mut BufferedSink<O>, status: Status) -> Status {
+    match out.flush() {
+        Ok(()) => status,
+        Err(PutFailed) => Status::WriteFault,
+    }
+}
+
 // One line on standard error where the status alone says how the call ended.
 fn tell<R: Files>(rt: HostRuntime, status: Status, shelf: &FolderShelf<R>) {
     let _told = match (status, shelf.unread()) {
@@ -46,10 +55,11 @@ fn main(rt: HostRuntime) -> ExitCode {
     let status = match words_of(&rt) {
         Ok(words) => {
             let mut shelf = FolderShelf::new(alloc, rt);
-            let mut out = StdSink::new(rt);
+            let mut out = BufferedSink::new(alloc, StdSink::new(rt));
             let mut room = Room::new(HashKeys::drawn(&rt));
             let limits = Limits::standard();
             let status = run_in(alloc, &mut room, &words, &mut shelf, &mut out, limits);
+            let status = flushed(&mut out, status);
             tell(rt, status, &shelf);
             forget(room);
             status
