@@ -1,4 +1,2 @@
 pub mod Ends
-pub mod FullTables
 pub mod Reports
-pub mod TableLoop

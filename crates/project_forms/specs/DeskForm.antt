@@ -16,7 +16,7 @@ use Rattle.cli_output.specs.declared.status.Status.TheVariants.{Clean}
 use Rattle.cli_output.specs.Fetching.{Fetching, ◌>>=◌, about, file, given}
 use Rattle.cli_output.specs.Output.{Outputs, Task}
 use Rattle.cli_output.specs.RuleFiles.{fetch_rules, fetch_schema, spelled}
-use Rattle.project_forms.specs.Project.{Tables, fetch_bench, tables_of}
+use Rattle.project_files.specs.Project.{Tables, fetch_bench, tables_of}
 use Rattle.project_forms.specs.Transcripts.{found_status}
 use Rattle.project_forms.specs.declared.desk_form.DeskFiles.{DeskFiles}
 use Rattle.desk_state.specs.Desk.{DeskModel}

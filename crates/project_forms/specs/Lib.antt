@@ -1,6 +1,5 @@
 pub mod DeskForm
 pub mod GenerateForm
-pub mod Project
 pub mod ReportForm
 pub mod RunForm
 pub mod Transcripts

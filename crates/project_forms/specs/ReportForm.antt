@@ -9,7 +9,7 @@ use Rattle.violation_report.specs.Listing.{IsSatisfied, listing}
 use Rattle.violation_report.specs.Report.{report_text}
 use Rattle.cli_output.specs.Output.{Outputs, Task}
 use Rattle.cli_output.specs.declared.status.Status.TheVariants.{Clean}
-use Rattle.project_forms.specs.Project.{LeadsTo, ProjectRead, fetch_project}
+use Rattle.project_files.specs.Project.{LeadsTo, ProjectRead, fetch_project}
 use Rattle.project_forms.specs.Transcripts.{found_status}
 
 -- the report of a state, and its status

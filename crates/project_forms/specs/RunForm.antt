@@ -9,7 +9,7 @@ use Rattle.session.specs.Replies.{IsReply}
 use Rattle.cli_output.specs.Output.{Outputs, Task}
 use Rattle.cli_output.specs.declared.status.Status.TheVariants.{Clean}
 use Rattle.shelf_io.specs.Transcript.{IsTranscript}
-use Rattle.project_forms.specs.Project.{ProjectRead, fetch_project}
+use Rattle.project_files.specs.Project.{ProjectRead, fetch_project}
 use Rattle.project_forms.specs.Transcripts.{found_status}
 
 -- The status is Clean exactly where the rows of the last state satisfy all rules.

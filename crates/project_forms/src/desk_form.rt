@@ -8,7 +8,6 @@ ghost use Rattle.cli_output.specs.Output.{Ends, Output, UsesDevices, Writes};
 ghost use Rattle.cli_output.specs.RuleFiles.{spelled};
 ghost use Rattle.project_forms.specs.DeskForm.{desk_outputs, desk_task, event_line, fetch_desk, fetch_events, flaw_of, read_of};
 
-use crate::project::fetch_bench;
 use crate::run_form::status_of;
 use bench_core::Bench;
 use cli_output::{
@@ -17,6 +16,7 @@ use cli_output::{
 use desk::{Desk, DeskFault, Event, EventCause, EventFault, parse_events, serve_desk};
 use hash_keys::HashKeys;
 use probe_steps::Steps;
+use project_files::fetch_bench;
 use schema_core::{Limits, List, Text};
 use shelf_io::{Shelf, Sink};
 use std::alloc::Global;

@@ -1,15 +1,14 @@
 //! The form `report PROJECT`: the list of the state that the project's script leads to, as JSON.
 ghost use Rattle.text_lists.specs.Limits.{AreLimits};
 ghost use Rattle.cli_output.specs.Output.{Ends, Output, UsesDevices, Writes};
-ghost use Rattle.project_forms.specs.Project.{read_of};
+ghost use Rattle.project_files.specs.Project.{read_of};
 ghost use Rattle.project_forms.specs.ReportForm.{report_of, report_outputs, report_task};
 
-use crate::project::{Project, after_script, fetch_project};
-use crate::room::Room;
 use crate::run_form::status_of;
 use bench_core::Bench;
 use cli_output::{Status, end_by, end_with};
 use probe_steps::Steps;
+use project_files::{Project, Room, after_script, fetch_project};
 use schema_core::{Limits, Text};
 use shelf_io::{Shelf, Sink};
 use std::alloc::{AllocError, Global};

@@ -3,15 +3,14 @@ ghost use Rattle.std.specs.Prelude.{◌≡◌};
 ghost use Rattle.text_lists.specs.Limits.{AreLimits};
 ghost use Rattle.violation_report.specs.Listing.{listing};
 ghost use Rattle.cli_output.specs.Output.{Ends, IsWhole, Output, UsesDevices, Writes};
-ghost use Rattle.project_forms.specs.Project.{read_of};
+ghost use Rattle.project_files.specs.Project.{read_of};
 ghost use Rattle.project_forms.specs.RunForm.{counted_from, counted_run_task, run_outputs, run_task};
 ghost use Rattle.project_forms.specs.Transcripts.{found_status};
 
-use crate::project::{Project, fetch_project};
-use crate::room::Room;
 use bench_core::Bench;
 use cli_output::{Status, end_by};
 use probe_steps::Steps;
+use project_files::{Project, Room, fetch_project};
 use schema_core::{Limits, Text};
 use session::{ServeFault, serve};
 use shelf_io::{Shelf, Sink};

@@ -12,7 +12,7 @@ use Rattle.desk.proofs.EachHasReply.{reply_of}
 use Rattle.cli_output.specs.declared.status.Status.{Status}
 use Rattle.cli_output.specs.Output.{Ends}
 use Rattle.cli_output.proofs.Outputs.{Ends-wider}
-use Rattle.project_forms.specs.Project.{Tables}
+use Rattle.project_files.specs.Project.{Tables}
 use Rattle.project_forms.specs.DeskForm.{DeskRead, desk_outputs, opened, read_of}
 use Rattle.project_forms.specs.Transcripts.{HasStatus, transcripts}
 use Rattle.project_forms.proofs.Ends.{ends-answered, ends-memory, ends-write_fault}

@@ -7,7 +7,7 @@ use Rattle.desk_events.specs.declared.event.Event.{Event}
 use Rattle.project_forms.specs.declared.desk_form.DeskFiles.{DeskFiles}
 use Rattle.cli_output.specs.Fetching.{Fetching, ◌>>=◌, given}
 use Rattle.cli_output.specs.RuleFiles.{fetch_rules, fetch_schema}
-use Rattle.project_forms.specs.Project.{Tables, fetch_bench, tables_of}
+use Rattle.project_files.specs.Project.{Tables, fetch_bench, tables_of}
 use Rattle.project_forms.specs.DeskForm.{DeskRead, fetch_desk, fetch_events, read_of}
 use Rattle.cli_output.proofs.FetchingSteps.{fetches-given, fetches-next, fetches-stopped}
 use Rattle.project_forms.proofs.desk_form.fetch_desk.Goals as goal

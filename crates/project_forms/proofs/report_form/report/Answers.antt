@@ -1,7 +1,7 @@
 use Rattle.std.proofs.Common.{subst}
 use Rattle.rule_model.specs.Books.{Book}
 use Rattle.project_forms.specs.ReportForm.{report_of, report_outputs}
-use Rattle.project_forms.specs.Project.{read_of}
+use Rattle.project_files.specs.Project.{read_of}
 use Rattle.cli_output.specs.Output.{Ends}
 use Rattle.cli_output.proofs.Outputs.{Ends-wider}
 use Rattle.project_forms.proofs.Reports.{clean_where_satisfied}

@@ -1,6 +1,6 @@
 use Rattle.std.proofs.Common.{arith}
 use Rattle.project_forms.specs.ReportForm.{report_task}
-use Rattle.project_forms.specs.Project.{read_of}
+use Rattle.project_files.specs.Project.{read_of}
 use Rattle.cli_output.proofs.Outputs.{output-found, output-stopped, uses-stopped}
 use Rattle.project_forms.proofs.report_form.report_project.Goals as goal
 

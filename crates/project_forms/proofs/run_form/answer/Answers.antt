@@ -10,7 +10,7 @@ use Rattle.session.proofs.EachHasReply.{reply_of}
 use Rattle.cli_output.specs.declared.status.Status.{Status}
 use Rattle.cli_output.specs.Output.{Ends, Outputs}
 use Rattle.cli_output.proofs.Outputs.{Ends-wider, Writes-wider}
-use Rattle.project_forms.specs.Project.{ProjectRead, read_of}
+use Rattle.project_files.specs.Project.{ProjectRead, read_of}
 use Rattle.project_forms.specs.RunForm.{counted_from, run_outputs}
 use Rattle.project_forms.specs.Transcripts.{HasStatus, found_status, transcripts}
 use Rattle.project_forms.proofs.Ends.{ends-answered, ends-memory, ends-write_fault, whole-answered}

@@ -1,6 +1,6 @@
 use Rattle.std.proofs.Common.{arith}
 use Rattle.project_forms.specs.RunForm.{counted_from, counted_outputs, counted_run_task, run_task}
-use Rattle.project_forms.specs.Project.{read_of}
+use Rattle.project_files.specs.Project.{read_of}
 use Rattle.cli_output.proofs.Outputs.{Writes-wider, output-found, output-stopped, uses-stopped}
 use Rattle.project_forms.proofs.run_form.run_project.Goals as goal
 

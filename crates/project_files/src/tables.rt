@@ -6,7 +6,7 @@ ghost use Rattle.schema_core.specs.Rows.{IsRowOf};
 ghost use Rattle.bench_core.specs.Indexed.{load_probes};
 ghost use Rattle.bench_core.specs.Loading.{AreTables, loaded};
 ghost use Rattle.cli_output.specs.Fetching.{Fetches, Reads};
-ghost use Rattle.project_forms.specs.Project.{bench_of, fetch_tables, tables_of};
+ghost use Rattle.project_files.specs.Project.{bench_of, fetch_tables, tables_of};
 
 use bench_core::{Bench, LoadFault};
 use cli_output::{Cause, Stop, fetch_rows, fetch_table, refused};

@@ -22,7 +22,7 @@ impl Room {
     }
 
     /// Keeps a bench that is used no more, in place of the one of a call before.
-    pub(crate) fn keep(&mut self, bench: Bench) {
+    pub fn keep(&mut self, bench: Bench) {
         self.bench = Some(bench);
     }
 }

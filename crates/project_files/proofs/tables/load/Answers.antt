@@ -2,9 +2,9 @@ use Rattle.std.proofs.Common.{ap, map, sym, subst, ◌∙◌, arith}
 use Rattle.schema_core.specs.declared.schema.Schema.{Schema}
 use Rattle.schema_core.specs.declared.schema.Table.{Table}
 use Rattle.cli_output.specs.Fetching.{Reads}
-use Rattle.project_forms.specs.Project.{tables_of}
-use Rattle.project_forms.proofs.FullTables.{full_refusal, loaded_bench, refused_reads, told_name}
-use Rattle.project_forms.proofs.tables.load.Goals as goal
+use Rattle.project_files.specs.Project.{tables_of}
+use Rattle.project_files.proofs.FullTables.{full_refusal, loaded_bench, refused_reads, told_name}
+use Rattle.project_files.proofs.tables.load.Goals as goal
 
 pub bounds-as_slice-table : goal.bounds-as_slice-table
 bounds-as_slice-table g c =

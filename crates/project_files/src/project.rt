@@ -6,7 +6,7 @@ ghost use Rattle.bench_core.specs.Indexed.{load_probes};
 ghost use Rattle.session.specs.Scripts.{script_of};
 ghost use Rattle.cli_output.specs.Fetching.{Fetches, Reads, about};
 ghost use Rattle.cli_output.specs.RuleFiles.{spelled};
-ghost use Rattle.project_forms.specs.Project.{LeadsTo, fetch_bench, fetch_commands, fetch_project, flaw_of, read_of, script_line, tables_of};
+ghost use Rattle.project_files.specs.Project.{LeadsTo, fetch_bench, fetch_commands, fetch_project, flaw_of, read_of, script_line, tables_of};
 
 use crate::tables::{fetch_pooled, load};
 use bench_core::Bench;

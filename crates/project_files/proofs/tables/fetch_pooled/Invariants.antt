@@ -1,6 +1,6 @@
 use Rattle.std.proofs.Common.{◌≡◌, []}
-use Rattle.project_forms.proofs.TableLoop.{IsUnderWay}
-use Rattle.project_forms.proofs.tables.fetch_pooled.Given as goal
+use Rattle.project_files.proofs.TableLoop.{IsUnderWay}
+use Rattle.project_files.proofs.tables.fetch_pooled.Given as goal
 
 abbrev pub invariant-loop-table : goal.invariant-loop-table
 invariant-loop-table g l = record {

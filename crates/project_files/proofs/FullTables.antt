@@ -21,7 +21,7 @@ use Rattle.cli_output.specs.declared.fetching.Stop.TheVariants as stop
 use Rattle.cli_output.specs.declared.refusal.Cause.TheVariants.{RowsFull}
 use Rattle.cli_output.specs.declared.refusal.Refusal.{Refusal}
 use Rattle.cli_output.specs.Fetching.{Reads, refusal_in}
-use Rattle.project_forms.specs.Project.{Tables, begins_with, bench_of, tables_of}
+use Rattle.project_files.specs.Project.{Tables, begins_with, bench_of, tables_of}
 
 over_place : (full : Option ℕ) (state : State) (table : ℕ) → unless_found full state ≡ Err table → full ≡ Some table
 over_place None state table is = absurd (cc)

@@ -15,7 +15,7 @@ use Rattle.session.specs.Scripts.{script_of}
 use Rattle.session.specs.declared.command.Command.{Command}
 use Rattle.session.specs.declared.command.ScriptCause.{ScriptCause}
 use Rattle.session.specs.declared.command.ScriptCause.TheVariants as script
-use Rattle.project_forms.specs.declared.project.Project.{Project}
+use Rattle.project_files.specs.declared.project.Project.{Project}
 use Rattle.cli_output.specs.declared.refusal.Cause.{Cause}
 use Rattle.cli_output.specs.declared.refusal.Cause.TheVariants as cause
 use Rattle.cli_output.specs.declared.refusal.LineFlaw.{LineFlaw}

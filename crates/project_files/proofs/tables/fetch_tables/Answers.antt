@@ -4,8 +4,8 @@ use Rattle.std.proofs.lemmas.List.{take_all}
 use Rattle.std.proofs.lemmas.Result.{err_from_is_err_and}
 use Rattle.cli_output.specs.TableFiles.{fetch_table}
 use Rattle.cli_output.proofs.EachLoop.{under_way-all, under_way-next, under_way-none, under_way-stopped}
-use Rattle.project_forms.proofs.TableLoop.{AreRowsOf, IsUnderWay, AllZip-take_more}
-use Rattle.project_forms.proofs.tables.fetch_tables.Goals as goal
+use Rattle.project_files.proofs.TableLoop.{AreRowsOf, IsUnderWay, AllZip-take_more}
+use Rattle.project_files.proofs.tables.fetch_tables.Goals as goal
 
 pub loop-table-init : goal.loop-table-init
 loop-table-init g c =

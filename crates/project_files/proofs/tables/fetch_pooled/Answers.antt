@@ -9,10 +9,10 @@ use Rattle.cli_output.specs.Fetching.{Fetches}
 use Rattle.cli_output.specs.TableFiles.{fetch_table}
 use Rattle.cli_output.proofs.EachLoop as each
 use Rattle.cli_output.proofs.EachLoop.{under_way-all, under_way-none, under_way-stopped}
-use Rattle.project_forms.specs.Project.{fetch_tables}
-use Rattle.project_forms.proofs.TableLoop.{AreRowsOf, IsUnderWay, AllZip-take_more, fetched-as, fetched-in, stopped-as, under_way-out}
-use Rattle.project_forms.proofs.tables.fetch_pooled.Goals as goal
-use Rattle.project_forms.proofs.tables.fetch_pooled.Goals.{In_ok-fetch_rows}
+use Rattle.project_files.specs.Project.{fetch_tables}
+use Rattle.project_files.proofs.TableLoop.{AreRowsOf, IsUnderWay, AllZip-take_more, fetched-as, fetched-in, stopped-as, under_way-out}
+use Rattle.project_files.proofs.tables.fetch_pooled.Goals as goal
+use Rattle.project_files.proofs.tables.fetch_pooled.Goals.{In_ok-fetch_rows}
 
 pub loop-table-init : goal.loop-table-init
 loop-table-init g c =

@@ -4,12 +4,12 @@ use Rattle.text_lists.specs.declared.limits.Limits.{Limits}
 use Rattle.schema_core.specs.declared.schema.Schema.{Schema}
 use Rattle.rule_model.specs.Books.{Book}
 use Rattle.session.specs.declared.command.Command.{Command}
-use Rattle.project_forms.specs.declared.project.Project.{Project}
+use Rattle.project_files.specs.declared.project.Project.{Project}
 use Rattle.cli_output.specs.Fetching.{Fetching, ◌>>=◌, given}
 use Rattle.cli_output.specs.RuleFiles.{fetch_rules, fetch_schema}
-use Rattle.project_forms.specs.Project.{ProjectRead, Tables, fetch_bench, fetch_commands, fetch_project, read_of, tables_of}
+use Rattle.project_files.specs.Project.{ProjectRead, Tables, fetch_bench, fetch_commands, fetch_project, read_of, tables_of}
 use Rattle.cli_output.proofs.FetchingSteps.{fetches-given, fetches-next, fetches-same, fetches-stopped}
-use Rattle.project_forms.proofs.project.fetch_project.Goals as goal
+use Rattle.project_files.proofs.project.fetch_project.Goals as goal
 
 -- what follows each step
 

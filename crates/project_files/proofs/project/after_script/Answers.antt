@@ -1,4 +1,4 @@
-use Rattle.project_forms.proofs.project.after_script.Goals as goal
+use Rattle.project_files.proofs.project.after_script.Goals as goal
 
 pub returns-in-Ok-clause-leads : goal.returns-in-Ok-clause-leads
 returns-in-Ok-clause-leads g c =
