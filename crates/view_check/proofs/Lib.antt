@@ -1,4 +1,1 @@
 mod SeenSteps
-mod Parts
-mod Barred
-mod BenchRows

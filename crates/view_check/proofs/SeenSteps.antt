@@ -12,8 +12,8 @@ use Rattle.cli_output.specs.declared.refusal.Refusal.{Refusal}
 use Rattle.cli_output.specs.Fetching.{Fetches, Fetching, IsReadFault, NoneIsAbsent, OrRefusal, Outcome, refusal_in}
 use Rattle.cli_output.proofs.Faults.{Rose-from, same_fault}
 use Rattle.cli_output.proofs.FetchingSteps.{none_absent}
-use Rattle.project_forms.specs.Project.{ProjectRead, fetch_project, read_of}
-use Rattle.project_forms.specs.declared.project.Project.{Project}
+use Rattle.project_files.specs.Project.{ProjectRead, fetch_project, read_of}
+use Rattle.project_files.specs.declared.project.Project.{Project}
 use Rattle.view_check.specs.Seen.{again, fetch_seen, is_absent, off_unless, passed_over, passing_over, seen_after, seen_of}
 use Rattle.view_check.specs.declared.fetching.Seen.{Seen}
 use Rattle.view_check.specs.declared.fetching.Seen.TheVariants.{Whole}

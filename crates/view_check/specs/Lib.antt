@@ -1,6 +1,2 @@
 pub mod Seen
-pub mod Rows
-pub mod Cited
-pub mod ValueVerdicts
-pub mod Verdicts
 pub mod CheckForm

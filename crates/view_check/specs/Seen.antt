@@ -12,7 +12,7 @@ use Rattle.cli_output.specs.declared.refusal.Cause.TheVariants as cause
 use Rattle.cli_output.specs.declared.refusal.Refusal.{Refusal}
 use Rattle.cli_output.specs.Fetching.{Fetching, OrRefusal, Outcome, ◌>>=◌, file, given}
 use Rattle.cli_output.specs.RuleFiles.{fetch_schema}
-use Rattle.project_forms.specs.Project.{ProjectRead, fetch_project, fetch_tables, read_of}
+use Rattle.project_files.specs.Project.{ProjectRead, fetch_project, fetch_tables, read_of}
 use Rattle.view_refusal.specs.declared.Anew.{Anew}
 use Rattle.view_check.specs.declared.fetching.Off.{Off}
 use Rattle.view_check.specs.declared.fetching.Seen.{Seen}

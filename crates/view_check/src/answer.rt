@@ -1,40 +1,31 @@
 //! What is told of a project.
-ghost use Rattle.std.specs.Prelude.{◌≡◌, ◌++◌, ◌&&◌, ◌<◌, IfOk, OnOk, length};
-ghost use Rattle.std.specs.List.{flat_map};
-ghost use Rattle.std.specs.Option.{option_copied};
 ghost use Rattle.text_lists.specs.Limits.{AreLimits};
-ghost use Rattle.table_flaws.specs.declared.flaws.Flaw.TheVariants.{Long, Repeated, Spaced};
-ghost use Rattle.cli_output.specs.Output.{Ends, IsWhole, Output, UsesDevices, Writes};
-ghost use Rattle.project_forms.specs.Project.{read_of};
-ghost use Rattle.view_check.specs.Rows.{all_rows};
+ghost use Rattle.cli_output.specs.Output.{Ends, Output, UsesDevices, Writes};
+ghost use Rattle.project_files.specs.Project.{read_of};
+ghost use Rattle.project_flaws.specs.Rows.{all_rows};
+ghost use Rattle.project_flaws.specs.Told.{IsTold};
 ghost use Rattle.view_check.specs.Seen.{seen_of};
-ghost use Rattle.view_check.specs.CheckForm.{IsTold, check_outputs, check_task, flaw_line, has_no_flaw, is_clean, off_outputs, part_clean, part_text, read_outputs, row_words, status_of, table_text, tables_clean, tables_text, whole_text};
+ghost use Rattle.view_check.specs.CheckForm.{check_outputs, check_task, off_outputs, read_outputs};
 
-use crate::edits::push_edits;
 use crate::fetching::{Off, Seen, fetch_seen};
-use crate::names::push_name;
-use crate::rows::all_rows;
-use crate::verdicts::{Verdict, are_good, push_verdicts, verdicts};
 use bench_core::Bench;
 use cli_output::{Status, Stop, end_by, end_with};
-use hash_keys::HashKeys;
 use probe_steps::Steps;
-use project_forms::Project;
-use rule_model::RuleBook;
-use schema_core::{Limits, List, Table, Text, Texts, push_number};
+use project_files::{Project, Room};
+use project_flaws::told_on;
+use schema_core::{Limits, Text};
 use shelf_io::{Shelf, Sink};
 use std::alloc::{AllocError, Global};
 use std::sync::ledger::Ledger;
-use table_flaws::{Flaw, flaws_of};
-use view_refusal::{item, off_text, push_count};
+use view_refusal::off_text;
 
 /// Tells what is off in a project before anything is asked: of each table how many rows were read, and what is odd in
 /// them, and what of the rules can't work; or why a file of the project is refused, its script among them, and what stands
-/// where the refusal points. The script isn't run. Values are looked up by a hash with these keys. Nothing reads the
-/// counter of index probes.
+/// where the refusal points. The script isn't run. Values are looked up by a hash with the room's keys, and the
+/// bench is left in the room. Nothing reads the counter of index probes.
 pub fn look_at_project<S: Shelf, O: Sink, L: Ledger>(
     alloc: Global,
-    keys: HashKeys,
+    room: &mut Room,
     project: &Text,
     shelf: &mut S,
     out: &mut O,
@@ -46,18 +37,24 @@ pub fn look_at_project<S: Shelf, O: Sink, L: Ledger>(
     ensures devices { UsesDevices limits.now (check_task limits.now project.now) result (S.told shelf.old) (S.told shelf.new) (O.told out.old) (O.told out.new) }
 {
     let mut left = limits.all_bytes;
-    match fetch_seen(alloc, keys, shelf, project, limits, &mut left, steps) {
-        Ok(seen) => answer(alloc, limits, &seen, out),
+    match fetch_seen(alloc, room.keys(), shelf, project, limits, &mut left, steps) {
+        Ok(seen) => answer(alloc, room, limits, seen, out),
         Err(stop) => end_by(alloc, &stop, out),
     }
 }
 
-fn answer<O: Sink>(alloc: Global, limits: &Limits, seen: &Seen, out: &mut O) -> Status
-    ensures { Ends (check_outputs limits.now (seen_of seen.now)) result (O.told out.old) (O.told out.new) }
+fn answer<O: Sink>(
+    alloc: Global,
+    room: &mut Room,
+    limits: &Limits,
+    seen: Seen,
+    out: &mut O,
+) -> Status
+    ensures { Ends (check_outputs limits.now (seen_of seen)) result (O.told out.old) (O.told out.new) }
 {
     match seen {
-        Seen::Whole(project) => tell_whole(alloc, project, out),
-        Seen::Off(off) => tell_off(alloc, limits, off, out),
+        Seen::Whole(project) => tell_whole(alloc, room, project, out),
+        Seen::Off(off) => tell_off(alloc, limits, &off, out),
     }
 }
 
@@ -70,188 +67,19 @@ fn tell_off<O: Sink>(alloc: Global, limits: &Limits, off: &Off, out: &mut O) -> 
     }
 }
 
-fn tell_whole<O: Sink>(alloc: Global, project: &Project, out: &mut O) -> Status
-    ensures { Ends (read_outputs (read_of project.now)) result (O.told out.old) (O.told out.new) }
+fn tell_whole<O: Sink>(alloc: Global, room: &mut Room, project: Project, out: &mut O) -> Status
+    ensures { Ends (read_outputs (read_of project)) result (O.told out.old) (O.told out.new) }
 {
-    match told_on(alloc, &project.bench) {
+    let status = tell_bench(alloc, &project.bench, out);
+    room.keep(project.bench);
+    status
+}
+
+fn tell_bench<O: Sink>(alloc: Global, bench: &Bench, out: &mut O) -> Status
+    ensures { Ends (IsTold bench.now.rules (all_rows bench.now.history.present)) result (O.told out.old) (O.told out.new) }
+{
+    match told_on(alloc, bench) {
         Ok(told) => end_with(out, &told.text, told.status),
         Err(AllocError) => end_by(alloc, &Stop::Memory, out),
     }
-}
-
-/// What is told of a project, and how the call ends.
-#[derive(Drop)]
-pub struct Told {
-    pub text: Vec<u8>,
-    pub status: Status,
-}
-
-fn status_of(clean: bool) -> Status
-    ensures status { result ≡ status_of clean }
-    ensures whole { IsWhole result }
-{
-    if clean {
-        Status::Clean
-    } else {
-        Status::Findings
-    }
-}
-
-/// What is off in a project that was read, by the rows that its bench has.
-pub fn told_on(alloc: Global, bench: &Bench) -> Result<Told, AllocError>
-    ensures told { IfOk result (λ told. IsTold bench.now.rules (all_rows bench.now.history.present) told.text.items told.status) }
-    ensures whole { IfOk result (λ told. IsWhole told.status) }
-{
-    let all = all_rows(alloc, bench)?;
-    told_of(
-        alloc,
-        bench.pool().hash_keys(),
-        bench.rules(),
-        all.as_slice(),
-    )
-}
-
-/// What is off in a project that was read: its rules, and the rows of its tables in the order of the schema. Where the
-/// rows of a table are missing, nothing is told of them.
-pub fn told_of(
-    alloc: Global,
-    keys: HashKeys,
-    rules: &RuleBook,
-    tables: &[List<Texts>],
-) -> Result<Told, AllocError>
-    ensures told { IfOk result (λ told. IsTold rules.now tables.now told.text.items told.status) }
-    ensures whole { IfOk result (λ told. IsWhole told.status) }
-{
-    let verdicts = verdicts(alloc, rules)?;
-    let mut text = Vec::new(alloc);
-    let clean = push_whole(alloc, keys, &mut text, rules, tables, verdicts.as_slice())?;
-    let status = status_of(clean);
-    Ok(Told { text, status })
-}
-
-fn push_whole(
-    alloc: Global,
-    keys: HashKeys,
-    out: &mut Vec<u8>,
-    rules: &RuleBook,
-    all: &[List<Texts>],
-    verdicts: &[Verdict],
-) -> Result<bool, AllocError>
-    ensures text { OnOk result (out.new.items ≡ out.old.items ++ whole_text rules.now all.now verdicts.now) }
-    ensures clean { IfOk result (λ clean. clean ≡ is_clean rules.now all.now verdicts.now) }
-{
-    let tables = rules.schema().tables.as_slice();
-    let even = push_tables(alloc, keys, out, tables, all)?;
-    push_verdicts(out, tables, verdicts)?;
-    let apply = push_edits(out, rules.schema(), all, rules.edits().as_slice())?;
-    Ok(even && are_good(verdicts) && apply)
-}
-
-fn push_tables(
-    alloc: Global,
-    keys: HashKeys,
-    out: &mut Vec<u8>,
-    tables: &[Table],
-    all: &[List<Texts>],
-) -> Result<bool, AllocError>
-    ensures text { OnOk result (out.new.items ≡ out.old.items ++ tables_text tables.now all.now (length tables.now)) }
-    ensures clean { IfOk result (λ clean. clean ≡ tables_clean tables.now all.now (length tables.now)) }
-{
-    let mut clean = true;
-    for place in 0..tables.len() {
-        let table = item(tables, place);
-        let rows = item(all, place);
-        let none = push_part(alloc, keys, out, table, rows)?;
-        clean = both(clean, none);
-    }
-    Ok(clean)
-}
-
-fn both(one: bool, other: bool) -> bool
-    ensures { result ≡ (one && other) }
-{
-    one && other
-}
-
-fn push_part(
-    alloc: Global,
-    keys: HashKeys,
-    out: &mut Vec<u8>,
-    table: Option<&Table>,
-    rows: Option<&List<Texts>>,
-) -> Result<bool, AllocError>
-    ensures text { OnOk result (out.new.items ≡ out.old.items ++ part_text (option_copied table.entry) (option_copied rows.entry)) }
-    ensures clean { IfOk result (λ none. none ≡ part_clean (option_copied table.entry) (option_copied rows.entry)) }
-{
-    match (table, rows) {
-        (Some(table), Some(rows)) => push_table(alloc, keys, out, table, rows.as_slice()),
-        _ => Ok(true),
-    }
-}
-
-fn push_table(
-    alloc: Global,
-    keys: HashKeys,
-    out: &mut Vec<u8>,
-    table: &Table,
-    rows: &[Texts],
-) -> Result<bool, AllocError>
-    ensures text { OnOk result (out.new.items ≡ out.old.items ++ table_text table.now rows.now) }
-    ensures clean { IfOk result (λ none. none ≡ has_no_flaw table.now rows.now) }
-{
-    let flaws = flaws_of(alloc, keys, table.attrs.as_slice().len(), rows)?;
-    push_count(out, table, rows.len())?;
-    push_flaws(out, table, flaws.as_slice())?;
-    Ok(flaws.as_slice().is_empty())
-}
-
-fn push_flaws(out: &mut Vec<u8>, table: &Table, flaws: &[Flaw]) -> Result<(), AllocError>
-    ensures { OnOk result (out.new.items ≡ out.old.items ++ flat_map (flaw_line table.now) flaws.now) }
-{
-    for flaw in flaws {
-        push_flaw(out, table, *flaw)?;
-    }
-    Ok(())
-}
-
-fn push_flaw(out: &mut Vec<u8>, table: &Table, flaw: Flaw) -> Result<(), AllocError>
-    ensures { OnOk result (out.new.items ≡ out.old.items ++ flaw_line table.now flaw) }
-{
-    match flaw {
-        Flaw::Long { attr, row } => push_long(out, table, attr, row),
-        Flaw::Spaced { attr, row } => push_spaced(out, table, attr, row),
-        Flaw::Repeated { row } => push_repeated(out, table, row),
-    }
-}
-
-fn push_long(out: &mut Vec<u8>, table: &Table, attr: usize, row: usize) -> Result<(), AllocError>
-    ensures { OnOk result (out.new.items ≡ out.old.items ++ flaw_line table.now (Long attr row)) }
-{
-    push_row(out, table, row)?;
-    push_name(out, table, attr)?;
-    out.extend_from_slice(b" runs over more than ten lines\n")
-}
-
-fn push_spaced(out: &mut Vec<u8>, table: &Table, attr: usize, row: usize) -> Result<(), AllocError>
-    ensures { OnOk result (out.new.items ≡ out.old.items ++ flaw_line table.now (Spaced attr row)) }
-{
-    push_row(out, table, row)?;
-    push_name(out, table, attr)?;
-    out.extend_from_slice(b" has blanks at an end, and stands without them in another row\n")
-}
-
-fn push_repeated(out: &mut Vec<u8>, table: &Table, row: usize) -> Result<(), AllocError>
-    ensures { OnOk result (out.new.items ≡ out.old.items ++ flaw_line table.now (Repeated row)) }
-{
-    push_row(out, table, row)?;
-    out.extend_from_slice(b"stands above, too\n")
-}
-
-fn push_row(out: &mut Vec<u8>, table: &Table, row: usize) -> Result<(), AllocError>
-    ensures { OnOk result (out.new.items ≡ out.old.items ++ row_words table.now row) }
-{
-    out.extend_from_slice(table.name.as_str().as_bytes())?;
-    out.extend_from_slice(b" row ")?;
-    push_number(out, row as u64)?;
-    out.extend_from_slice(b": ")
 }

@@ -5,13 +5,13 @@ ghost use Rattle.text_lists.specs.Limits.{AreLimits};
 ghost use Rattle.cli_output.specs.Fetching.{Fetches, file};
 ghost use Rattle.cli_output.specs.RuleFiles.{fetch_schema};
 ghost use Rattle.schema_core.specs.Schemas.{IsValidSchema};
-ghost use Rattle.project_forms.specs.Project.{fetch_tables};
+ghost use Rattle.project_files.specs.Project.{fetch_tables};
 ghost use Rattle.view_check.specs.Seen.{again, all_if, anew, fetch_all, fetch_seen, is_absent, is_full, off, off_unless, passing_over, seen_of};
 
 use cli_output::{Cause, Refusal, Stop, fetch_file, fetch_schema};
 use hash_keys::HashKeys;
 use probe_steps::Steps;
-use project_forms::{Project, fetch_project, fetch_tables};
+use project_files::{Project, fetch_project, fetch_tables};
 use schema_core::{Limits, List, Schema, Text, Texts};
 use shelf_io::Shelf;
 use std::alloc::Global;

@@ -3,16 +3,7 @@
 #![tactic(auto)]
 
 mod answer;
-mod cited;
-mod edits;
 mod fetching;
-mod names;
-mod rows;
-mod values;
-mod verdicts;
 
-pub use answer::{Told, look_at_project, told_of, told_on};
-pub use cited::RowName;
+pub use answer::look_at_project;
 pub use fetching::{Off, Seen};
-pub use values::{MayStand, ValueVerdict};
-pub use verdicts::Verdict;

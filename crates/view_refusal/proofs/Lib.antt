@@ -1,4 +1,3 @@
-mod ItemAt
-mod Parts
 pub mod Ends
+pub mod Pairs
 mod BehindFirst

@@ -1,5 +1,6 @@
 -- Tables that together have too many rows, or would need too many cells of indexes: how many rows each has.
-use Rattle.std.specs.Prelude.{ℕ, zero, suc, ◌-◌, ◌^◌, min, List, [], ◌++◌, length, slice_get, sum_by, Option, None, Some, codes, decimal}
+use Rattle.std.specs.Prelude.{ℕ, ◌-◌, ◌^◌, min, List, [], ◌++◌, length, sum_by, Option, None, Some, codes, decimal}
+use Rattle.std.specs.List.{flat_map, zip}
 use Rattle.text_lists.specs.declared.limits.Limits.{Limits}
 use Rattle.schema_core.specs.declared.schema.Schema.{Schema}
 use Rattle.schema_core.specs.declared.schema.Table.{Table}
@@ -10,15 +11,11 @@ use Rattle.view_refusal.specs.declared.anew.Anew.{Anew}
 
 -- ---- how many rows each table has
 
-abbrev pub count_part : Option Table → Option (List (List (List ℕ))) → List ℕ
-count_part None rows = []
-count_part (Some table) None = []
-count_part (Some table) (Some rows) = count_line table (length rows)
+abbrev pub pair_count : Table × List (List (List ℕ)) → List ℕ
+pair_count (table, rows) = count_line table (length rows)
 
--- of the first tables, so many
-abbrev pub counts_text : List Table → List (List (List (List ℕ))) → ℕ → List ℕ
-counts_text tables all zero = []
-counts_text tables all (suc place) = counts_text tables all place ++ count_part (slice_get tables place) (slice_get all place)
+abbrev pub counts_text : List Table → List (List (List (List ℕ))) → List ℕ
+counts_text tables all = flat_map pair_count (zip tables all)
 
 -- ---- how many all have
 
@@ -33,7 +30,7 @@ abbrev pub total_line : Limits → ℕ → List ℕ
 total_line limits total = decimal total ++ codes " rows in all tables" ++ most_words limits
 
 abbrev pub tables_full : Limits → List Table → List (List (List (List ℕ))) → List ℕ
-tables_full limits tables all = counts_text tables all (length tables) ++ total_line limits (row_total all)
+tables_full limits tables all = counts_text tables all ++ total_line limits (row_total all)
 
 abbrev pub anew_full : Limits → Option Schema → Option (List (List (List (List ℕ)))) → List ℕ
 anew_full limits None all = []

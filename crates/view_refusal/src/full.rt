@@ -1,10 +1,8 @@
 //! Tables that together have too many rows, or would need too many cells of indexes: how many rows each has.
-ghost use Rattle.std.specs.Prelude.{◌≡◌, ◌++◌, OnOk, length};
-ghost use Rattle.std.specs.Option.{option_copied};
-ghost use Rattle.view_refusal.specs.Full.{anew_full, count_part, counts_text, full_text, most_words, row_total, tables_full, total_line};
+ghost use Rattle.std.specs.Prelude.{◌≡◌, ◌++◌, OnOk};
+ghost use Rattle.view_refusal.specs.Full.{anew_full, counts_text, full_text, most_words, row_total, tables_full, total_line};
 
 use crate::anew::Anew;
-use crate::items::item;
 use crate::row_counts::push_count;
 use cli_output::Cause;
 use schema_core::{Limits, List, Schema, Table, Texts, push_number};
@@ -54,27 +52,12 @@ fn push_tables(
 }
 
 fn push_counts(out: &mut Vec<u8>, tables: &[Table], all: &[List<Texts>]) -> Result<(), AllocError>
-    ensures { OnOk result (out.new.items ≡ out.old.items ++ counts_text tables.now all.now (length tables.now)) }
+    ensures { OnOk result (out.new.items ≡ out.old.items ++ counts_text tables.now all.now) }
 {
-    for place in 0..tables.len() {
-        let table = item(tables, place);
-        let rows = item(all, place);
-        push_part(out, table, rows)?;
+    for (table, rows) in tables.iter().zip(all) {
+        push_count(out, table, rows.as_slice().len())?;
     }
     Ok(())
-}
-
-fn push_part(
-    out: &mut Vec<u8>,
-    table: Option<&Table>,
-    rows: Option<&List<Texts>>,
-) -> Result<(), AllocError>
-    ensures { OnOk result (out.new.items ≡ out.old.items ++ count_part (option_copied table.entry) (option_copied rows.entry)) }
-{
-    match (table, rows) {
-        (Some(table), Some(rows)) => push_count(out, table, rows.as_slice().len()),
-        _ => Ok(()),
-    }
 }
 
 fn row_total(all: &[List<Texts>]) -> u64

@@ -7,13 +7,11 @@ mod bounds;
 mod counted;
 mod full;
 mod hints;
-mod items;
 mod misfits;
 mod row_counts;
 mod showing;
 mod shown;
 
 pub use anew::Anew;
-pub use items::item;
 pub use row_counts::push_count;
 pub use shown::off_text;

@@ -1,7 +1,7 @@
 use Rattle.std.proofs.Common.{List, length, subst}
 use Rattle.schema_core.specs.declared.schema.Table.{Table}
 use Rattle.cli_output.specs.Fetching.{Fetches}
-use Rattle.project_forms.specs.Project.{fetch_tables}
+use Rattle.project_files.specs.Project.{fetch_tables}
 use Rattle.view_check.proofs.SeenSteps.{fetches-at_most}
 use Rattle.view_check.proofs.fetching.fetch_few.Goals as goal
 

@@ -1,5 +1,14 @@
-use Rattle.view_refusal.proofs.Parts.{counts_text-more}
+use Rattle.std.proofs.Common.{◌++◌, inl, inr}
+use Rattle.view_refusal.specs.Full.{counts_text, pair_count}
+use Rattle.view_refusal.proofs.Pairs.{nothing_left-first, nothing_left-second}
 use Rattle.view_refusal.proofs.full.push_counts.Goals as goal
 
-pub loop-place-preserved : goal.loop-place-preserved
-loop-place-preserved c = counts_text-more c.args.tables.now c.args.all.now c.loop-place.place c.args.out.now.items c.loop-place.out.items c.push_part.new.out.items _ _ c.loop-place.invariant c.item-table.ensures c.item-rows.ensures c.in_ok-push_part.ensures
+pub returns : goal.returns
+returns c =
+    let tables = c.loop-table.table-iterator.a.rest.now in
+    let all = c.loop-table.table-iterator.b.rest.now in
+    let whole = c.args.out.now.items ++ counts_text c.args.tables.now c.args.all.now in
+    elim c.in-None.ensures.steps [
+      | inl p ↦ nothing_left-first pair_count tables all c.loop-table.out.items whole p.1.0 c.loop-table.invariant
+      | inr p ↦ nothing_left-second pair_count tables all c.loop-table.out.items whole p.1.0 c.loop-table.invariant
+    ]

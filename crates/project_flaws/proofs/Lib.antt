@@ -1,0 +1,4 @@
+mod Barred
+mod BenchRows
+mod Clean
+mod ItemAt

@@ -1,0 +1,5 @@
+pub mod Rows
+pub mod Cited
+pub mod ValueVerdicts
+pub mod Verdicts
+pub mod Told

@@ -1,0 +1,199 @@
+-- What is off in a project that was read: in the rows of its tables, and in its rules.
+use Rattle.std.specs.Prelude.{◌≡◌, ℕ, Bool, true, false, not, ◌&&◌, List, [], ◌∷◌, ◌++◌, length, slice_get, is_none, ◌==◌, if◌then◌else◌, Option, None, Some, codes, decimal}
+use Rattle.std.specs.List.{flat_map, list_all, list_any, zip}
+use Rattle.std.specs.Str.{bytes_eq}
+use Rattle.line_grammar.specs.Tokens.{quoted}
+use Rattle.line_grammar.specs.Spelling.{comma_separated, line_text, mark, name, number}
+use Rattle.line_grammar.specs.declared.tokens.Mark.TheVariants.{Dot}
+use Rattle.line_grammar.specs.declared.writing.Part.{Part}
+use Rattle.schema_core.specs.declared.schema.Attr.{Attr}
+use Rattle.schema_core.specs.declared.schema.Domain.{Domain}
+use Rattle.schema_core.specs.declared.schema.Domain.TheVariants.{AnyText, Finite}
+use Rattle.schema_core.specs.declared.schema.Schema.{Schema}
+use Rattle.schema_core.specs.declared.schema.Table.{Table}
+use Rattle.rule_model.specs.Books.{Book, book_edits}
+use Rattle.rule_model.specs.declared.edit_rule.EditCell.{EditCell}
+use Rattle.rule_model.specs.declared.edit_rule.EditCell.TheVariants as cells
+use Rattle.rule_model.specs.declared.edit_rule.EditRule.{EditRule}
+use Rattle.table_flaws.specs.Flaws.{flaws_of}
+use Rattle.table_flaws.specs.declared.flaws.Flaw.{Flaw}
+use Rattle.table_flaws.specs.declared.flaws.Flaw.TheVariants.{Long, Repeated, Spaced}
+use Rattle.cli_output.specs.declared.status.Status.{Status}
+use Rattle.cli_output.specs.declared.status.Status.TheVariants.{Clean, Findings}
+use Rattle.view_refusal.specs.RowCounts.{count_line}
+use Rattle.project_flaws.specs.Verdicts.{AreVerdicts}
+use Rattle.project_flaws.specs.declared.cited.RowName.{RowName}
+use Rattle.project_flaws.specs.declared.values.MayStand.{MayStand}
+use Rattle.project_flaws.specs.declared.values.MayStand.TheVariants as may
+use Rattle.project_flaws.specs.declared.values.ValueVerdict.{ValueVerdict}
+use Rattle.project_flaws.specs.declared.verdicts.Verdict.{Verdict}
+use Rattle.project_flaws.specs.declared.verdicts.Verdict.TheVariants.{Holds, Never, Open}
+
+-- ---- what is odd in a table
+
+abbrev pub row_words : Table → ℕ → List ℕ
+row_words table row = table.name ++ codes " row " ++ decimal row ++ codes ": "
+
+abbrev pub attr_name : Option Attr → List ℕ
+attr_name None = []
+attr_name (Some attr) = attr.name
+
+abbrev pub flaw_line : Table → Flaw → List ℕ
+flaw_line table (Long attr row) = row_words table row ++ attr_name (slice_get table.attrs attr) ++ codes " runs over more than ten lines\n"
+flaw_line table (Spaced attr row) =
+    row_words table row ++ attr_name (slice_get table.attrs attr) ++ codes " has blanks at an end, and stands without them in another row\n"
+flaw_line table (Repeated row) = row_words table row ++ codes "stands above, too\n"
+
+-- how many rows were read, and what is odd in them
+abbrev pub table_text : Table → List (List (List ℕ)) → List ℕ
+table_text table rows = count_line table (length rows) ++ flat_map (flaw_line table) (flaws_of (length table.attrs) rows)
+
+abbrev pub has_no_flaw : Table → List (List (List ℕ)) → Bool
+has_no_flaw table rows = length (flaws_of (length table.attrs) rows) == 0
+
+-- ---- all tables, with the rows of each
+
+abbrev pub pair_text : Table × List (List (List ℕ)) → List ℕ
+pair_text (table, rows) = table_text table rows
+
+abbrev pub pair_clean : Table × List (List (List ℕ)) → Bool
+pair_clean (table, rows) = has_no_flaw table rows
+
+abbrev pub tables_text : List Table → List (List (List (List ℕ))) → List ℕ
+tables_text tables all = flat_map pair_text (zip tables all)
+
+abbrev pub tables_clean : List Table → List (List (List (List ℕ))) → Bool
+tables_clean tables all = list_all pair_clean (zip tables all)
+
+-- ---- editing rules that never apply
+
+-- The target is among the attributes of the patterns: these have to be validated, and the target mustn't be.
+abbrev pub asks_target : EditRule → Bool
+asks_target rule = list_any (λ (p : ℕ × EditCell). p.0 == rule.target) rule.when
+
+-- a value meets a cell of a pattern
+abbrev pub is_met : EditCell → List ℕ → Bool
+is_met cells.Any value = true
+is_met (cells.Is constant) value = bytes_eq constant value
+is_met (cells.Not constant) value = not (bytes_eq constant value)
+
+abbrev pub none_meets : List (List ℕ) → EditCell → Bool
+none_meets values cell = list_all (λ value. not (is_met cell value)) values
+
+-- no value of the domain meets the cell
+abbrev pub is_out : Domain → EditCell → Bool
+is_out AnyText cell = false
+is_out (Finite values) cell = none_meets values cell
+
+abbrev pub is_out_at : Option Attr → EditCell → Bool
+is_out_at None cell = false
+is_out_at (Some attr) cell = is_out attr.domain cell
+
+abbrev pub is_out_in : Option Table → ℕ × EditCell → Bool
+is_out_in None asked = false
+is_out_in (Some table) asked = is_out_at (slice_get table.attrs asked.0) asked.1
+
+-- a cell of its pattern is met by no value of the domain there
+abbrev pub asks_outside : Schema → EditRule → Bool
+asks_outside schema rule = list_any (is_out_in (slice_get schema.tables rule.table)) rule.when
+
+-- there is no row to correct from
+abbrev pub has_no_row : Option (List (List (List ℕ))) → Bool
+has_no_row None = true
+has_no_row (Some rows) = length rows == 0
+
+-- why a rule never applies, if it never does
+abbrev pub why_never : Schema → List (List (List (List ℕ))) → EditRule → Option (List ℕ)
+why_never schema all rule =
+    if asks_target rule then Some (codes "its target is in its own pattern")
+    else if asks_outside schema rule then Some (codes "no value of an attribute's domain meets its pattern")
+    else if has_no_row (slice_get all rule.master) then Some (codes "its master table has no row")
+    else None
+
+abbrev pub never_words : EditRule → List ℕ
+never_words rule = codes "edit " ++ rule.name ++ codes " never applies: "
+
+abbrev pub never_line : EditRule → Option (List ℕ) → List ℕ
+never_line rule None = []
+never_line rule (Some why) = never_words rule ++ why ++ codes "\n"
+
+abbrev pub edits_text : Schema → List (List (List (List ℕ))) → List EditRule → List ℕ
+edits_text schema all rules = flat_map (λ (rule : EditRule). never_line rule (why_never schema all rule)) rules
+
+-- each may apply
+abbrev pub edits_clean : Schema → List (List (List (List ℕ))) → List EditRule → Bool
+edits_clean schema all rules = list_all (λ (rule : EditRule). is_none (why_never schema all rule)) rules
+
+-- ---- tables that no row can satisfy
+
+-- `RULE.K`
+abbrev pub row_parts : RowName → List Part
+row_parts row = name row.rule ∷ mark Dot ∷ number row.row ∷ []
+
+abbrev pub by_line : List RowName → List ℕ
+by_line rows = codes "  by " ++ line_text (comma_separated row_parts rows) ++ codes "\n"
+
+-- and by which tableau rows
+abbrev pub never_text : Table → List RowName → List ℕ
+never_text table rows = (codes "table " ++ table.name) ++ codes ": no row can satisfy its dependencies\n" ++ by_line rows
+
+-- the words about a value
+abbrev pub value_words : Table → List ℕ → ValueVerdict → List ℕ
+value_words table words verdict =
+    (codes "table " ++ table.name) ++ words ++ attr_name (slice_get table.attrs verdict.attr) ++ codes " " ++ quoted verdict.value ++ codes " can satisfy its dependencies\n"
+
+abbrev pub value_told : Table → ValueVerdict → MayStand → List ℕ
+value_told table verdict may.Yes = []
+value_told table verdict may.Never = value_words table (codes ": no row with ") verdict
+value_told table verdict may.Open = value_words table (codes ": not settled whether a row with ") verdict
+
+-- nothing is told of a value that can stand
+abbrev pub value_line : Table → ValueVerdict → List ℕ
+value_line table verdict = value_told table verdict verdict.may
+
+abbrev pub is_yes : MayStand → Bool
+is_yes may.Yes = true
+is_yes may.Never = false
+is_yes may.Open = false
+
+abbrev pub may_stand : ValueVerdict → Bool
+may_stand verdict = is_yes verdict.may
+
+abbrev pub open_text : Table → List ℕ
+open_text table = (codes "table " ++ table.name) ++ codes ": not settled whether a row can satisfy its dependencies\n"
+
+-- of a table whose dependencies some row satisfies only values are told
+abbrev pub verdict_line : Table → Verdict → List ℕ
+verdict_line table (Holds values) = flat_map (value_line table) values
+verdict_line table (Never rows) = never_text table rows
+verdict_line table Open = open_text table
+
+abbrev pub is_good : Verdict → Bool
+is_good (Holds values) = list_all may_stand values
+is_good (Never rows) = false
+is_good Open = false
+
+-- of each table its own
+abbrev pub verdict_text : Table × Verdict → List ℕ
+verdict_text (table, verdict) = verdict_line table verdict
+
+abbrev pub verdicts_text : List Table → List Verdict → List ℕ
+verdicts_text tables verdicts = flat_map verdict_text (zip tables verdicts)
+
+-- ---- the project, by its rules and the rows of its tables
+
+abbrev pub whole_text : Book → List (List (List (List ℕ))) → List Verdict → List ℕ
+whole_text rules all verdicts =
+    tables_text rules.schema.tables all ++ verdicts_text rules.schema.tables verdicts ++ edits_text rules.schema all (book_edits rules)
+
+abbrev pub is_clean : Book → List (List (List (List ℕ))) → List Verdict → Bool
+is_clean rules all verdicts = tables_clean rules.schema.tables all && list_all is_good verdicts && edits_clean rules.schema all (book_edits rules)
+
+-- nothing is off, or something is
+abbrev pub status_of : Bool → Status
+status_of true = Clean
+status_of false = Findings
+
+-- what is told, with the status that goes with it
+abbrev pub IsTold : Book → List (List (List (List ℕ))) → List ℕ → Status → Type 0
+IsTold rules all bytes status = (verdicts : List Verdict) × AreVerdicts rules verdicts × (bytes ≡ whole_text rules all verdicts) × (status ≡ status_of (is_clean rules all verdicts))

@@ -1,0 +1,17 @@
+//! What is off in a project that was read: what is odd in the rows of its tables, the tables whose dependencies no row can
+//! satisfy and the values with which none can, and the editing rules that never apply.
+#![tactic(auto)]
+
+mod cited;
+mod edits;
+mod items;
+mod names;
+mod rows;
+mod told;
+mod values;
+mod verdicts;
+
+pub use cited::RowName;
+pub use told::{Told, told_of, told_on};
+pub use values::{MayStand, ValueVerdict};
+pub use verdicts::Verdict;

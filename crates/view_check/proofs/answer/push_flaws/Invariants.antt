@@ -1,7 +1,0 @@
-use Rattle.std.proofs.Common.{◌≡◌, ◌++◌, take}
-use Rattle.std.specs.List.{flat_map}
-use Rattle.view_check.specs.CheckForm.{flaw_line}
-use Rattle.view_check.proofs.answer.push_flaws.Given as goal
-
-abbrev pub invariant-loop-flaw : goal.invariant-loop-flaw
-invariant-loop-flaw l = l.out.items ≡ l.fn.out.items ++ flat_map (flaw_line l.table) (take l.flaw-index l.flaws)

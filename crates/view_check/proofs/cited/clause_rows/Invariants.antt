@@ -1,7 +1,0 @@
-use Rattle.std.proofs.Common.{◌≡◌, take}
-use Rattle.std.specs.List.{flat_map}
-use Rattle.view_check.specs.Cited.{asking_rows}
-use Rattle.view_check.proofs.cited.clause_rows.Given as goal
-
-abbrev pub invariant-loop-dep : goal.invariant-loop-dep
-invariant-loop-dep l = l.rows ≡ flat_map (asking_rows l.table) (take l.dep-index l.deps)

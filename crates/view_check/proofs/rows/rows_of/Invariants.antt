@@ -1,8 +1,0 @@
-use Rattle.std.proofs.Common.{◌≡◌, ◌++◌}
-use Rattle.bench_core.specs.State.{rows_at}
-use Rattle.view_check.specs.Rows.{texts_in}
-use Rattle.view_check.proofs.rows.rows_of.Given as goal
-
--- the texts so far, and those of the rows that are left
-abbrev pub invariant-loop-row : goal.invariant-loop-row
-invariant-loop-row l = l.all ++ texts_in l.row-iterator.rest.items ≡ texts_in (rows_at l.bench.history.present l.fn.table)

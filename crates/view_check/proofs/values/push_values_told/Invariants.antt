@@ -1,7 +1,0 @@
-use Rattle.std.proofs.Common.{◌≡◌, ◌++◌, take}
-use Rattle.std.specs.List.{flat_map}
-use Rattle.view_check.specs.CheckForm.{value_line}
-use Rattle.view_check.proofs.values.push_values_told.Given as goal
-
-abbrev pub invariant-loop-verdict : goal.invariant-loop-verdict
-invariant-loop-verdict l = l.out.items ≡ l.fn.out.items ++ flat_map (value_line l.table) (take l.verdict-index l.verdicts)

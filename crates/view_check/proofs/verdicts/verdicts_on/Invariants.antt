@@ -1,7 +1,0 @@
-use Rattle.std.proofs.Common.{take}
-use Rattle.std.specs.List.{AllZip}
-use Rattle.view_check.specs.Verdicts.{IsVerdictFor}
-use Rattle.view_check.proofs.verdicts.verdicts_on.Given as goal
-
-abbrev pub invariant-loop-table : goal.invariant-loop-table
-invariant-loop-table l = AllZip (IsVerdictFor l.rules) (take l.table-index l.tables) l.all
