@@ -5,5 +5,6 @@
 mod program;
 
 pub use cli_output::Status;
-pub use program::{run, run_with, run_with_keys};
+pub use program::{run, run_in, run_with};
+pub use project_files::Room;
 pub use view_words::fault_text;

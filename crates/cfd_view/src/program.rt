@@ -7,6 +7,7 @@ ghost use Rattle.cfd_view.specs.Asked.{asked_task, form_task, help_task, task_of
 use cli_output::{Status, end_with};
 use hash_keys::HashKeys;
 use probe_steps::Steps;
+use project_files::Room;
 use schema_core::{Limits, Texts};
 use shelf_io::{Shelf, Sink};
 use std::alloc::{AllocError, Global};
@@ -45,13 +46,15 @@ pub fn run_with<S: Shelf, O: Sink>(
     // a fault is told only where a device counted one.
     ensures devices { UsesDevices limits (task_of limits words.now) result (S.told shelf.old) (S.told shelf.new) (O.told out.old) (O.told out.new) }
 {
-    run_with_keys(alloc, HashKeys::fixed(), words, shelf, out, limits)
+    let mut room = Room::new(HashKeys::fixed());
+    run_in(alloc, &mut room, words, shelf, out, limits)
 }
 
-/// The same, with keys of the hash by which the texts of tables are looked up. What is written doesn't depend on them.
-pub fn run_with_keys<S: Shelf, O: Sink>(
+/// The same in a room, whose keys are those of the hash by which the texts of tables are looked up. What is written
+/// doesn't depend on them.
+pub fn run_in<S: Shelf, O: Sink>(
     alloc: Global,
-    keys: HashKeys,
+    room: &mut Room,
     words: &Texts,
     shelf: &mut S,
     out: &mut O,
@@ -61,13 +64,13 @@ pub fn run_with_keys<S: Shelf, O: Sink>(
     ensures written { Writes (Output limits (task_of limits words.now) (S.told shelf.old).holding) result (O.told out.old).written (O.told out.new).written }
     ensures devices { UsesDevices limits (task_of limits words.now) result (S.told shelf.old) (S.told shelf.new) (O.told out.old) (O.told out.new) }
 {
-    run_opened::<S, O, Brand>(alloc, keys, words, shelf, out, &limits, Blank::new(1))
+    run_opened::<S, O, Brand>(alloc, room, words, shelf, out, &limits, Blank::new(1))
 }
 
 /// The same, with a counter of index probes that is opened for this call. It takes no bytes, and nothing reads it.
 fn run_opened<S: Shelf, O: Sink, L: Ledger>(
     alloc: Global,
-    keys: HashKeys,
+    room: &mut Room,
     words: &Texts,
     shelf: &mut S,
     out: &mut O,
@@ -82,13 +85,13 @@ fn run_opened<S: Shelf, O: Sink, L: Ledger>(
     ensures devices { UsesDevices limits.now (task_of limits.now words.now) result (S.told shelf.old) (S.told shelf.new) (O.told out.old) (O.told out.new) }
 {
     let mut steps = Steps::<L>::open(blank);
-    run_counted(alloc, keys, words, shelf, out, limits, &mut steps)
+    run_counted(alloc, room, words, shelf, out, limits, &mut steps)
 }
 
 /// The same, with a counter of the caller.
 fn run_counted<S: Shelf, O: Sink, L: Ledger>(
     alloc: Global,
-    keys: HashKeys,
+    room: &mut Room,
     words: &Texts,
     shelf: &mut S,
     out: &mut O,
@@ -100,7 +103,7 @@ fn run_counted<S: Shelf, O: Sink, L: Ledger>(
     ensures devices { UsesDevices limits.now (task_of limits.now words.now) result (S.told shelf.old) (S.told shelf.new) (O.told out.old) (O.told out.new) }
 {
     match asked_of(alloc, words.as_slice()) {
-        Ok(asked) => answer(alloc, keys, words, &asked, shelf, out, limits, steps),
+        Ok(asked) => answer(alloc, room, words, &asked, shelf, out, limits, steps),
         Err(AllocError) => Status::Memory,
     }
 }
@@ -108,7 +111,7 @@ fn run_counted<S: Shelf, O: Sink, L: Ledger>(
 /// Does what was asked for by the words.
 fn answer<S: Shelf, O: Sink, L: Ledger>(
     alloc: Global,
-    keys: HashKeys,
+    room: &mut Room,
     words: &Texts,
     asked: &Asked,
     shelf: &mut S,
@@ -121,7 +124,7 @@ fn answer<S: Shelf, O: Sink, L: Ledger>(
     ensures devices { UsesDevices limits.now (asked_task limits.now asked.now) result (S.told shelf.old) (S.told shelf.new) (O.told out.old) (O.told out.new) }
 {
     match asked {
-        Asked::Form(form) => answer_form(alloc, keys, form, shelf, out, limits, steps),
+        Asked::Form(form) => answer_form(alloc, room, form, shelf, out, limits, steps),
         Asked::Help => help(alloc, words, shelf, out, limits),
         Asked::Nothing => Status::Usage,
     }
@@ -129,7 +132,7 @@ fn answer<S: Shelf, O: Sink, L: Ledger>(
 
 fn answer_form<S: Shelf, O: Sink, L: Ledger>(
     alloc: Global,
-    keys: HashKeys,
+    room: &mut Room,
     form: &Form,
     shelf: &mut S,
     out: &mut O,
@@ -142,15 +145,22 @@ fn answer_form<S: Shelf, O: Sink, L: Ledger>(
 {
     match form {
         Form::List(options) => {
-            show_project::<ListForm, S, O, L>(alloc, keys, options, shelf, out, limits, steps)
+            show_project::<ListForm, S, O, L>(alloc, room, options, shelf, out, limits, steps)
         }
         Form::Row(options) => {
-            show_project::<RowForm, S, O, L>(alloc, keys, options, shelf, out, limits, steps)
+            show_project::<RowForm, S, O, L>(alloc, room, options, shelf, out, limits, steps)
         }
-        Form::Check { project } => look_at_project(alloc, keys, project, shelf, out, limits, steps),
-        Form::Schema { files } => draft_schema(alloc, keys, files.as_slice(), shelf, out, limits),
+        Form::Check { project } => look_at_project(alloc, room, project, shelf, out, limits, steps),
+        Form::Schema { files } => draft_schema(
+            alloc,
+            room.keys(),
+            files.as_slice(),
+            shelf,
+            out,
+            limits,
+        ),
         Form::Page(options) => {
-            show_project::<PageForm, S, O, L>(alloc, keys, options, shelf, out, limits, steps)
+            show_project::<PageForm, S, O, L>(alloc, room, options, shelf, out, limits, steps)
         }
     }
 }

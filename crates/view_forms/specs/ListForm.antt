@@ -10,7 +10,7 @@ use Rattle.view_options.specs.declared.options.ListOptions.{ListOptions}
 use Rattle.view_list.specs.Listed.{list_body, list_refusal, list_text}
 use Rattle.cli_output.specs.Output.{Only, Outputs, Task}
 use Rattle.cli_output.specs.declared.status.Status.TheVariants.{Refused}
-use Rattle.project_forms.specs.Project.{ProjectRead}
+use Rattle.project_files.specs.Project.{ProjectRead}
 use Rattle.view_project.specs.Looking.{LooksAt, counts_of}
 use Rattle.view_project.specs.ProjectTask.{project_task}
 use Rattle.view_forms.specs.Statuses.{status_of}

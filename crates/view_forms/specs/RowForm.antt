@@ -15,7 +15,7 @@ use Rattle.session.specs.declared.command.Command.{Command}
 use Rattle.session.specs.declared.command.Command.TheVariants as command
 use Rattle.cli_output.specs.Output.{Only, Outputs, Task}
 use Rattle.cli_output.specs.declared.status.Status.TheVariants.{Refused}
-use Rattle.project_forms.specs.Project.{ProjectRead}
+use Rattle.project_files.specs.Project.{ProjectRead}
 use Rattle.view_project.specs.Looking.{LooksAt, counts_of}
 use Rattle.view_project.specs.ProjectTask.{project_task}
 use Rattle.view_forms.specs.Statuses.{status_of}

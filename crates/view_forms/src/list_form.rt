@@ -2,13 +2,13 @@
 
 ghost use Rattle.std.specs.Prelude.{◌≡◌, IfOk};
 ghost use Rattle.cli_output.specs.Output.{IsWhole};
-ghost use Rattle.project_forms.specs.Project.{read_of};
+ghost use Rattle.project_files.specs.Project.{read_of};
 ghost use Rattle.view_options.specs.declared.options.ListOptions.{ListOptions};
 ghost use Rattle.view_forms.specs.ListForm.{list_of, list_outputs, told_unless};
 
 use crate::told::{refused, status_of};
 use probe_steps::Steps;
-use project_forms::Project;
+use project_files::{Project, Room};
 use schema_core::Text;
 use std::alloc::{AllocError, Global};
 use std::sync::ledger::Ledger;
@@ -33,16 +33,18 @@ impl ProjectForm for ListForm {
 
     fn show<L: Ledger>(
         alloc: Global,
+        room: &mut Room,
         options: &ListOptions,
         project: Project,
         steps: &mut Steps<L>,
     ) -> Result<Shown, AllocError> {
-        list(alloc, options, project, steps)
+        list(alloc, room, options, project, steps)
     }
 }
 
 fn list<L: Ledger>(
     alloc: Global,
+    room: &mut Room,
     options: &ListOptions,
     project: Project,
     steps: &mut Steps<L>,
@@ -52,6 +54,7 @@ fn list<L: Ledger>(
 {
     let looked = look(alloc, project, options.loaded, steps)?;
     let shown = list_shown(alloc, &looked, options, steps)?;
+    room.keep(looked.bench);
     Ok(shown)
 }
 

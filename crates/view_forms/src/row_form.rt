@@ -4,7 +4,7 @@ ghost use Rattle.std.specs.Prelude.{◌≡◌, ◌++◌, ◌<◌, List, ℕ, IfO
 ghost use Rattle.schema_core.specs.Schemas.{table_place};
 ghost use Rattle.bench_core.specs.Answers.{row_texts};
 ghost use Rattle.cli_output.specs.Output.{IsWhole};
-ghost use Rattle.project_forms.specs.Project.{read_of};
+ghost use Rattle.project_files.specs.Project.{read_of};
 ghost use Rattle.view_options.specs.declared.options.RowOptions.{RowOptions};
 ghost use Rattle.view_forms.specs.RowForm.{AreReplies, questions, row_in, row_of, row_outputs, row_with};
 
@@ -12,7 +12,7 @@ use crate::row_values::row_texts;
 use crate::told::{refused, status_of};
 use bench_core::Bench;
 use probe_steps::Steps;
-use project_forms::Project;
+use project_files::{Project, Room};
 use schema_core::{List, Text, Texts};
 use session::{Command, serve};
 use shelf_io::MemorySink;
@@ -44,16 +44,18 @@ impl ProjectForm for RowForm {
 
     fn show<L: Ledger>(
         alloc: Global,
+        room: &mut Room,
         options: &RowOptions,
         project: Project,
         steps: &mut Steps<L>,
     ) -> Result<Shown, AllocError> {
-        row(alloc, options, project, steps)
+        row(alloc, room, options, project, steps)
     }
 }
 
 fn row<L: Ledger>(
     alloc: Global,
+    room: &mut Room,
     options: &RowOptions,
     project: Project,
     steps: &mut Steps<L>,
@@ -64,6 +66,7 @@ fn row<L: Ledger>(
     let looked = look(alloc, project, options.loaded, steps)?;
     let Looked { mut bench, counts } = looked;
     let shown = row_shown(alloc, &mut bench, counts.as_slice(), options, steps)?;
+    room.keep(bench);
     Ok(shown)
 }
 

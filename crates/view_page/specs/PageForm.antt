@@ -16,9 +16,9 @@ use Rattle.view_options.specs.declared.options.PageOptions.{PageOptions}
 use Rattle.cli_output.specs.Output.{Outputs, Task}
 use Rattle.cli_output.specs.declared.status.Status.{Status}
 use Rattle.cli_output.specs.declared.status.Status.TheVariants.{Clean, Findings as Found}
-use Rattle.project_forms.specs.Project.{ProjectRead}
-use Rattle.view_check.specs.CheckForm.{IsTold}
-use Rattle.view_check.specs.Rows.{all_rows}
+use Rattle.project_files.specs.Project.{ProjectRead}
+use Rattle.project_flaws.specs.Told.{IsTold}
+use Rattle.project_flaws.specs.Rows.{all_rows}
 use Rattle.view_project.specs.Looking.{LooksAt, counts_of}
 use Rattle.view_project.specs.ProjectTask.{project_task}
 

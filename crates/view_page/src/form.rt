@@ -2,7 +2,7 @@
 ghost use Rattle.std.specs.Prelude.{◌≡◌, ◌↔◌, IfOk};
 ghost use Rattle.violation_report.specs.Listing.{IsSatisfied, listing};
 ghost use Rattle.cli_output.specs.Output.{IsWhole};
-ghost use Rattle.project_forms.specs.Project.{read_of};
+ghost use Rattle.project_files.specs.Project.{read_of};
 ghost use Rattle.view_options.specs.declared.options.PageOptions.{PageOptions};
 ghost use Rattle.view_page.specs.PageForm.{IsPageOf, IsTextOn, first_shown, options_of, page_outputs, status_for};
 
@@ -11,7 +11,7 @@ use bench_core::Bench;
 use cli_output::Status;
 use page_text::{Options, RowCounts, page_text};
 use probe_steps::Steps;
-use project_forms::Project;
+use project_files::{Project, Room};
 use std::alloc::{AllocError, Global};
 use std::sync::ledger::Ledger;
 use text_lists::{List, Text};
@@ -37,16 +37,18 @@ impl ProjectForm for PageForm {
 
     fn show<L: Ledger>(
         alloc: Global,
+        room: &mut Room,
         options: &PageOptions,
         project: Project,
         steps: &mut Steps<L>,
     ) -> Result<Shown, AllocError> {
-        page(alloc, options, project, steps)
+        page(alloc, room, options, project, steps)
     }
 }
 
 fn page<L: Ledger>(
     alloc: Global,
+    room: &mut Room,
     options: &PageOptions,
     project: Project,
     steps: &mut Steps<L>,
@@ -66,6 +68,7 @@ fn page<L: Ledger>(
         checked.as_slice(),
         steps,
     )?;
+    room.keep(bench);
     Ok(shown)
 }
 

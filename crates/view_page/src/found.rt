@@ -5,9 +5,9 @@ ghost use Rattle.view_page.specs.PageForm.{IsChecked, found_of, is_clean, is_fin
 use bench_core::Bench;
 use cli_output::Status;
 use line_grammar::split_line;
+use project_flaws::{Told, told_on};
 use std::alloc::{AllocError, Global};
 use text_lists::List;
-use view_check::{Told, told_on};
 
 /// What `check` finds in the rules and the tables of a bench, line by line.
 pub fn checked(alloc: Global, bench: &Bench) -> Result<List<List<u8>>, AllocError>

@@ -2,7 +2,7 @@
 use Rattle.std.specs.Prelude.{◌≡◌, ℕ, Bool, true, false, List, length, map}
 use Rattle.bench_core.specs.History.{History}
 use Rattle.bench_core.specs.State.{State, TableState}
-use Rattle.project_forms.specs.Project.{LeadsTo, ProjectRead}
+use Rattle.project_files.specs.Project.{LeadsTo, ProjectRead}
 
 -- the tables as they were read, or what the script leads to
 abbrev pub LooksAt : Bool → ProjectRead → History → Type 0

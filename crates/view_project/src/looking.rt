@@ -1,12 +1,12 @@
 //! The state that is looked at.
 
 ghost use Rattle.std.specs.Prelude.{◌≡◌, ◌<◌, IfOk, Some, length, slice_get};
-ghost use Rattle.project_forms.specs.Project.{read_of};
+ghost use Rattle.project_files.specs.Project.{read_of};
 ghost use Rattle.view_project.specs.Looking.{LooksAt, counts_of};
 
 use bench_core::Bench;
 use probe_steps::Steps;
-use project_forms::{Project, after_script};
+use project_files::{Project, after_script};
 use schema_core::List;
 use std::alloc::{AllocError, Global};
 use std::sync::ledger::Ledger;

@@ -2,7 +2,7 @@ use Rattle.std.proofs.Common.{ℕ, List, subst, sym}
 use Rattle.cli_output.specs.declared.status.Status.{Status}
 use Rattle.cli_output.specs.Output.{Only}
 use Rattle.cli_output.proofs.Outputs.{Ends-wider}
-use Rattle.project_forms.specs.Project.{read_of}
+use Rattle.project_files.specs.Project.{read_of}
 use Rattle.view_project.proofs.form.show_fetched.Goals as goal
 
 pub returns-in-Ok : goal.returns-in-Ok

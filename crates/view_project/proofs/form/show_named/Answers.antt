@@ -1,5 +1,5 @@
 use Rattle.std.proofs.Common.{arith}
-use Rattle.project_forms.specs.Project.{read_of}
+use Rattle.project_files.specs.Project.{read_of}
 use Rattle.cli_output.proofs.Outputs.{output-found, output-stopped, uses-stopped}
 use Rattle.view_project.specs.ProjectTask.{project_task}
 use Rattle.view_project.proofs.form.show_named.Goals as goal

@@ -1,4 +1,4 @@
-use Rattle.cfd_view.proofs.program.run_with_keys.Given as goal
+use Rattle.cfd_view.proofs.program.run_in.Given as goal
 
 -- nothing is counted
 abbrev pub ghosts-run_opened : goal.ghosts-run_opened
