@@ -5,7 +5,7 @@ ghost use Rattle.std.specs.List.{AllZip};
 ghost use Rattle.value_pool.specs.Pool.{KeepsIds};
 ghost use Rattle.bench_index.specs.ByIds.{HaveIds, IsCellByIds, IsRowByIds, IsDependencyByIds, IsInclusionRowByIds, IsInclusionByIds};
 
-use cfd_semantics::{Dependency, Inclusion, InclusionRow, Pattern, TableauRow};
+use cfd_semantics::{Dependency, Inclusion, InclusionRow, Pattern, TableauRow, ValueSet};
 use schema_core::{List, Text};
 use std::alloc::{AllocError, Global};
 use value_pool::{Pool, ValueId};
@@ -21,6 +21,18 @@ fn ids_of_texts(alloc: Global, pool: &mut Pool, texts: &[Text]) -> Result<List<V
     Ok(ids)
 }
 
+fn set_by_ids(
+    alloc: Global,
+    pool: &mut Pool,
+    texts: &[Text],
+) -> Result<ValueSet<ValueId>, AllocError>
+    ensures ids { IfOk result (HaveIds pool.new texts.now) }
+    ensures kept { KeepsIds pool.old pool.new }
+{
+    let ids = ids_of_texts(alloc, pool, texts)?;
+    ValueSet::new(alloc, ids)
+}
+
 fn cell_by_ids(
     alloc: Global,
     pool: &mut Pool,
@@ -32,8 +44,8 @@ fn cell_by_ids(
     Ok(match cell {
         Pattern::Any => Pattern::Any,
         Pattern::Is(text) => Pattern::Is(pool.intern(text.as_str())?),
-        Pattern::In(members) => Pattern::In(ids_of_texts(alloc, pool, members.as_slice())?),
-        Pattern::NotIn(members) => Pattern::NotIn(ids_of_texts(alloc, pool, members.as_slice())?),
+        Pattern::In(members) => Pattern::In(set_by_ids(alloc, pool, members.as_slice())?),
+        Pattern::NotIn(members) => Pattern::NotIn(set_by_ids(alloc, pool, members.as_slice())?),
     })
 }
 

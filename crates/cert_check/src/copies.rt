@@ -2,38 +2,17 @@
 
 ghost use Rattle.std.specs.Prelude.{◌≡◌, IfOk};
 
-use cfd_semantics::Pattern;
-use rule_model::{Cell, CfdDecl, CfdRow};
+use cfd_semantics::copied_cells;
+use rule_model::{CfdDecl, CfdRow};
 use schema_core::List;
 use std::alloc::{AllocError, Global};
-
-pub fn copy_cell(cell: &Cell) -> Result<Cell, AllocError>
-    ensures { IfOk result (λ copy. copy ≡ cell.now) }
-{
-    match cell {
-        Pattern::Any => Ok(Pattern::Any),
-        Pattern::Is(value) => Ok(Pattern::Is(value.clone()?)),
-        Pattern::In(values) => Ok(Pattern::In(values.copied()?)),
-        Pattern::NotIn(values) => Ok(Pattern::NotIn(values.copied()?)),
-    }
-}
-
-pub fn copy_cells(alloc: Global, cells: &[Cell]) -> Result<List<Cell>, AllocError>
-    ensures { IfOk result (λ copy. copy ≡ cells.now) }
-{
-    let mut copy = List::new(alloc);
-    for cell in cells {
-        copy.push(copy_cell(cell)?)?;
-    }
-    Ok(copy)
-}
 
 fn copy_row(alloc: Global, row: &CfdRow) -> Result<CfdRow, AllocError>
     ensures { IfOk result (λ copy. copy ≡ row.now) }
 {
     Ok(CfdRow {
-        x: copy_cells(alloc, row.x.as_slice())?,
-        y: copy_cells(alloc, row.y.as_slice())?,
+        x: copied_cells(alloc, row.x.as_slice())?,
+        y: copied_cells(alloc, row.y.as_slice())?,
     })
 }
 

@@ -15,7 +15,6 @@ mod tuples;
 pub mod verdict;
 
 pub use check::check_cert;
-pub use copies::{copy_cell, copy_cells};
 pub use made::{consistency_text, implication_text};
 pub use tree_lines::tree_text;
 pub use verdict::CertVerdict;

@@ -14,7 +14,6 @@ ghost use Rattle.rule_parser.specs.ReadRules.{IsDepDecl};
 ghost use Rattle.cert_text.specs.Written.{IsBudget, IsQuestion};
 ghost use Rattle.cert_check.specs.Made.{HaveNames, IsCertOf, IsCertOfDep, IsDeclaredCert, IsFound, IsFoundOfDep, IsNamedCert, IsRightText, IsSomeText, IsTreeCert, IsWrittenAnswer, IsWrittenDepAnswer, decl_of, decl_row, name_of, names_asked, names_asked_of};
 
-use crate::copies::{copy_cell, copy_cells};
 use crate::names::Naming;
 use crate::tree_lines::push_nodes;
 use case_tree::{Node, Tree};
@@ -22,6 +21,7 @@ use cell_values::attrs_at;
 use cert_text::{Question, counter_text, tree_head, witness_text};
 use cfd_consistency::{Consistency, TableQuestion};
 use cfd_implication::{DepQuestion, Implication};
+use cfd_semantics::copied_cells;
 use rule_model::{CfdDecl, CfdRow, Dep, DepRow};
 use rule_parser::attr_names;
 use schema_core::{List, Schema, Text};
@@ -138,9 +138,9 @@ fn decl_row(alloc: Global, row: &DepRow) -> Result<CfdRow, AllocError>
     ensures { IfOk result (λ made. made ≡ decl_row row.now) }
 {
     let mut right = List::new(alloc);
-    right.push(copy_cell(&row.a)?)?;
+    right.push(row.a.copied()?)?;
     Ok(CfdRow {
-        x: copy_cells(alloc, row.x.as_slice())?,
+        x: copied_cells(alloc, row.x.as_slice())?,
         y: right,
     })
 }

@@ -8,11 +8,13 @@ mod inclusion;
 mod orphan;
 mod pattern;
 mod tuple;
+mod value_set;
 mod violation;
 
 pub use dependency::{Dependency, TableauRow};
 pub use inclusion::{Inclusion, InclusionRow};
 pub use orphan::{orphaned, orphans};
-pub use pattern::Pattern;
+pub use pattern::{Pattern, copied_cells};
 pub use tuple::Row;
+pub use value_set::ValueSet;
 pub use violation::{Violation, violating, violations};

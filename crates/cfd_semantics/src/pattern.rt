@@ -1,14 +1,16 @@
 //! The cells of a pattern tableau.
 
-use text_lists::List;
+use crate::value_set::ValueSet;
+use std::alloc::{AllocError, Global};
+use text_lists::{List, Text};
 
 /// What a cell asks of a value: nothing, to be the constant, to be in the set, or not to be in it.
 #[derive(Debug, Drop)]
 pub enum Pattern<V> {
     Any,
     Is(V),
-    In(List<V>),
-    NotIn(List<V>),
+    In(ValueSet<V>),
+    NotIn(ValueSet<V>),
 }
 
 impl<V> Pattern<V> {
@@ -38,4 +40,34 @@ impl<V: PartialEq> Pattern<V> {
             Pattern::NotIn(members) => !members.as_slice().contains(value),
         }
     }
+}
+
+impl Pattern<Text> {
+    ghost use Rattle.std.specs.Prelude.{◌≡◌, IfOk};
+
+    /// The same cell, with memory of its own.
+    pub fn copied(&self) -> Result<Pattern<Text>, AllocError>
+        ensures { IfOk result (λ copy. copy ≡ self.now) }
+    {
+        match self {
+            Pattern::Any => Ok(Pattern::Any),
+            Pattern::Is(value) => Ok(Pattern::Is(value.clone()?)),
+            Pattern::In(members) => Ok(Pattern::In(members.copied()?)),
+            Pattern::NotIn(members) => Ok(Pattern::NotIn(members.copied()?)),
+        }
+    }
+}
+
+/// The same cells, with memory of their own.
+pub fn copied_cells(
+    alloc: Global,
+    cells: &[Pattern<Text>],
+) -> Result<List<Pattern<Text>>, AllocError>
+    ensures { IfOk result (λ copies. copies ≡ cells.now) }
+{
+    let mut copies = List::new(alloc);
+    for cell in cells {
+        copies.push(cell.copied()?)?;
+    }
+    Ok(copies)
 }

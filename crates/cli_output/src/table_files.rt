@@ -65,6 +65,7 @@ fn hand_over<T: RowTaker>(
     ensures beside { OnOk result (T.beside taker.new ≡ T.beside taker.old) }
     ensures valid { OnOk result (All (IsRowOf table.now.attrs limits.now.cell_bytes) (T.rows taker.new)) }
 {
+    taker.expect(bytes.len());
     match read_rows(alloc, table, bytes, limits, taker) {
         Ok(()) => Ok(()),
         Err(TableFault::Memory) => Err(Stop::Memory),

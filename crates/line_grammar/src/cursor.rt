@@ -11,7 +11,7 @@ ghost use Rattle.line_grammar.specs.Phrases.{ReadsToken, ReadsText, Passes, name
 ghost use Rattle.line_grammar.specs.Marks.{same_mark, after_mark};
 
 use crate::lead::Lead;
-use crate::reading::{after_blanks, lacks_blank, lead_at, meant_len, meant_text};
+use crate::reading::{after_blanks, lacks_blank, lead_at, meant_len, meant_text, name_text};
 use crate::tokens::{Mark, Token};
 use crate::unread::Unread;
 use std::alloc::{AllocError, Global};
@@ -90,7 +90,7 @@ impl<'a> Tokens<'a> {
         let Some((Lead::Name(name), after)) = self.front() else {
             return Err(Unread::Absent);
         };
-        let name = Text::new(self.alloc, name)?;
+        let name = name_text(self.alloc, name)?;
         self.rest = after;
         self.after_word = true;
         Ok(name)
@@ -171,7 +171,7 @@ impl<'a> Tokens<'a> {
         ensures word { Passes (after_word word.now) self.old self.new result }
     {
         match self.front() {
-            Some((Lead::Name(name), after)) if name == word => {
+            Some((Lead::Name(name), after)) if name == word.as_bytes() => {
                 self.rest = after;
                 self.after_word = true;
                 Ok(())
@@ -231,7 +231,7 @@ fn owned(alloc: Global, lead: Lead<'_>) -> Result<Token, AllocError>
     ensures { IfOk result (λ token. token ≡ token_of lead.entry) }
 {
     match lead {
-        Lead::Name(name) => Ok(Token::Name(Text::new(alloc, name)?)),
+        Lead::Name(name) => Ok(Token::Name(name_text(alloc, name)?)),
         Lead::Number(number) => Ok(Token::Number(number)),
         Lead::Quoted(bytes) => Ok(Token::Quoted(meant_text(alloc, bytes)?)),
         Lead::Sign(mark) => Ok(Token::Sign(mark)),

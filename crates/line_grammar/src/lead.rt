@@ -6,10 +6,10 @@ ghost use Rattle.line_grammar.specs.Leads.{token_of};
 
 use crate::tokens::Mark;
 
-/// `Quoted` holds the bytes behind the opening quote, up to the end of the line.
+/// `Name` holds the bytes of the name. `Quoted` holds the bytes behind the opening quote, up to the end of the line.
 #[derive(Clone, Copy)]
 pub enum Lead<'a> {
-    Name(&'a str),
+    Name(&'a [u8]),
     Number(u64),
     Quoted(&'a [u8]),
     Sign(Mark),

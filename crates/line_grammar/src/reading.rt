@@ -6,7 +6,7 @@ ghost use Rattle.std.specs.List.{position_or_len};
 ghost use Rattle.std.specs.Char.{is_ascii_alphabetic, is_ascii_digit};
 ghost use Rattle.std.specs.Str.{IsUtf8, is_utf8};
 ghost use Rattle.std.specs.Str.Parse.{digits_value, AllDigits};
-ghost use Rattle.text_lists.specs.Names.{is_name_byte};
+ghost use Rattle.text_lists.specs.Names.{is_name_byte, IsName};
 ghost use Rattle.line_grammar.specs.Tokens.{is_blank, after_blanks, begins_blank, is_passed, escaped, is_special, begins_quote, with_byte, text_from, one_mark, two_marks, mark_at, name_len, digits_len, quoted_token, token_at, is_word, tokens_from};
 ghost use Rattle.line_grammar.specs.Leads.{token_of, meant, measured, are_tokens};
 ghost use Rattle.line_grammar.specs.declared.tokens.Token.{Token};
@@ -323,7 +323,15 @@ fn name_at(bytes: &[u8]) -> (Lead<'_>, &[u8])
     ensures rest { result.1.now ≡ drop (name_len bytes.now) bytes.now }
 {
     let (name, rest) = bytes.split_at(name_len(bytes));
-    (Lead::Name(str::from_utf8(name).unwrap()), rest)
+    (Lead::Name(name), rest)
+}
+
+/// A name as a text.
+pub fn name_text(alloc: Global, name: &[u8]) -> Result<Text, AllocError>
+    requires { IsName name.now }
+    ensures { IfOk result (λ text. text ≡ name.now) }
+{
+    Text::new(alloc, str::from_utf8(name).unwrap())
 }
 
 fn number_at(bytes: &[u8]) -> (Lead<'_>, &[u8])

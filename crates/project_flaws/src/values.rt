@@ -11,7 +11,7 @@ use crate::names::{push_name, push_table};
 use crate::verdicts::BUDGET;
 use cell_values::attrs_at;
 use cfd_implication::{Implication, implies};
-use cfd_semantics::{Dependency, Pattern, TableauRow};
+use cfd_semantics::{Dependency, Pattern, TableauRow, ValueSet};
 use rule_model::{Dep, DepRow, RuleBook};
 use schema_core::{Attr, Domain, List, Table, Text, push_quoted};
 use std::alloc::{AllocError, Global};
@@ -170,7 +170,7 @@ fn bar_row(alloc: Global, value: &Text) -> Result<DepRow, AllocError>
     members.push(value.clone()?)?;
     Ok(TableauRow {
         x: left,
-        a: Pattern::NotIn(members),
+        a: Pattern::NotIn(ValueSet::new(alloc, members)?),
     })
 }
 

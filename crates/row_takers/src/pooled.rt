@@ -15,6 +15,10 @@ use std::rc::RcSlice;
 use text_lists::{List, Text, Texts};
 use value_pool::{Pool, ValueId};
 
+// How many bytes of a file come to one new text, by a guess. Where fewer texts come, the table of hashes that was made for
+// them takes half the length of the file, and nine tenths at most.
+const NEW_TEXT_BYTES: usize = 16;
+
 /// The tables that were read, and the rows so far of the one that is being read. Clauses see their texts.
 #[derive(Drop)]
 pub struct PooledTables {
@@ -104,6 +108,10 @@ impl RowTaker for PooledTables {
     ghost Beside = { List (List (List (List ℕ))) };
 
     ghost beside = { λ t. t.tables };
+
+    fn expect(&mut self, bytes: usize) {
+        self.pool.reserve(bytes / NEW_TEXT_BYTES);
+    }
 
     fn put(&mut self, alloc: Global, row: &[&str]) -> Result<(), AllocError> {
         intern_all(&mut self.pool, &mut self.ids, row)?;

@@ -15,6 +15,11 @@ pub trait RowTaker {
 
     ghost beside: { Self → Beside };
 
+    /// So many bytes of a file are about to be read, so room can be made at once.
+    fn expect(&mut self, bytes: usize)
+        ensures rows { rows self.new ≡ rows self.old }
+        ensures beside { beside self.new ≡ beside self.old };
+
     /// Takes one more row. Where memory is refused, it may hold any rows.
     fn put(&mut self, alloc: Global, row: &[&str]) -> Result<(), AllocError>
         ensures rows { OnOk result (rows self.new ≡ rows self.old ++ texts_in row.now ∷ []) }
@@ -28,6 +33,8 @@ impl RowTaker for List<Texts> {
     ghost Beside = { Unit {0} };
 
     ghost beside = { λ _. tt };
+
+    fn expect(&mut self, _bytes: usize) {}
 
     fn put(&mut self, alloc: Global, row: &[&str]) -> Result<(), AllocError> {
         self.push(owned_texts(alloc, row)?)

@@ -5,8 +5,7 @@ ghost use Rattle.std.specs.List.{enumerate_from};
 ghost use Rattle.rule_cover.specs.Pieces.{dep_pieces, deps_in, numbers_in, single, table_pieces};
 
 use crate::fates::Piece;
-use cert_check::{copy_cell, copy_cells};
-use cfd_semantics::{Dependency, TableauRow};
+use cfd_semantics::{Dependency, TableauRow, copied_cells};
 use rule_model::{Dep, DepRow};
 use schema_core::List;
 use std::alloc::{AllocError, Global};
@@ -24,8 +23,8 @@ fn single(alloc: Global, dep: &Dep, row: &DepRow) -> Result<Dep, AllocError>
 {
     let mut rows = List::new(alloc);
     rows.push(TableauRow {
-        x: copy_cells(alloc, row.x.as_slice())?,
-        a: copy_cell(&row.a)?,
+        x: copied_cells(alloc, row.x.as_slice())?,
+        a: row.a.copied()?,
     })?;
     Ok(Dep {
         name: dep.name.clone()?,

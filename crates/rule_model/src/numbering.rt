@@ -9,36 +9,15 @@ use crate::dep::{Dep, DepRow};
 use crate::edit_rule::{EditCell, EditRule};
 use crate::lookup::{attr_number, attr_numbers, attrs_of, table_number};
 use crate::rules::Rules;
-use cfd_semantics::{Dependency, Inclusion, InclusionRow, Pattern, TableauRow};
+use cfd_semantics::{Dependency, Inclusion, InclusionRow, Pattern, TableauRow, copied_cells};
 use schema_core::{Attr, List, Schema, Text};
 use std::alloc::{AllocError, Global};
-
-fn copy_cell(cell: &Cell) -> Result<Cell, AllocError>
-    ensures { IfOk result (λ copy. copy ≡ cell.now) }
-{
-    match cell {
-        Pattern::Any => Ok(Pattern::Any),
-        Pattern::Is(value) => Ok(Pattern::Is(value.clone()?)),
-        Pattern::In(values) => Ok(Pattern::In(values.copied()?)),
-        Pattern::NotIn(values) => Ok(Pattern::NotIn(values.copied()?)),
-    }
-}
-
-fn copy_cells(alloc: Global, cells: &[Cell]) -> Result<List<Cell>, AllocError>
-    ensures { IfOk result (λ copy. copy ≡ cells.now) }
-{
-    let mut copy = List::new(alloc);
-    for cell in cells {
-        copy.push(copy_cell(cell)?)?;
-    }
-    Ok(copy)
-}
 
 fn copy_cell_at(cells: &[Cell], place: usize) -> Result<Cell, AllocError>
     ensures { IfOk result (λ copy. copy ≡ slice_index_or cells.now place Pattern.Any) }
 {
     match cells.get(place) {
-        Some(cell) => copy_cell(cell),
+        Some(cell) => cell.copied(),
         None => Ok(Pattern::Any),
     }
 }
@@ -47,7 +26,7 @@ fn dep_row(alloc: Global, row: &CfdRow, place: usize) -> Result<DepRow, AllocErr
     ensures { IfOk result (λ made. made ≡ row_at place row.now) }
 {
     Ok(TableauRow {
-        x: copy_cells(alloc, row.x.as_slice())?,
+        x: copied_cells(alloc, row.x.as_slice())?,
         a: copy_cell_at(row.y.as_slice(), place)?,
     })
 }

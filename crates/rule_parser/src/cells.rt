@@ -7,7 +7,7 @@ ghost use Rattle.rule_parser.specs.ReadRules.{IsReadPattern};
 ghost use Rattle.rule_parser.specs.RuleLines.{set_at, set_cell, cell_at, equal_at, differs_at, test_at, pattern_at};
 ghost use Rattle.rule_parser.specs.Takes.{cell_at-takes, pattern_at-takes};
 
-use cfd_semantics::Pattern;
+use cfd_semantics::{Pattern, ValueSet};
 use rule_model::{Cell, EditCell};
 use schema_core::bounds::SET_MEMBERS;
 use schema_core::{Constant, ListItem, Mark, Phrase, Text, Texts, Tokens, Unread};
@@ -37,9 +37,11 @@ fn set_cell(alloc: Global, word: &Text, tokens: &mut Tokens<'_>) -> Result<Cell,
     ensures written { IfOk result IsWrittenCell }
 {
     if word.is("in") {
-        Ok(Pattern::In(set_at(alloc, tokens)?))
+        let members = ValueSet::new(alloc, set_at(alloc, tokens)?)?;
+        Ok(Pattern::In(members))
     } else if word.is("not") {
-        Ok(Pattern::NotIn(set_at(alloc, tokens)?))
+        let members = ValueSet::new(alloc, set_at(alloc, tokens)?)?;
+        Ok(Pattern::NotIn(members))
     } else {
         Err(Unread::Absent)
     }

@@ -70,6 +70,13 @@ impl Pool {
         self.texts.len()
     }
 
+    /// Makes room for so many texts, where there is memory.
+    pub fn reserve(&mut self, texts: usize)
+        ensures { self.new ≡ self.old }
+    {
+        let _ = self.texts.reserve(texts);
+    }
+
     /// The id of a text, which is added where it is new. A text beyond the last id is told as want of memory.
     pub fn intern(&mut self, text: &str) -> Result<ValueId, AllocError>
         ensures id { IfOk result (HasId self.new text.now) }
