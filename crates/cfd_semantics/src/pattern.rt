@@ -1,5 +1,7 @@
 //! The cells of a pattern tableau.
 
+ghost use Rattle.std.specs.Prelude.{◌≡◌, IfOk};
+
 use crate::value_set::ValueSet;
 use std::alloc::{AllocError, Global};
 use text_lists::{List, Text};
@@ -14,7 +16,6 @@ pub enum Pattern<V> {
 }
 
 impl<V> Pattern<V> {
-    ghost use Rattle.std.specs.Prelude.{◌≡◌};
     ghost use Rattle.cfd_semantics.specs.Pattern.{is_set};
 
     /// Whether the cell is a set or the complement of one.
@@ -26,7 +27,6 @@ impl<V> Pattern<V> {
 }
 
 impl<V: PartialEq> Pattern<V> {
-    ghost use Rattle.std.specs.Prelude.{◌≡◌};
     ghost use Rattle.cfd_semantics.specs.Pattern.{matches};
 
     /// Whether the value is one that the cell asks for.
@@ -43,8 +43,6 @@ impl<V: PartialEq> Pattern<V> {
 }
 
 impl Pattern<Text> {
-    ghost use Rattle.std.specs.Prelude.{◌≡◌, IfOk};
-
     /// The same cell, with memory of its own.
     pub fn copied(&self) -> Result<Pattern<Text>, AllocError>
         ensures { IfOk result (λ copy. copy ≡ self.now) }
