@@ -182,7 +182,7 @@ fn answer<S: Shelf, O: Sink, L: Ledger>(
             limits,
         ),
         Form::Desk { project, events } => {
-            desk_project(alloc, keys, project, events, shelf, out, limits, steps)
+            desk_project(alloc, room, project, events, shelf, out, limits, steps)
         }
         Form::Generate { seed } => generate_project(alloc, *seed, out, steps),
     }

@@ -248,4 +248,11 @@ impl Desk {
         let _valid = self.bench.rules();
         &self.bench
     }
+
+    /// The bench as it stands, without the entries.
+    pub fn into_bench(self) -> Bench
+        ensures { (result.rules ≡ self.rules) × (result.limits ≡ self.limits) × (result.history ≡ self.history) }
+    {
+        self.bench
+    }
 }

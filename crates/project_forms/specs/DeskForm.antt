@@ -17,7 +17,7 @@ use Rattle.cli_output.specs.Fetching.{Fetching, ◌>>=◌, about, file, given}
 use Rattle.cli_output.specs.Output.{Outputs, Task}
 use Rattle.cli_output.specs.RuleFiles.{fetch_rules, fetch_schema, spelled}
 use Rattle.project_files.specs.Project.{Tables, fetch_bench, tables_of}
-use Rattle.project_forms.specs.Transcripts.{found_status}
+use Rattle.project_forms.specs.Transcripts.{found_status, transcripts}
 use Rattle.project_forms.specs.declared.desk_form.DeskFiles.{DeskFiles}
 use Rattle.desk_state.specs.Desk.{DeskModel}
 use Rattle.desk.specs.DeskReplies.{IsReply}
@@ -58,6 +58,10 @@ fetch_desk limits name events =
 -- a desk over these tables, with no entry, that may have so many
 abbrev pub opened : ℕ → Tables → DeskModel
 opened last tables = record { rules = tables.rules; limits = tables.limits; last = last; history = tables.history; entries = [] }
+
+-- the transcripts of the events, each with the status of the state in which it ends
+abbrev pub desk_transcripts : DeskModel → List Event → Outputs
+desk_transcripts desk = transcripts IsReply (λ (last : DeskModel). listing desk.rules last.history.present) desk
 
 -- The status is Clean exactly where the rows of the last state satisfy all rules.
 abbrev pub desk_outputs : ℕ → DeskRead → Outputs

@@ -2,11 +2,10 @@
 ghost use Rattle.std.specs.Prelude.{◌≡◌, ◌≤◌};
 ghost use Rattle.text_lists.specs.Limits.{AreLimits};
 ghost use Rattle.desk_events.specs.EventFiles.{events_of};
-ghost use Rattle.violation_report.specs.Listing.{listing};
 ghost use Rattle.cli_output.specs.Fetching.{Fetches, Reads, about};
 ghost use Rattle.cli_output.specs.Output.{Ends, Output, UsesDevices, Writes};
 ghost use Rattle.cli_output.specs.RuleFiles.{spelled};
-ghost use Rattle.project_forms.specs.DeskForm.{desk_outputs, desk_task, event_line, fetch_desk, fetch_events, flaw_of, read_of};
+ghost use Rattle.project_forms.specs.DeskForm.{desk_outputs, desk_task, desk_transcripts, event_line, fetch_desk, fetch_events, flaw_of, read_of};
 
 use crate::run_form::status_of;
 use bench_core::Bench;
@@ -16,7 +15,7 @@ use cli_output::{
 use desk::{Desk, DeskFault, Event, EventCause, EventFault, parse_events, serve_desk};
 use hash_keys::HashKeys;
 use probe_steps::Steps;
-use project_files::fetch_bench;
+use project_files::{Room, fetch_bench};
 use schema_core::{Limits, List, Text};
 use shelf_io::{Shelf, Sink};
 use std::alloc::Global;
@@ -32,7 +31,7 @@ pub struct DeskFiles {
 /// Answers the events of a file over the tables of a project.
 pub fn desk_project<S: Shelf, O: Sink, L: Ledger>(
     alloc: Global,
-    keys: HashKeys,
+    room: &mut Room,
     project: &Text,
     events: &Text,
     shelf: &mut S,
@@ -45,10 +44,11 @@ pub fn desk_project<S: Shelf, O: Sink, L: Ledger>(
     ensures devices { UsesDevices limits.now (desk_task limits.now project.now events.now) result (S.told shelf.old) (S.told shelf.new) (O.told out.old) (O.told out.new) }
 {
     let mut left = limits.all_bytes;
+    let keys = room.keys();
     match fetch_desk(
         alloc, keys, shelf, project, events, limits, &mut left, steps,
     ) {
-        Ok(files) => answer(alloc, files, out, limits.last_id, steps),
+        Ok(files) => answer(alloc, room, files, out, limits.last_id, steps),
         Err(stop) => end_by(alloc, &stop, out),
     }
 }
@@ -113,9 +113,10 @@ fn flaw_of(cause: EventCause) -> LineFlaw
     }
 }
 
-/// Answers the events, and tells whether the last state has a violation.
+/// Answers the events at a desk that is opened for them, and leaves its bench in the room.
 fn answer<O: Sink, L: Ledger>(
     alloc: Global,
+    room: &mut Room,
     files: DeskFiles,
     out: &mut O,
     last: u64,
@@ -126,7 +127,22 @@ fn answer<O: Sink, L: Ledger>(
 {
     let DeskFiles { bench, events } = files;
     let mut desk = Desk::open(alloc, bench, last);
-    match serve_desk(alloc, &mut desk, &events, out, steps) {
+    let status = answer_events(alloc, &mut desk, &events, out, steps);
+    room.keep(desk.into_bench());
+    status
+}
+
+/// Answers the events, and tells whether the last state has a violation.
+fn answer_events<O: Sink, L: Ledger>(
+    alloc: Global,
+    desk: &mut Desk,
+    events: &List<Event>,
+    out: &mut O,
+    steps: &mut Steps<L>,
+) -> Status
+    ensures { Ends (desk_transcripts desk.old events.now) result (O.told out.old) (O.told out.new) }
+{
+    match serve_desk(alloc, desk, events, out, steps) {
         Ok(()) => status_of(desk.bench()),
         Err(DeskFault::WriteFault) => Status::WriteFault,
         Err(DeskFault::Memory) => Status::Memory,
