@@ -63,13 +63,6 @@ impl Model for Entries {
 }
 
 impl Entries {
-    /// No entries. It takes no memory.
-    pub fn new(alloc: Global) -> Entries
-        ensures { result.entries ≡ [] }
-    {
-        Entries::with_hasher(alloc, HashKeys::fixed())
-    }
-
     /// No entries, which are to be found by a hash with these keys. It takes no memory.
     pub fn with_hasher(alloc: Global, keys: HashKeys) -> Entries
         ensures { result.entries ≡ [] }

@@ -1,7 +1,6 @@
 //! Sets of attributes.
 
 ghost use Rattle.std.specs.Prelude.{◌≡◌, ◌<◌, ◌^◌, ℕ, false};
-ghost use Rattle.std.specs.List.{count_by, range_with_len};
 ghost use Rattle.rule_runs.specs.Marks.{marked, with_attr};
 
 /// A set of attributes. A table has at most 64, and each is a bit.
@@ -34,12 +33,5 @@ impl Marks {
     {
         let bits = self.0;
         Marks(bits | (1 << attr))
-    }
-
-    /// How many attributes are in the set.
-    pub fn count(self) -> usize
-        ensures { result ≡ count_by (marked self) (range_with_len 0 64) }
-    {
-        (0..64).filter(|attr| self.has(*attr)).count()
     }
 }
