@@ -1,5 +1,5 @@
 -- The form `find PROJECT TABLE WIDTH SUPPORT`: the dependencies that hold in a table of a project, as a rule file.
-use Rattle.std.specs.Prelude.{◌≡◌, ℕ, ◌≤◌, ◌⊎◌, List, Option, None, Some, Result, Ok, Err, length, slice_get, option_map, option_and_then}
+use Rattle.std.specs.Prelude.{◌≡◌, ℕ, ◌≤◌, ◌⊎◌, List, Option, None, Some, Result, Ok, Err, length, map, slice_get, option_map, option_and_then}
 use Rattle.text_lists.specs.declared.limits.Limits.{Limits}
 use Rattle.schema_core.specs.Schemas.{table_place}
 use Rattle.schema_core.specs.declared.schema.Schema.{Schema}
@@ -7,6 +7,9 @@ use Rattle.schema_core.specs.declared.schema.Table.{Table}
 use Rattle.rule_model.specs.declared.dep.Dep.{Dep}
 use Rattle.dep_finder.specs.Deps.{AreFound, AreMore}
 use Rattle.dep_finder.specs.FoundText.{found_text}
+use Rattle.dep_finder.specs.Minimal.{AreLeast}
+use Rattle.dep_finder.specs.ReadAgain.{IsReadAs}
+use Rattle.dep_finder.specs.Valid.{AreValid, HaveNames}
 use Rattle.cli_output.specs.declared.refusal.Cause.{Cause}
 use Rattle.cli_output.specs.declared.refusal.Cause.TheVariants.{TooManyFound, UnknownTable}
 use Rattle.cli_output.specs.declared.refusal.Refusal.{Refusal}
@@ -42,10 +45,17 @@ fetch_asked limits project name =
 
 -- ---- what is written
 
--- the text of what is found, which is at most 100,000 dependencies
-abbrev pub IsFoundText : Asked → ℕ → ℕ → List ℕ → Type 0
-IsFoundText asked width support bytes =
-    (found : List Dep) × AreFound asked.table asked.number asked.rows width support found × (length found ≤ 100000) × (bytes ≡ found_text asked.table found)
+-- The text of what is found, which is at most 100,000 dependencies. By the meaning of rules alone they are the least ones.
+-- They are rules of the table, each with a name of its own, and the text is read as them, where the limits allow that many.
+pub record IsFoundText (asked : Asked) (width support : ℕ) (bytes : List ℕ) : Type 0 where
+  pub found : List Dep
+  pub are : AreFound asked.table asked.number asked.rows width support found
+  pub few : length found ≤ 100000
+  pub least : AreLeast asked.rows (length asked.table.attrs) width support (map (λ (dep : Dep). dep.rule) found)
+  pub valid : AreValid asked.table asked.number asked.rows found
+  pub names : HaveNames found
+  pub written : bytes ≡ found_text asked.table found
+  pub again : IsReadAs asked.table found bytes
 
 -- more than 100,000 are found
 abbrev pub IsTooMany : Asked → ℕ → ℕ → Type 0
