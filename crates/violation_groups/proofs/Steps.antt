@@ -1,9 +1,10 @@
 -- Steps of the walks over what is found.
 use Rattle.std.proofs.Common.{◌≡◌, ℕ, ◌+◌, ◌<◌, List, [], ◌∷◌, ◌++◌, length, map, take, get_or, Option, Some, None, Result, Ok, Err, IfOk, refl, sym, ap, subst, ◌∙◌, arith, slice_get}
-use Rattle.std.specs.Prelude.{All}
+use Rattle.std.specs.Prelude.{All, sum_by}
 use Rattle.std.specs.List.{AllZip}
-use Rattle.std.specs.Option.{ForSome}
+use Rattle.std.specs.Option.{ForSome, option_map_or}
 use Rattle.std.proofs.lemmas.List.{map-append, take_more}
+use Rattle.std.proofs.lemmas.List.Sums.{sum_by_more}
 use Rattle.std.proofs.lemmas.Option.{get_or_from_slice_get, none-some, slice_get-get_or}
 use Rattle.std.proofs.lemmas.Slice.Zip.{AllZip-long}
 use Rattle.rule_model.specs.Books.{Book, IsBook, book_cinds, book_deps}
@@ -53,6 +54,12 @@ zip-taken {Y} R ys i before after z within all one is = by (slice_get ys i) refl
         absent : (xs : List Y) (j : ℕ) → j < length xs → slice_get xs j ≡ None → ⊥
         absent [] j lt none = omega arith
         absent (x ∷ xs) j lt none = none-some (get_or (x ∷ xs) j x) (sym none ∙ slice_get-get_or (x ∷ xs) j x lt)
+
+-- a sum over the items of which one more was gone over
+pub sum-taken : {X : Type 0} (size : X → ℕ) (xs : List X) (i : ℕ) → i < length xs → sum_by size (take (i + 1) xs) ≡ sum_by size (take i xs) + option_map_or size (slice_get xs i) 0
+sum-taken size [] i within = absurd (omega arith)
+sum-taken size (x ∷ xs) i within =
+    sum_by_more size (x ∷ xs) i x within ∙ ap (λ o. sum_by size (take i (x ∷ xs)) + option_map_or size o 0) (sym (slice_get-get_or (x ∷ xs) i x within))
 
 -- ---- the tables of the rules are there
 

@@ -1,11 +1,13 @@
 //! All rules of a bench.
 
-ghost use Rattle.std.specs.Prelude.{◌≡◌, ◌<◌, IfOk, length, slice_get};
+ghost use Rattle.std.specs.Prelude.{◌≡◌, ◌+◌, ◌<◌, ◌≤◌, IfOk, length, slice_get, sum_by};
 ghost use Rattle.std.specs.List.{AllZip};
 ghost use Rattle.std.specs.Option.{ForSome};
 ghost use Rattle.rule_model.specs.Books.{book_cinds, book_deps};
+ghost use Rattle.bench_core.specs.DirtyCounts.{cind_walk, cind_walk_at, dep_walk, dep_walk_at};
 ghost use Rattle.violation_groups.specs.Groups.{AreFindings, AreGroups, AreMissing, HaveAllLines};
 ghost use Rattle.violation_groups.specs.Listed.{cind_listed, dep_listed};
+ghost use Rattle.violation_groups.specs.Probes.{findings_probes};
 
 use crate::dep_groups::groups_of;
 use crate::groups::{Findings, Group, Missing};
@@ -26,6 +28,7 @@ pub fn findings<L: Ledger>(
 ) -> Result<Findings, AllocError>
     ensures found { IfOk result (AreFindings bench.now.rules bench.now.history.present) }
     ensures law { IfOk result (HaveAllLines bench.now.rules bench.now.history.present) }
+    ensures probes { steps.new ≤ steps.old + findings_probes bench.now.rules bench.now.history.present }
 {
     // The rules are what says that each table that they name is there.
     let _deps = bench.rules().deps();
@@ -39,7 +42,8 @@ fn all_groups<L: Ledger>(
     bench: &Bench,
     steps: &mut Steps<L>,
 ) -> Result<List<List<Group>>, AllocError>
-    ensures { IfOk result (AllZip (λ dep groups. AreGroups (dep_listed bench.now.history.present dep) groups) (book_deps bench.now.rules)) }
+    ensures groups { IfOk result (AllZip (λ dep groups. AreGroups (dep_listed bench.now.history.present dep) groups) (book_deps bench.now.rules)) }
+    ensures probes { steps.new ≤ steps.old + sum_by (dep_walk bench.now.history.present) (book_deps bench.now.rules) }
 {
     let mut all = List::new(alloc);
     for number in 0..bench.queries().dep_count() {
@@ -57,7 +61,8 @@ fn groups_at<L: Ledger>(
     steps: &mut Steps<L>,
 ) -> Result<List<Group>, AllocError>
     requires { number < length (book_deps bench.now.rules) }
-    ensures { IfOk result (λ groups. ForSome (slice_get (book_deps bench.now.rules) number) (λ dep. AreGroups (dep_listed bench.now.history.present dep) groups)) }
+    ensures groups { IfOk result (λ groups. ForSome (slice_get (book_deps bench.now.rules) number) (λ dep. AreGroups (dep_listed bench.now.history.present dep) groups)) }
+    ensures probes { steps.new ≤ steps.old + dep_walk_at bench.now.rules bench.now.history.present number }
 {
     let found = bench.queries().violations(number, steps)?;
     let dep = &bench.rules().deps().as_slice()[number];
@@ -70,7 +75,8 @@ fn all_missing<L: Ledger>(
     bench: &Bench,
     steps: &mut Steps<L>,
 ) -> Result<List<List<Missing>>, AllocError>
-    ensures { IfOk result (AllZip (λ cind missing. AreMissing (cind_listed bench.now.history.present cind) missing) (book_cinds bench.now.rules)) }
+    ensures missing { IfOk result (AllZip (λ cind missing. AreMissing (cind_listed bench.now.history.present cind) missing) (book_cinds bench.now.rules)) }
+    ensures probes { steps.new ≤ steps.old + sum_by (cind_walk bench.now.history.present) (book_cinds bench.now.rules) }
 {
     let mut all = List::new(alloc);
     for number in 0..bench.queries().cind_count() {
@@ -88,7 +94,8 @@ fn missing_at<L: Ledger>(
     steps: &mut Steps<L>,
 ) -> Result<List<Missing>, AllocError>
     requires { number < length (book_cinds bench.now.rules) }
-    ensures { IfOk result (λ missing. ForSome (slice_get (book_cinds bench.now.rules) number) (λ cind. AreMissing (cind_listed bench.now.history.present cind) missing)) }
+    ensures missing { IfOk result (λ missing. ForSome (slice_get (book_cinds bench.now.rules) number) (λ cind. AreMissing (cind_listed bench.now.history.present cind) missing)) }
+    ensures probes { steps.new ≤ steps.old + cind_walk_at bench.now.rules bench.now.history.present number }
 {
     let found = bench.queries().orphans(number, steps)?;
     let cind = &bench.rules().cinds().as_slice()[number];

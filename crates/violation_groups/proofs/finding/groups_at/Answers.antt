@@ -21,8 +21,8 @@ listed_rows-requires g c =
 pub groups_of-requires : goal.groups_of-requires
 groups_of-requires g c = subst (λ texts. All (IsKnownRow texts) c.in_ok-rows.rows.items) (sym c.pool.ensures) c.in_ok-rows.ensures.known
 
-pub returns : goal.returns
-returns g c =
+pub returns-clause-groups : goal.returns-clause-groups
+returns-clause-groups g c =
     let state = c.args.bench.now.history.present in
     let own = c.index-as_slice-number.result in
     let rules = c.as_slice.ensures ∙ c.deps.ensures.deps ∙ ap book_deps c.rules.ensures.value in

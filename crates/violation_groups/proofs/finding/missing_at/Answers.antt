@@ -21,8 +21,8 @@ listed_orphans-requires g c =
 pub missing_of-requires : goal.missing_of-requires
 missing_of-requires g c = subst (λ texts. All (IsKnownKeyed texts) c.in_ok-rows.rows.items) (sym c.pool.ensures) c.in_ok-rows.ensures.known
 
-pub returns : goal.returns
-returns g c =
+pub returns-clause-missing : goal.returns-clause-missing
+returns-clause-missing g c =
     let state = c.args.bench.now.history.present in
     let own = c.index-as_slice-number.result in
     let rules = c.as_slice.ensures ∙ c.cinds.ensures.cinds ∙ ap book_cinds c.rules.ensures.value in
