@@ -1,7 +1,7 @@
 -- Whatever is asked, there is a verdict, if the master rows are finitely many: all maximal runs end in one tuple, or two end
 -- in different ones.
 use Rattle.std.proofs.Common.{◌≡◌, ℕ, zero, suc, ◌+◌, ◌<◌, ◌≤◌, Bool, true, false, List, [], ◌∷◌, ◌++◌, length, Option, Some, None, inl, inr, ◌⊎◌, refl, sym, ap, subst, ◌∙◌, ⊎_elim, arith}
-use Rattle.std.specs.Prelude.{◌≢◌, ◌||◌, ◌==◌, IsSomeAnd, slice_get, option_map}
+use Rattle.std.specs.Prelude.{◌≢◌, ◌||◌, ◌==◌, IsSomeAnd, slice_get, take, option_map}
 use Rattle.std.specs.Option.{option_and_then}
 use Rattle.std.specs.List.{All}
 use Rattle.std.proofs.lemmas.Bool.{cases_lt}
@@ -15,7 +15,7 @@ use Rattle.rule_runs.specs.declared.moves.Move.{Move}
 use Rattle.rule_runs.specs.Marks.{with_attr}
 use Rattle.rule_runs.specs.Moves.{Applies, Basis, Corrects, Fits, IsReady, MatchesPattern, Stage, after, correction, values_in}
 use Rattle.rule_runs.proofs.Moving.{after-is, parts}
-use Rattle.fix_engine.specs.Fixes.{AllEndIn, IsFullRun, Question, stage_after}
+use Rattle.fix_engine.specs.Fixes.{AllEndIn, DifferFirstAt, IsFullRun, Question, stage_after}
 use Rattle.fix_engine.proofs.Judging.{Agree, Among, Differ, judged}
 
 -- ---- what can be decided
@@ -136,14 +136,16 @@ module _ {V : Type 0} (same : (v w : V) → Decided (v ≡ w)) where
   same_option (Some v) None = inr (λ e. none-some v (sym e))
   same_option (Some v) (Some w) = elim (same v w) [ inl e ↦ inl (ap Some e) | inr isnt ↦ inr (λ e. isnt (same_Some v w e)) ]
 
-  -- different lists differ at a place
-  place_of : (vs ws : List V) → vs ≢ ws → (place : ℕ) × (slice_get vs place ≢ slice_get ws place)
+  -- different lists differ at a place, and nowhere before
+  place_of : (vs ws : List V) → vs ≢ ws → (place : ℕ) × DifferFirstAt vs ws place
   place_of [] [] apart = absurd (apart refl)
-  place_of [] (w ∷ ws) apart = (0, λ e. none-some w e)
-  place_of (v ∷ vs) [] apart = (0, λ e. none-some v (sym e))
+  place_of [] (w ∷ ws) apart = (0, record { before = refl; here = λ e. none-some w e })
+  place_of (v ∷ vs) [] apart = (0, record { before = refl; here = λ e. none-some v (sym e) })
   place_of (v ∷ vs) (w ∷ ws) apart = elim (same v w) [
-    | inl e ↦ let (place, differs) = place_of vs ws (λ es. apart (cc)) in (suc place, differs)
-    | inr isnt ↦ (0, λ e. isnt (same_Some v w e))
+    | inl e ↦
+        let (place, first) = place_of vs ws (λ es. apart (cc)) in
+        (suc place, record { before = ap (λ u. u ∷ take place vs) e ∙ ap (λ us. w ∷ us) first.before; here = first.here })
+    | inr isnt ↦ (0, record { before = refl; here = λ e. isnt (same_Some v w e) })
   ]
 
 same_options : {V : Type 0} → ((v w : V) → Decided (v ≡ w)) → (os ps : List (Option V)) → Decided (os ≡ ps)
@@ -192,7 +194,7 @@ correction-parts {V} basis move c is = correction-at (slice_get basis.rules move
 abbrev pub HasVerdict : {V : Type 0} → Question V → Type 0
 HasVerdict question =
     ((moves : List Move) × IsFullRun question moves × AllEndIn question (stage_after question moves).tuple)
-    ⊎ ((one : List Move) × (other : List Move) × (attr : ℕ) × IsFullRun question one × IsFullRun question other × (slice_get (stage_after question one).tuple attr ≢ slice_get (stage_after question other).tuple attr))
+    ⊎ ((one : List Move) × (other : List Move) × (attr : ℕ) × IsFullRun question one × IsFullRun question other × DifferFirstAt (stage_after question one).tuple (stage_after question other).tuple attr)
 
 -- a number above the targets of all rules
 abbrev targets_of : List EditRule → ℕ
@@ -213,8 +215,8 @@ pub has-verdict : {V : Type 0} (same : (v w : V) → (v ≡ w) ⊎ (v ≢ w)) (q
 has-verdict {V} same question rows listed = elim verdict [
   | inl agree ↦ inl (agree.moves, agree.full, agree.all)
   | inr differ ↦
-      let (attr, apart) = place_of same _ _ differ.differ in
-      inr (differ.one, differ.other, attr, differ.full_one, differ.full_other, apart)
+      let (attr, first) = place_of same _ _ differ.differ in
+      inr (differ.one, differ.other, attr, differ.full_one, differ.full_other, first)
 ]
   where
     basis : Basis V

@@ -2,7 +2,7 @@
 -- tuple, or two end in different ones.
 use Rattle.std.proofs.Common.{◌≡◌, ℕ, zero, suc, ◌<◌, List, [], ◌∷◌, inl, inr, ◌⊎◌, refl, sym, subst, ◌∙◌, arith}
 use Rattle.std.specs.Prelude.{◌≢◌}
-use Rattle.rule_runs.specs.Runs.{IsLast, IsMaximal, IsRun, end_of}
+use Rattle.rule_runs.specs.Runs.{IsMaximal, end_of}
 
 -- the list has the element
 abbrev pub Among : {X : Type 0} → List X → X → Type 0

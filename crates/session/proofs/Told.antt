@@ -1,6 +1,6 @@
 -- What a call of `fix` asks of a row of a bench is what a fix of the row asks, and its verdict tells the fix.
 use Rattle.std.proofs.Common.{◌≡◌, ℕ, zero, suc, ◌<◌, Bool, true, false, List, [], ◌∷◌, ◌++◌, length, Option, Some, None, Result, Ok, Err, All, refl, sym, ap, subst, ◌∙◌, arith, inl, inr}
-use Rattle.std.specs.Prelude.{◌↔◌, Any, codes, if◌then◌else◌, IfOk, IfSome, OnOk, slice_get}
+use Rattle.std.specs.Prelude.{◌↔◌, Any, codes, if◌then◌else◌, IfOk, IfSome, OnOk, slice_get, take}
 use Rattle.std.specs.FinMap as finmap
 use Rattle.std.specs.List.{AllZip}
 use Rattle.std.specs.Option.{option_map_or}
@@ -186,7 +186,10 @@ module _ (rules : Book) (limits : Limits) (before : History) (texts : List (List
         attr = attr;
         full_first = one.full;
         full_second = other.full;
-        differ = λ same. differ.here (ap (λ (s : Stage (List ℕ)). slice_get s.tuple attr) (sym one.end) ∙ same ∙ ap (λ (s : Stage (List ℕ)). slice_get s.tuple attr) other.end);
+        differ = record {
+          before = ap (λ (s : Stage (List ℕ)). take attr s.tuple) one.end ∙ differ.before ∙ ap (λ (s : Stage (List ℕ)). take attr s.tuple) (sym other.end);
+          here = λ same. differ.here (ap (λ (s : Stage (List ℕ)). slice_get s.tuple attr) (sym one.end) ∙ same ∙ ap (λ (s : Stage (List ℕ)). slice_get s.tuple attr) other.end);
+        };
         told = told ∙ (λ i. conflict_text rules a.table a.row attr (sym one.end i).tuple (sym other.end i).tuple first.moves second.moves);
         kept = refl;
       } in

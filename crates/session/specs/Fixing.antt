@@ -17,7 +17,7 @@ use Rattle.bench_core.specs.State.{State, TableState, texts_of, with_texts}
 use Rattle.bench_core.specs.declared.edit.EditFault.TheVariants.{UnknownAttr, UnknownRow, UnknownTable}
 use Rattle.rule_runs.specs.Moves.{target_of}
 use Rattle.rule_runs.specs.declared.moves.Move.{Move}
-use Rattle.fix_engine.specs.Fixes.{AllEndIn, IsFullRun, Question, stage_after}
+use Rattle.fix_engine.specs.Fixes.{AllEndIn, DifferFirstAt, IsFullRun, Question, stage_after}
 use Rattle.fix_engine.specs.Questions.{text_question}
 
 -- ---- what is asked
@@ -137,14 +137,15 @@ pub record IsFixed (before : History) (asked : Asked) (bytes : List ℕ) (after 
   pub vouched : (attr : ℕ) → asked.question.stage.validated attr ≡ true → slice_get (stage_after asked.question moves).tuple attr ≡ slice_get asked.question.stage.tuple attr
   pub moved : (attr : ℕ) → slice_get (stage_after asked.question moves).tuple attr ≢ slice_get asked.question.stage.tuple attr → Any (λ move. target_of asked.question.basis move ≡ Some attr) moves
 
--- Two maximal runs end in tuples that differ at an attribute: they are told, and nothing changes.
+-- Two maximal runs end in different tuples: they are told, with the first attribute at which these differ, and nothing
+-- changes.
 pub record IsConflict (rules : Book) (before : History) (asked : Asked) (bytes : List ℕ) (after : History) : Type 0 where
   pub first : List Move
   pub second : List Move
   pub attr : ℕ
   pub full_first : IsFullRun asked.question first
   pub full_second : IsFullRun asked.question second
-  pub differ : slice_get (stage_after asked.question first).tuple attr ≢ slice_get (stage_after asked.question second).tuple attr
+  pub differ : DifferFirstAt (stage_after asked.question first).tuple (stage_after asked.question second).tuple attr
   pub told : bytes ≡ conflict_text rules asked.table asked.row attr (stage_after asked.question first).tuple (stage_after asked.question second).tuple first second
   pub kept : after ≡ before
 
