@@ -65,9 +65,14 @@ tables_text tables all = flat_map pair_text (zip tables all)
 abbrev pub tables_clean : List Table → List (List (List (List ℕ))) → Bool
 tables_clean tables all = list_all pair_clean (zip tables all)
 
--- ---- editing rules that never apply
+-- ---- editing rules that apply to nothing
+--
+-- Three reasons are told. The first two hold in each state of the project: the rule never applies, whatever is changed. The
+-- third is of the rows that are given, those of the files: whoever inserts a master row, the project's script say, may make
+-- the rule apply.
 
--- The target is among the attributes of the patterns: these have to be validated, and the target mustn't be.
+-- The target is among the attributes of the pattern: these have to be validated, and the target mustn't be. So there is no
+-- row to which it applies.
 abbrev pub asks_target : EditRule → Bool
 asks_target rule = list_any (λ (p : ℕ × EditCell). p.0 == rule.target) rule.when
 
@@ -93,36 +98,36 @@ abbrev pub is_out_in : Option Table → ℕ × EditCell → Bool
 is_out_in None asked = false
 is_out_in (Some table) asked = is_out_at (slice_get table.attrs asked.0) asked.1
 
--- a cell of its pattern is met by no value of the domain there
+-- A cell of its pattern is met by no value of the domain there: rows have values of their domains alone, so no row meets it.
 abbrev pub asks_outside : Schema → EditRule → Bool
 asks_outside schema rule = list_any (is_out_in (slice_get schema.tables rule.table)) rule.when
 
--- there is no row to correct from
+-- None of the rows that are given is one to correct from.
 abbrev pub has_no_row : Option (List (List (List ℕ))) → Bool
 has_no_row None = true
 has_no_row (Some rows) = length rows == 0
 
--- why a rule never applies, if it never does
-abbrev pub why_never : Schema → List (List (List (List ℕ))) → EditRule → Option (List ℕ)
-why_never schema all rule =
-    if asks_target rule then Some (codes "its target is in its own pattern")
-    else if asks_outside schema rule then Some (codes "no value of an attribute's domain meets its pattern")
-    else if has_no_row (slice_get all rule.master) then Some (codes "its master table has no row")
+-- what is told of a rule that applies to nothing, and why, if one of the reasons is there
+abbrev pub why_idle : Schema → List (List (List (List ℕ))) → EditRule → Option (List ℕ)
+why_idle schema all rule =
+    if asks_target rule then Some (codes "never applies: its target is in its own pattern")
+    else if asks_outside schema rule then Some (codes "never applies: no value of an attribute's domain meets its pattern")
+    else if has_no_row (slice_get all rule.master) then Some (codes "applies to nothing as read: its master table has no row")
     else None
 
-abbrev pub never_words : EditRule → List ℕ
-never_words rule = codes "edit " ++ rule.name ++ codes " never applies: "
+abbrev pub edit_words : EditRule → List ℕ
+edit_words rule = codes "edit " ++ rule.name ++ codes " "
 
-abbrev pub never_line : EditRule → Option (List ℕ) → List ℕ
-never_line rule None = []
-never_line rule (Some why) = never_words rule ++ why ++ codes "\n"
+abbrev pub idle_line : EditRule → Option (List ℕ) → List ℕ
+idle_line rule None = []
+idle_line rule (Some why) = edit_words rule ++ why ++ codes "\n"
 
 abbrev pub edits_text : Schema → List (List (List (List ℕ))) → List EditRule → List ℕ
-edits_text schema all rules = flat_map (λ (rule : EditRule). never_line rule (why_never schema all rule)) rules
+edits_text schema all rules = flat_map (λ (rule : EditRule). idle_line rule (why_idle schema all rule)) rules
 
--- each may apply
+-- none of the reasons is there
 abbrev pub edits_clean : Schema → List (List (List (List ℕ))) → List EditRule → Bool
-edits_clean schema all rules = list_all (λ (rule : EditRule). is_none (why_never schema all rule)) rules
+edits_clean schema all rules = list_all (λ (rule : EditRule). is_none (why_idle schema all rule)) rules
 
 -- ---- tables that no row can satisfy
 

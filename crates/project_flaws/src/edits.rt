@@ -1,14 +1,15 @@
-//! Editing rules that never apply.
+//! Editing rules that apply to nothing.
 ghost use Rattle.std.specs.Prelude.{◌≡◌, ◌++◌, IfOk, OnOk, Some};
 ghost use Rattle.std.specs.Option.{option_copied};
-ghost use Rattle.project_flaws.specs.Told.{asks_outside, asks_target, edits_clean, edits_text, has_no_row, is_met, is_out, is_out_at, is_out_in, never_line, never_words, none_meets, why_never};
+ghost use Rattle.project_flaws.specs.Told.{asks_outside, asks_target, edits_clean, edits_text, has_no_row, is_met, is_out, is_out_at, is_out_in, idle_line, edit_words, none_meets, why_idle};
 
 use crate::items::item;
 use rule_model::{EditCell, EditRule};
 use schema_core::{Attr, Domain, List, Schema, Table, Text, Texts};
 use std::alloc::AllocError;
 
-/// Tells the editing rules that never apply, and whether each may.
+/// Tells the editing rules that never apply, and those that have no master row among the rows that are given; and whether
+/// there are none.
 pub fn push_edits(
     out: &mut Vec<u8>,
     schema: &Schema,
@@ -20,15 +21,15 @@ pub fn push_edits(
 {
     let mut clean = true;
     for rule in rules {
-        let why = why_never(schema, all, rule);
-        push_never(out, rule, why)?;
+        let why = why_idle(schema, all, rule);
+        push_idle(out, rule, why)?;
         clean = clean && why.is_none();
     }
     Ok(clean)
 }
 
-fn push_never(out: &mut Vec<u8>, rule: &EditRule, why: Option<&str>) -> Result<(), AllocError>
-    ensures { OnOk result (out.new.items ≡ out.old.items ++ never_line rule.now (option_copied why.entry)) }
+fn push_idle(out: &mut Vec<u8>, rule: &EditRule, why: Option<&str>) -> Result<(), AllocError>
+    ensures { OnOk result (out.new.items ≡ out.old.items ++ idle_line rule.now (option_copied why.entry)) }
 {
     match why {
         Some(why) => push_why(out, rule, why),
@@ -37,33 +38,33 @@ fn push_never(out: &mut Vec<u8>, rule: &EditRule, why: Option<&str>) -> Result<(
 }
 
 fn push_why(out: &mut Vec<u8>, rule: &EditRule, why: &str) -> Result<(), AllocError>
-    ensures { OnOk result (out.new.items ≡ out.old.items ++ never_line rule.now (Some why.now)) }
+    ensures { OnOk result (out.new.items ≡ out.old.items ++ idle_line rule.now (Some why.now)) }
 {
-    push_never_words(out, rule)?;
+    push_edit_words(out, rule)?;
     out.extend_from_slice(why.as_bytes())?;
     out.push(b'\n')?;
     Ok(())
 }
 
-fn push_never_words(out: &mut Vec<u8>, rule: &EditRule) -> Result<(), AllocError>
-    ensures { OnOk result (out.new.items ≡ out.old.items ++ never_words rule.now) }
+fn push_edit_words(out: &mut Vec<u8>, rule: &EditRule) -> Result<(), AllocError>
+    ensures { OnOk result (out.new.items ≡ out.old.items ++ edit_words rule.now) }
 {
     out.extend_from_slice(b"edit ")?;
     out.extend_from_slice(rule.name.as_str().as_bytes())?;
-    out.extend_from_slice(b" never applies: ")
+    out.extend_from_slice(b" ")
 }
 
-fn why_never(schema: &Schema, all: &[List<Texts>], rule: &EditRule) -> Option<&'static str>
-    ensures { option_copied result ≡ why_never schema.now all.now rule.now }
+fn why_idle(schema: &Schema, all: &[List<Texts>], rule: &EditRule) -> Option<&'static str>
+    ensures { option_copied result ≡ why_idle schema.now all.now rule.now }
 {
     if asks_target(rule) {
-        return Some("its target is in its own pattern");
+        return Some("never applies: its target is in its own pattern");
     }
     if asks_outside(schema, rule) {
-        return Some("no value of an attribute's domain meets its pattern");
+        return Some("never applies: no value of an attribute's domain meets its pattern");
     }
     if has_no_row(item(all, rule.master)) {
-        return Some("its master table has no row");
+        return Some("applies to nothing as read: its master table has no row");
     }
     None
 }

@@ -1,5 +1,5 @@
 //! What is off in a project that was read: what is odd in the rows of its tables, the tables whose dependencies no row can
-//! satisfy and the values with which none can, and the editing rules that never apply.
+//! satisfy and the values with which none can, and the editing rules that apply to nothing.
 #![tactic(auto)]
 
 mod cited;
