@@ -31,6 +31,7 @@ use Rattle.project_flaws.specs.declared.verdicts.Verdict.TheVariants.{Holds, Nev
 
 -- ---- what is odd in a table
 
+-- A row is told by its place, counted from 1. In tables in which nothing was changed since they were loaded that is its id.
 abbrev pub row_words : Table → ℕ → List ℕ
 row_words table row = table.name ++ codes " row " ++ decimal row ++ codes ": "
 
@@ -51,7 +52,7 @@ table_text table rows = count_line table (length rows) ++ flat_map (flaw_line ta
 abbrev pub has_no_flaw : Table → List (List (List ℕ)) → Bool
 has_no_flaw table rows = length (flaws_of (length table.attrs) rows) == 0
 
--- ---- all tables, with the rows of each
+-- ---- all tables, with the rows of each: nothing is told of the rows of a table that aren't given
 
 abbrev pub pair_text : Table × List (List (List ℕ)) → List ℕ
 pair_text (table, rows) = table_text table rows
@@ -102,9 +103,9 @@ is_out_in (Some table) asked = is_out_at (slice_get table.attrs asked.0) asked.1
 abbrev pub asks_outside : Schema → EditRule → Bool
 asks_outside schema rule = list_any (is_out_in (slice_get schema.tables rule.table)) rule.when
 
--- None of the rows that are given is one to correct from.
+-- There is no row to correct from. Of a table whose rows aren't given that isn't known.
 abbrev pub has_no_row : Option (List (List (List ℕ))) → Bool
-has_no_row None = true
+has_no_row None = false
 has_no_row (Some rows) = length rows == 0
 
 -- what is told of a rule that applies to nothing, and why, if one of the reasons is there

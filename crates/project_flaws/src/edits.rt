@@ -141,6 +141,6 @@ fn has_no_row(rows: Option<&List<Texts>>) -> bool
 {
     match rows {
         Some(rows) => rows.as_slice().is_empty(),
-        None => true,
+        None => false,
     }
 }

@@ -37,7 +37,8 @@ fn status_of(clean: bool) -> Status
     }
 }
 
-/// What is off in a project that was read, by the rows that its bench has.
+/// What is off in a project that was read, by the rows that its bench has. Rows are told by their places, counted from 1:
+/// these are their ids where nothing in the bench was changed since it was loaded.
 pub fn told_on(alloc: Global, bench: &Bench) -> Result<Told, AllocError>
     ensures told { IfOk result (λ told. IsTold bench.now.rules (all_rows bench.now.history.present) told.text.items told.status) }
     ensures whole { IfOk result (λ told. IsWhole told.status) }
@@ -51,8 +52,9 @@ pub fn told_on(alloc: Global, bench: &Bench) -> Result<Told, AllocError>
     )
 }
 
-/// What is off in a project that was read: its rules, and the rows of its tables in the order of the schema. Where the
-/// rows of a table are missing, nothing is told of them.
+/// What is off in a project that was read: its rules, and the rows of its tables in the order of the schema, each told by
+/// its place there, counted from 1. Where the rows of a table are missing, nothing is told of them, nor that a rule has no
+/// master row among them.
 pub fn told_of(
     alloc: Global,
     keys: HashKeys,
