@@ -1,5 +1,5 @@
 -- The tableau rows that a tree of cases rests on: those of which a leaf cites a clause.
-use Rattle.std.specs.Prelude.{◌≡◌, ℕ, ◌+◌, Bool, false, ◌==◌, ◌&&◌, List, [], ◌∷◌, map, filter, slice_get, if◌then◌else◌, Option, None, Some}
+use Rattle.std.specs.Prelude.{◌≡◌, ◌≤◌, ℕ, ◌+◌, Bool, false, ◌==◌, ◌&&◌, List, [], ◌∷◌, map, filter, slice_get, if◌then◌else◌, Option, None, Some}
 use Rattle.std.specs.List.{enumerate_from, flat_map, list_any}
 use Rattle.std.specs.Str.{bytes_eq}
 use Rattle.cfd_semantics.specs.declared.dependency.TableauRow.{TableauRow}
@@ -7,7 +7,7 @@ use Rattle.rule_model.specs.declared.decl.Decl.{Decl}
 use Rattle.rule_model.specs.declared.decl.Decl.TheVariants as decls
 use Rattle.rule_model.specs.declared.dep.Dep.{Dep}
 use Rattle.rule_model.specs.Books.{Book, book_deps}
-use Rattle.case_tree.specs.CaseTree.{Refutes}
+use Rattle.case_tree.specs.CaseTree.{Refutes, leaf_count}
 use Rattle.case_tree.specs.declared.tree.Reason.TheVariants.{Clause, NoneOf, Two}
 use Rattle.case_tree.specs.declared.tree.Node.{Node}
 use Rattle.case_tree.specs.declared.tree.Node.TheVariants.{Leaf, Split, Unclosed}
@@ -63,6 +63,7 @@ is_cited clauses nodes row = list_any (λ node. is_row row (clause_row clauses n
 abbrev pub cited_rows : Book → List ℕ → ℕ → List Node → List RowName
 cited_rows rules name table nodes = filter (is_cited (clause_rows table (book_deps rules)) nodes) (written_rows name rules.decls)
 
--- they are those that some tree cites which refutes that a row can satisfy the dependencies of the table
+-- they are those that some tree cites which refutes that a row can satisfy the dependencies of the table, and which has no
+-- more than 100,000 leaves
 abbrev pub AreCited : Book → List ℕ → ℕ → List RowName → Type 0
-AreCited rules name table rows = (nodes : List Node) × Refutes (question rules table) nodes × (rows ≡ cited_rows rules name table nodes)
+AreCited rules name table rows = (nodes : List Node) × Refutes (question rules table) nodes × (leaf_count nodes ≤ 100000) × (rows ≡ cited_rows rules name table nodes)

@@ -1,8 +1,8 @@
 //! Whether some row can satisfy the dependencies of a table.
-ghost use Rattle.std.specs.Prelude.{◌≡◌, ◌++◌, IfOk, IfSome, OnOk};
+ghost use Rattle.std.specs.Prelude.{◌≡◌, ◌≤◌, ◌++◌, IfOk, IfSome, OnOk};
 ghost use Rattle.std.specs.List.{AllZip, list_all};
 ghost use Rattle.schema_core.specs.Schemas.{table_place};
-ghost use Rattle.case_tree.specs.CaseTree.{Refutes};
+ghost use Rattle.case_tree.specs.CaseTree.{Refutes, leaf_count};
 ghost use Rattle.cfd_consistency.specs.Consistent.{IsConsistent};
 ghost use Rattle.cfd_consistency.specs.Question.{question};
 ghost use Rattle.project_flaws.specs.Told.{by_line, is_good, never_text, open_text, row_parts, verdict_line, verdicts_text};
@@ -75,7 +75,7 @@ fn holds(alloc: Global, rules: &RuleBook, table: &Table) -> Result<Verdict, Allo
 }
 
 fn never(alloc: Global, rules: &RuleBook, table: &Table, tree: &Tree) -> Result<Verdict, AllocError>
-    requires { IfSome (table_place rules.now.schema table.now.name) (λ place. Refutes (question rules.now place) tree.now × ¬ IsConsistent rules.now place) }
+    requires { IfSome (table_place rules.now.schema table.now.name) (λ place. Refutes (question rules.now place) tree.now × (leaf_count tree.now ≤ 100000) × ¬ IsConsistent rules.now place) }
     ensures { IfOk result (IsVerdictFor rules.now table.now) }
 {
     let rows = match rules.schema().table_named(table.name.as_str()) {
