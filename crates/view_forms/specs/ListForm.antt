@@ -15,15 +15,19 @@ use Rattle.view_project.specs.Looking.{LooksAt, counts_of}
 use Rattle.view_project.specs.ProjectTask.{project_task}
 use Rattle.view_forms.specs.Statuses.{status_of}
 
--- the line that refuses what is asked for, where there is one, and else what is told of the rules
-abbrev pub told_unless : List ℕ → List ℕ → Outputs
-told_unless [] body = Only (list_text body) (status_of body)
-told_unless (byte ∷ bytes) body = Only (byte ∷ bytes) Refused
-
 -- the violations of a state, so many rows having been read of each table
+abbrev pub list_told : Book → List ℕ → State → ListOptions → Outputs
+list_told rules counts state options bytes status =
+    (findings : Findings) × AreFindings rules state findings × Only (list_text (list_body rules counts options findings)) (status_of (list_body rules counts options findings)) bytes status
+
+-- the line that refuses what is asked for, where there is one, and else what is told
+abbrev pub told_unless : List ℕ → Outputs → Outputs
+told_unless [] told = told
+told_unless (byte ∷ bytes) told = Only (byte ∷ bytes) Refused
+
+-- the violations of a state, or the line that refuses the table or the rule that is asked for
 abbrev pub list_of : Book → List ℕ → State → ListOptions → Outputs
-list_of rules counts state options bytes status =
-    (findings : Findings) × AreFindings rules state findings × told_unless (list_refusal rules options) (list_body rules counts options findings) bytes status
+list_of rules counts state options = told_unless (list_refusal rules options) (list_told rules counts state options)
 
 abbrev pub list_outputs : ListOptions → ProjectRead → Outputs
 list_outputs options project bytes status =

@@ -4,7 +4,7 @@ ghost use Rattle.std.specs.Prelude.{◌≡◌, IfOk};
 ghost use Rattle.cli_output.specs.Output.{IsWhole};
 ghost use Rattle.project_files.specs.Project.{read_of};
 ghost use Rattle.view_options.specs.declared.options.ListOptions.{ListOptions};
-ghost use Rattle.view_forms.specs.ListForm.{list_of, list_outputs, told_unless};
+ghost use Rattle.view_forms.specs.ListForm.{list_of, list_outputs, list_told, told_unless};
 
 use crate::told::{refused, status_of};
 use probe_steps::Steps;
@@ -67,22 +67,41 @@ fn list_shown<L: Ledger>(
     ensures told { IfOk result (λ shown. list_of looked.now.bench.rules looked.now.counts looked.now.bench.history.present options.now shown.text.items shown.status) }
     ensures whole { IfOk result (λ shown. IsWhole shown.status) }
 {
-    let rules = looked.bench.rules();
-    let counts = looked.counts.as_slice();
-    let found = findings(alloc, &looked.bench, steps)?;
-    let body = list_body(alloc, rules, counts, options, &found)?;
-    let refusal = list_refusal(alloc, rules, options)?;
-    told_unless(alloc, refusal, &body)
+    let refusal = list_refusal(alloc, looked.bench.rules(), options)?;
+    told_unless(alloc, refusal, looked, options, steps)
 }
 
-fn told_unless(alloc: Global, refusal: Vec<u8>, body: &[u8]) -> Result<Shown, AllocError>
-    ensures told { IfOk result (λ shown. told_unless refusal.items body.now shown.text.items shown.status) }
+/// Tells the line that refuses what is asked for, where there is one, and looks for violations only where there is none.
+fn told_unless<L: Ledger>(
+    alloc: Global,
+    refusal: Vec<u8>,
+    looked: &Looked,
+    options: &ListOptions,
+    steps: &mut Steps<L>,
+) -> Result<Shown, AllocError>
+    ensures told { IfOk result (λ shown. told_unless refusal.items (list_told looked.now.bench.rules looked.now.counts looked.now.bench.history.present options.now) shown.text.items shown.status) }
     ensures whole { IfOk result (λ shown. IsWhole shown.status) }
 {
     if !refusal.is_empty() {
         return Ok(refused(refusal));
     }
-    let text = list_text(alloc, body)?;
-    let status = status_of(body);
+    list_told(alloc, looked, options, steps)
+}
+
+fn list_told<L: Ledger>(
+    alloc: Global,
+    looked: &Looked,
+    options: &ListOptions,
+    steps: &mut Steps<L>,
+) -> Result<Shown, AllocError>
+    ensures told { IfOk result (λ shown. list_told looked.now.bench.rules looked.now.counts looked.now.bench.history.present options.now shown.text.items shown.status) }
+    ensures whole { IfOk result (λ shown. IsWhole shown.status) }
+{
+    let rules = looked.bench.rules();
+    let counts = looked.counts.as_slice();
+    let found = findings(alloc, &looked.bench, steps)?;
+    let body = list_body(alloc, rules, counts, options, &found)?;
+    let text = list_text(alloc, &body)?;
+    let status = status_of(&body);
     Ok(Shown { text, status })
 }

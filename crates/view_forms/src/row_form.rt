@@ -160,6 +160,9 @@ fn push_answers<L: Ledger>(
 ) -> Result<(), AllocError>
     ensures { OnOk result ((replies : List ℕ) × AreReplies bench.old.rules bench.old.limits bench.old.history options.now replies × (out.new.items ≡ out.old.items ++ replies)) }
 {
+    if options.vouch.as_slice().is_empty() {
+        return Ok(());
+    }
     let sink = answers(alloc, bench, options, steps)?;
     out.extend_from_slice(sink.written())?;
     Ok(())
