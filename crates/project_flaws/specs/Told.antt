@@ -45,9 +45,12 @@ flaw_line table (Spaced attr row) =
     row_words table row ++ attr_name (slice_get table.attrs attr) ++ codes " has blanks at an end, and stands without them in another row\n"
 flaw_line table (Repeated row) = row_words table row ++ codes "stands above, too\n"
 
+abbrev pub flaws_text : Table → List (List (List ℕ)) → List ℕ
+flaws_text table rows = flat_map (flaw_line table) (flaws_of (length table.attrs) rows)
+
 -- how many rows were read, and what is odd in them
 abbrev pub table_text : Table → List (List (List ℕ)) → List ℕ
-table_text table rows = count_line table (length rows) ++ flat_map (flaw_line table) (flaws_of (length table.attrs) rows)
+table_text table rows = count_line table (length rows) ++ flaws_text table rows
 
 abbrev pub has_no_flaw : Table → List (List (List ℕ)) → Bool
 has_no_flaw table rows = length (flaws_of (length table.attrs) rows) == 0
@@ -57,11 +60,18 @@ has_no_flaw table rows = length (flaws_of (length table.attrs) rows) == 0
 abbrev pub pair_text : Table × List (List (List ℕ)) → List ℕ
 pair_text (table, rows) = table_text table rows
 
+abbrev pub pair_flaws : Table × List (List (List ℕ)) → List ℕ
+pair_flaws (table, rows) = flaws_text table rows
+
 abbrev pub pair_clean : Table × List (List (List ℕ)) → Bool
 pair_clean (table, rows) = has_no_flaw table rows
 
 abbrev pub tables_text : List Table → List (List (List (List ℕ))) → List ℕ
 tables_text tables all = flat_map pair_text (zip tables all)
+
+-- what is odd, without how many rows were read
+abbrev pub tables_flaws : List Table → List (List (List (List ℕ))) → List ℕ
+tables_flaws tables all = flat_map pair_flaws (zip tables all)
 
 abbrev pub tables_clean : List Table → List (List (List (List ℕ))) → Bool
 tables_clean tables all = list_all pair_clean (zip tables all)
@@ -203,3 +213,13 @@ status_of false = Findings
 -- what is told, with the status that goes with it
 abbrev pub IsTold : Book → List (List (List (List ℕ))) → List ℕ → Status → Type 0
 IsTold rules all bytes status = (verdicts : List Verdict) × AreVerdicts rules verdicts × (bytes ≡ whole_text rules all verdicts) × (status ≡ status_of (is_clean rules all verdicts))
+
+-- ---- the same without the numbers of rows: only what is off
+
+abbrev pub findings_text : Book → List (List (List (List ℕ))) → List Verdict → List ℕ
+findings_text rules all verdicts =
+    tables_flaws rules.schema.tables all ++ verdicts_text rules.schema.tables verdicts ++ edits_text rules.schema all (book_edits rules)
+
+-- all that is off, and nothing else
+abbrev pub IsFound : Book → List (List (List (List ℕ))) → List ℕ → Type 0
+IsFound rules all bytes = (verdicts : List Verdict) × AreVerdicts rules verdicts × (bytes ≡ findings_text rules all verdicts)

@@ -4,6 +4,7 @@
 
 mod cited;
 mod edits;
+mod found;
 mod items;
 mod names;
 mod rows;
@@ -12,6 +13,7 @@ mod values;
 mod verdicts;
 
 pub use cited::RowName;
+pub use found::found_on;
 pub use told::{Told, told_of, told_on};
 pub use values::{MayStand, ValueVerdict};
 pub use verdicts::Verdict;

@@ -123,7 +123,7 @@ fn push_table(
     Ok(flaws.as_slice().is_empty())
 }
 
-fn push_flaws(out: &mut Vec<u8>, table: &Table, flaws: &[Flaw]) -> Result<(), AllocError>
+pub fn push_flaws(out: &mut Vec<u8>, table: &Table, flaws: &[Flaw]) -> Result<(), AllocError>
     ensures { OnOk result (out.new.items ≡ out.old.items ++ flat_map (flaw_line table.now) flaws.now) }
 {
     for flaw in flaws {

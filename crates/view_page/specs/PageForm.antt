@@ -1,6 +1,5 @@
 -- The form `page PROJECT` of `cfdview`: a project as a page.
-use Rattle.std.specs.Prelude.{◌≡◌, ◌↔◌, ℕ, Bool, true, false, not, ◌&&◌, if◌then◌else◌, List, [], ◌∷◌, Option, None, Some, filter, codes, nat_eq}
-use Rattle.std.specs.List.{ends_with, starts_with}
+use Rattle.std.specs.Prelude.{◌≡◌, ◌↔◌, ℕ, List, [], ◌∷◌, Option, None, Some}
 use Rattle.text_lists.specs.declared.limits.Limits.{Limits}
 use Rattle.line_grammar.specs.Lines.{lines}
 use Rattle.rule_model.specs.Books.{Book}
@@ -17,7 +16,7 @@ use Rattle.cli_output.specs.Output.{Outputs, Task}
 use Rattle.cli_output.specs.declared.status.Status.{Status}
 use Rattle.cli_output.specs.declared.status.Status.TheVariants.{Clean, Findings as Found}
 use Rattle.project_files.specs.Project.{ProjectRead}
-use Rattle.project_flaws.specs.Told.{IsTold}
+use Rattle.project_flaws.specs.Told.{IsFound}
 use Rattle.project_flaws.specs.Rows.{all_rows}
 use Rattle.view_project.specs.Looking.{LooksAt, counts_of}
 use Rattle.view_project.specs.ProjectTask.{project_task}
@@ -34,28 +33,9 @@ options_of options = record { first = first_shown options.first; loaded = option
 
 -- ---- what `check` finds
 
--- it tells how many rows a table has, as `table t: 3 rows`
-abbrev pub is_count : List ℕ → Bool
-is_count line = starts_with nat_eq line (codes "table ") && ends_with nat_eq line (codes " rows")
-
-abbrev pub is_finding : List ℕ → Bool
-is_finding line = not (is_count line)
-
--- the lines of a text, without those
-abbrev pub lines_found : List ℕ → List (List ℕ)
-lines_found told = filter is_finding (lines told)
-
-abbrev pub is_clean : Status → Bool
-is_clean Clean = true
-is_clean other = false
-
--- what `check` finds, by the text that it tells and the status
-abbrev pub found_of : List ℕ → Status → List (List ℕ)
-found_of told status = if is_clean status then [] else lines_found told
-
--- what it finds in the rules, and in the tables of a state
+-- the lines of what it finds in the rules, and in the tables of a state
 abbrev pub IsChecked : Book → State → List (List ℕ) → Type 0
-IsChecked rules state found = (told : List ℕ) × (status : Status) × IsTold rules (all_rows state) told status × (found ≡ found_of told status)
+IsChecked rules state found = (text : List ℕ) × IsFound rules (all_rows state) text × (found ≡ lines text)
 
 -- ---- the page of a state
 
