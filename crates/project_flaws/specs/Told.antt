@@ -1,6 +1,7 @@
 -- What is off in a project that was read: in the rows of its tables, and in its rules.
-use Rattle.std.specs.Prelude.{◌≡◌, ℕ, Bool, true, false, not, ◌&&◌, List, [], ◌∷◌, ◌++◌, length, slice_get, is_none, ◌==◌, if◌then◌else◌, Option, None, Some, codes, decimal}
+use Rattle.std.specs.Prelude.{◌≡◌, ◌-◌, ℕ, Bool, true, false, not, ◌&&◌, List, [], ◌∷◌, ◌++◌, length, slice_get, is_none, ◌==◌, if◌then◌else◌, Option, None, Some, codes, decimal}
 use Rattle.std.specs.List.{flat_map, list_all, list_any, zip}
+use Rattle.std.specs.Option.{option_map_or}
 use Rattle.std.specs.Str.{bytes_eq}
 use Rattle.line_grammar.specs.Tokens.{quoted}
 use Rattle.line_grammar.specs.Spelling.{comma_separated, line_text, mark, name, number}
@@ -23,6 +24,7 @@ use Rattle.cli_output.specs.declared.status.Status.TheVariants.{Clean, Findings}
 use Rattle.view_refusal.specs.RowCounts.{count_line}
 use Rattle.project_flaws.specs.Verdicts.{AreVerdicts}
 use Rattle.project_flaws.specs.declared.cited.RowName.{RowName}
+use Rattle.project_flaws.specs.declared.rows.TableRows.{TableRows}
 use Rattle.project_flaws.specs.declared.values.MayStand.{MayStand}
 use Rattle.project_flaws.specs.declared.values.MayStand.TheVariants as may
 use Rattle.project_flaws.specs.declared.values.ValueVerdict.{ValueVerdict}
@@ -31,49 +33,62 @@ use Rattle.project_flaws.specs.declared.verdicts.Verdict.TheVariants.{Holds, Nev
 
 -- ---- what is odd in a table
 
--- A row is told by its place, counted from 1. In tables in which nothing was changed since they were loaded that is its id.
 abbrev pub row_words : Table → ℕ → List ℕ
 row_words table row = table.name ++ codes " row " ++ decimal row ++ codes ": "
+
+-- the id of a row by its place, counted from 1
+abbrev pub id_at : List ℕ → ℕ → ℕ
+id_at ids place = option_map_or (λ id. id) (slice_get ids (place - 1)) place
 
 abbrev pub attr_name : Option Attr → List ℕ
 attr_name None = []
 attr_name (Some attr) = attr.name
 
-abbrev pub flaw_line : Table → Flaw → List ℕ
-flaw_line table (Long attr row) = row_words table row ++ attr_name (slice_get table.attrs attr) ++ codes " runs over more than ten lines\n"
-flaw_line table (Spaced attr row) =
-    row_words table row ++ attr_name (slice_get table.attrs attr) ++ codes " has blanks at an end, and stands without them in another row\n"
-flaw_line table (Repeated row) = row_words table row ++ codes "stands above, too\n"
+abbrev pub long_line : Table → ℕ → ℕ → List ℕ
+long_line table row attr = row_words table row ++ attr_name (slice_get table.attrs attr) ++ codes " runs over more than ten lines\n"
 
-abbrev pub flaws_text : Table → List (List (List ℕ)) → List ℕ
-flaws_text table rows = flat_map (flaw_line table) (flaws_of (length table.attrs) rows)
+abbrev pub spaced_line : Table → ℕ → ℕ → List ℕ
+spaced_line table row attr =
+    row_words table row ++ attr_name (slice_get table.attrs attr) ++ codes " has blanks at an end, and stands without them in another row\n"
+
+abbrev pub repeated_line : Table → ℕ → List ℕ
+repeated_line table row = row_words table row ++ codes "stands above, too\n"
+
+-- rows are told by their ids
+abbrev pub flaw_line : Table → List ℕ → Flaw → List ℕ
+flaw_line table ids (Long attr row) = long_line table (id_at ids row) attr
+flaw_line table ids (Spaced attr row) = spaced_line table (id_at ids row) attr
+flaw_line table ids (Repeated row) = repeated_line table (id_at ids row)
+
+abbrev pub flaws_text : Table → TableRows → List ℕ
+flaws_text table rows = flat_map (flaw_line table rows.ids) (flaws_of (length table.attrs) rows.texts)
 
 -- how many rows were read, and what is odd in them
-abbrev pub table_text : Table → List (List (List ℕ)) → List ℕ
-table_text table rows = count_line table (length rows) ++ flaws_text table rows
+abbrev pub table_text : Table → TableRows → List ℕ
+table_text table rows = count_line table (length rows.texts) ++ flaws_text table rows
 
-abbrev pub has_no_flaw : Table → List (List (List ℕ)) → Bool
-has_no_flaw table rows = length (flaws_of (length table.attrs) rows) == 0
+abbrev pub has_no_flaw : Table → TableRows → Bool
+has_no_flaw table rows = length (flaws_of (length table.attrs) rows.texts) == 0
 
 -- ---- all tables, with the rows of each: nothing is told of the rows of a table that aren't given
 
-abbrev pub pair_text : Table × List (List (List ℕ)) → List ℕ
+abbrev pub pair_text : Table × TableRows → List ℕ
 pair_text (table, rows) = table_text table rows
 
-abbrev pub pair_flaws : Table × List (List (List ℕ)) → List ℕ
+abbrev pub pair_flaws : Table × TableRows → List ℕ
 pair_flaws (table, rows) = flaws_text table rows
 
-abbrev pub pair_clean : Table × List (List (List ℕ)) → Bool
+abbrev pub pair_clean : Table × TableRows → Bool
 pair_clean (table, rows) = has_no_flaw table rows
 
-abbrev pub tables_text : List Table → List (List (List (List ℕ))) → List ℕ
+abbrev pub tables_text : List Table → List TableRows → List ℕ
 tables_text tables all = flat_map pair_text (zip tables all)
 
 -- what is odd, without how many rows were read
-abbrev pub tables_flaws : List Table → List (List (List (List ℕ))) → List ℕ
+abbrev pub tables_flaws : List Table → List TableRows → List ℕ
 tables_flaws tables all = flat_map pair_flaws (zip tables all)
 
-abbrev pub tables_clean : List Table → List (List (List (List ℕ))) → Bool
+abbrev pub tables_clean : List Table → List TableRows → Bool
 tables_clean tables all = list_all pair_clean (zip tables all)
 
 -- ---- editing rules that apply to nothing
@@ -114,12 +129,12 @@ abbrev pub asks_outside : Schema → EditRule → Bool
 asks_outside schema rule = list_any (is_out_in (slice_get schema.tables rule.table)) rule.when
 
 -- There is no row to correct from. Of a table whose rows aren't given that isn't known.
-abbrev pub has_no_row : Option (List (List (List ℕ))) → Bool
+abbrev pub has_no_row : Option TableRows → Bool
 has_no_row None = false
-has_no_row (Some rows) = length rows == 0
+has_no_row (Some rows) = length rows.texts == 0
 
 -- what is told of a rule that applies to nothing, and why, if one of the reasons is there
-abbrev pub why_idle : Schema → List (List (List (List ℕ))) → EditRule → Option (List ℕ)
+abbrev pub why_idle : Schema → List TableRows → EditRule → Option (List ℕ)
 why_idle schema all rule =
     if asks_target rule then Some (codes "never applies: its target is in its own pattern")
     else if asks_outside schema rule then Some (codes "never applies: no value of an attribute's domain meets its pattern")
@@ -133,11 +148,11 @@ abbrev pub idle_line : EditRule → Option (List ℕ) → List ℕ
 idle_line rule None = []
 idle_line rule (Some why) = edit_words rule ++ why ++ codes "\n"
 
-abbrev pub edits_text : Schema → List (List (List (List ℕ))) → List EditRule → List ℕ
+abbrev pub edits_text : Schema → List TableRows → List EditRule → List ℕ
 edits_text schema all rules = flat_map (λ (rule : EditRule). idle_line rule (why_idle schema all rule)) rules
 
 -- none of the reasons is there
-abbrev pub edits_clean : Schema → List (List (List (List ℕ))) → List EditRule → Bool
+abbrev pub edits_clean : Schema → List TableRows → List EditRule → Bool
 edits_clean schema all rules = list_all (λ (rule : EditRule). is_none (why_idle schema all rule)) rules
 
 -- ---- tables that no row can satisfy
@@ -198,11 +213,11 @@ verdicts_text tables verdicts = flat_map verdict_text (zip tables verdicts)
 
 -- ---- the project, by its rules and the rows of its tables
 
-abbrev pub whole_text : Book → List (List (List (List ℕ))) → List Verdict → List ℕ
+abbrev pub whole_text : Book → List TableRows → List Verdict → List ℕ
 whole_text rules all verdicts =
     tables_text rules.schema.tables all ++ verdicts_text rules.schema.tables verdicts ++ edits_text rules.schema all (book_edits rules)
 
-abbrev pub is_clean : Book → List (List (List (List ℕ))) → List Verdict → Bool
+abbrev pub is_clean : Book → List TableRows → List Verdict → Bool
 is_clean rules all verdicts = tables_clean rules.schema.tables all && list_all is_good verdicts && edits_clean rules.schema all (book_edits rules)
 
 -- nothing is off, or something is
@@ -211,15 +226,15 @@ status_of true = Clean
 status_of false = Findings
 
 -- what is told, with the status that goes with it
-abbrev pub IsTold : Book → List (List (List (List ℕ))) → List ℕ → Status → Type 0
+abbrev pub IsTold : Book → List TableRows → List ℕ → Status → Type 0
 IsTold rules all bytes status = (verdicts : List Verdict) × AreVerdicts rules verdicts × (bytes ≡ whole_text rules all verdicts) × (status ≡ status_of (is_clean rules all verdicts))
 
 -- ---- the same without the numbers of rows: only what is off
 
-abbrev pub findings_text : Book → List (List (List (List ℕ))) → List Verdict → List ℕ
+abbrev pub findings_text : Book → List TableRows → List Verdict → List ℕ
 findings_text rules all verdicts =
     tables_flaws rules.schema.tables all ++ verdicts_text rules.schema.tables verdicts ++ edits_text rules.schema all (book_edits rules)
 
 -- all that is off, and nothing else
-abbrev pub IsFound : Book → List (List (List (List ℕ))) → List ℕ → Type 0
+abbrev pub IsFound : Book → List TableRows → List ℕ → Type 0
 IsFound rules all bytes = (verdicts : List Verdict) × AreVerdicts rules verdicts × (bytes ≡ findings_text rules all verdicts)

@@ -4,8 +4,9 @@ ghost use Rattle.std.specs.Option.{option_copied};
 ghost use Rattle.project_flaws.specs.Told.{asks_outside, asks_target, edits_clean, edits_text, has_no_row, is_met, is_out, is_out_at, is_out_in, idle_line, edit_words, none_meets, why_idle};
 
 use crate::items::item;
+use crate::rows::TableRows;
 use rule_model::{EditCell, EditRule};
-use schema_core::{Attr, Domain, List, Schema, Table, Text, Texts};
+use schema_core::{Attr, Domain, Schema, Table, Text};
 use std::alloc::AllocError;
 
 /// Tells the editing rules that never apply, and those that have no master row among the rows that are given; and whether
@@ -13,7 +14,7 @@ use std::alloc::AllocError;
 pub fn push_edits(
     out: &mut Vec<u8>,
     schema: &Schema,
-    all: &[List<Texts>],
+    all: &[TableRows],
     rules: &[EditRule],
 ) -> Result<bool, AllocError>
     ensures text { OnOk result (out.new.items ≡ out.old.items ++ edits_text schema.now all.now rules.now) }
@@ -54,7 +55,7 @@ fn push_edit_words(out: &mut Vec<u8>, rule: &EditRule) -> Result<(), AllocError>
     out.extend_from_slice(b" ")
 }
 
-fn why_idle(schema: &Schema, all: &[List<Texts>], rule: &EditRule) -> Option<&'static str>
+fn why_idle(schema: &Schema, all: &[TableRows], rule: &EditRule) -> Option<&'static str>
     ensures { option_copied result ≡ why_idle schema.now all.now rule.now }
 {
     if asks_target(rule) {
@@ -136,11 +137,11 @@ fn is_met(cell: &EditCell, value: &Text) -> bool
     }
 }
 
-fn has_no_row(rows: Option<&List<Texts>>) -> bool
+fn has_no_row(rows: Option<&TableRows>) -> bool
     ensures { result ≡ has_no_row (option_copied rows.entry) }
 {
     match rows {
-        Some(rows) => rows.as_slice().is_empty(),
+        Some(rows) => rows.texts.as_slice().is_empty(),
         None => false,
     }
 }

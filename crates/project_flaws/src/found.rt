@@ -4,13 +4,13 @@ ghost use Rattle.project_flaws.specs.Rows.{all_rows};
 ghost use Rattle.project_flaws.specs.Told.{IsFound, findings_text, flaws_text, tables_flaws};
 
 use crate::edits::push_edits;
-use crate::rows::all_rows;
+use crate::rows::{TableRows, all_rows};
 use crate::told::push_flaws;
 use crate::verdicts::{Verdict, push_verdicts, verdicts};
 use bench_core::Bench;
 use hash_keys::HashKeys;
 use rule_model::RuleBook;
-use schema_core::{List, Table, Texts};
+use schema_core::Table;
 use std::alloc::{AllocError, Global};
 use table_flaws::flaws_of;
 
@@ -33,7 +33,7 @@ fn found_of(
     alloc: Global,
     keys: HashKeys,
     rules: &RuleBook,
-    tables: &[List<Texts>],
+    tables: &[TableRows],
 ) -> Result<Vec<u8>, AllocError>
     ensures { IfOk result (λ text. IsFound rules.now tables.now text.items) }
 {
@@ -48,7 +48,7 @@ fn push_found(
     keys: HashKeys,
     out: &mut Vec<u8>,
     rules: &RuleBook,
-    all: &[List<Texts>],
+    all: &[TableRows],
     verdicts: &[Verdict],
 ) -> Result<(), AllocError>
     ensures { OnOk result (out.new.items ≡ out.old.items ++ findings_text rules.now all.now verdicts.now) }
@@ -65,12 +65,12 @@ fn push_all_flaws(
     keys: HashKeys,
     out: &mut Vec<u8>,
     tables: &[Table],
-    all: &[List<Texts>],
+    all: &[TableRows],
 ) -> Result<(), AllocError>
     ensures { OnOk result (out.new.items ≡ out.old.items ++ tables_flaws tables.now all.now) }
 {
     for (table, rows) in tables.iter().zip(all) {
-        push_flaws_of(alloc, keys, out, table, rows.as_slice())?;
+        push_flaws_of(alloc, keys, out, table, rows)?;
     }
     Ok(())
 }
@@ -80,10 +80,15 @@ fn push_flaws_of(
     keys: HashKeys,
     out: &mut Vec<u8>,
     table: &Table,
-    rows: &[Texts],
+    rows: &TableRows,
 ) -> Result<(), AllocError>
     ensures { OnOk result (out.new.items ≡ out.old.items ++ flaws_text table.now rows.now) }
 {
-    let flaws = flaws_of(alloc, keys, table.attrs.as_slice().len(), rows)?;
-    push_flaws(out, table, flaws.as_slice())
+    let flaws = flaws_of(
+        alloc,
+        keys,
+        table.attrs.as_slice().len(),
+        rows.texts.as_slice(),
+    )?;
+    push_flaws(out, table, rows.ids.as_slice(), flaws.as_slice())
 }

@@ -14,6 +14,7 @@ mod verdicts;
 
 pub use cited::RowName;
 pub use found::found_on;
+pub use rows::TableRows;
 pub use told::{Told, told_of, told_on};
 pub use values::{MayStand, ValueVerdict};
 pub use verdicts::Verdict;

@@ -1,20 +1,20 @@
 //! What is off in a project that was read, as text.
 ghost use Rattle.std.specs.Prelude.{◌≡◌, ◌++◌, ◌&&◌, IfOk, OnOk};
 ghost use Rattle.std.specs.List.{flat_map};
-ghost use Rattle.table_flaws.specs.declared.flaws.Flaw.TheVariants.{Long, Repeated, Spaced};
 ghost use Rattle.cli_output.specs.Output.{IsWhole};
 ghost use Rattle.project_flaws.specs.Rows.{all_rows};
-ghost use Rattle.project_flaws.specs.Told.{IsTold, flaw_line, has_no_flaw, is_clean, row_words, status_of, table_text, tables_clean, tables_text, whole_text};
+ghost use Rattle.project_flaws.specs.Told.{IsTold, flaw_line, has_no_flaw, id_at, is_clean, long_line, repeated_line, row_words, spaced_line, status_of, table_text, tables_clean, tables_text, whole_text};
 
 use crate::edits::push_edits;
 use crate::names::push_name;
-use crate::rows::all_rows;
+use crate::rows::{TableRows, all_rows};
 use crate::verdicts::{Verdict, are_good, push_verdicts, verdicts};
 use bench_core::Bench;
 use cli_output::Status;
 use hash_keys::HashKeys;
+use row_store::RowId;
 use rule_model::RuleBook;
-use schema_core::{List, Table, Texts, push_number};
+use schema_core::{Table, push_number};
 use std::alloc::{AllocError, Global};
 use table_flaws::{Flaw, flaws_of};
 use view_refusal::push_count;
@@ -37,8 +37,7 @@ fn status_of(clean: bool) -> Status
     }
 }
 
-/// What is off in a project that was read, by the rows that its bench has. Rows are told by their places, counted from 1:
-/// these are their ids where nothing in the bench was changed since it was loaded.
+/// What is off in a project that was read, by the rows that its bench has, each told by its id.
 pub fn told_on(alloc: Global, bench: &Bench) -> Result<Told, AllocError>
     ensures told { IfOk result (λ told. IsTold bench.now.rules (all_rows bench.now.history.present) told.text.items told.status) }
     ensures whole { IfOk result (λ told. IsWhole told.status) }
@@ -52,14 +51,13 @@ pub fn told_on(alloc: Global, bench: &Bench) -> Result<Told, AllocError>
     )
 }
 
-/// What is off in a project that was read: its rules, and the rows of its tables in the order of the schema, each told by
-/// its place there, counted from 1. Where the rows of a table are missing, nothing is told of them, nor that a rule has no
-/// master row among them.
+/// What is off in a project that was read: its rules, and the rows of its tables in the order of the schema. Where the
+/// rows of a table are missing, nothing is told of them, nor that a rule has no master row among them.
 pub fn told_of(
     alloc: Global,
     keys: HashKeys,
     rules: &RuleBook,
-    tables: &[List<Texts>],
+    tables: &[TableRows],
 ) -> Result<Told, AllocError>
     ensures told { IfOk result (λ told. IsTold rules.now tables.now told.text.items told.status) }
     ensures whole { IfOk result (λ told. IsWhole told.status) }
@@ -76,7 +74,7 @@ fn push_whole(
     keys: HashKeys,
     out: &mut Vec<u8>,
     rules: &RuleBook,
-    all: &[List<Texts>],
+    all: &[TableRows],
     verdicts: &[Verdict],
 ) -> Result<bool, AllocError>
     ensures text { OnOk result (out.new.items ≡ out.old.items ++ whole_text rules.now all.now verdicts.now) }
@@ -94,14 +92,14 @@ fn push_tables(
     keys: HashKeys,
     out: &mut Vec<u8>,
     tables: &[Table],
-    all: &[List<Texts>],
+    all: &[TableRows],
 ) -> Result<bool, AllocError>
     ensures text { OnOk result (out.new.items ≡ out.old.items ++ tables_text tables.now all.now) }
     ensures clean { IfOk result (λ clean. clean ≡ tables_clean tables.now all.now) }
 {
     let mut clean = true;
     for (table, rows) in tables.iter().zip(all) {
-        let none = push_table(alloc, keys, out, table, rows.as_slice())?;
+        let none = push_table(alloc, keys, out, table, rows)?;
         clean = clean && none;
     }
     Ok(clean)
@@ -112,64 +110,84 @@ fn push_table(
     keys: HashKeys,
     out: &mut Vec<u8>,
     table: &Table,
-    rows: &[Texts],
+    rows: &TableRows,
 ) -> Result<bool, AllocError>
     ensures text { OnOk result (out.new.items ≡ out.old.items ++ table_text table.now rows.now) }
     ensures clean { IfOk result (λ none. none ≡ has_no_flaw table.now rows.now) }
 {
-    let flaws = flaws_of(alloc, keys, table.attrs.as_slice().len(), rows)?;
-    push_count(out, table, rows.len())?;
-    push_flaws(out, table, flaws.as_slice())?;
+    let flaws = flaws_of(
+        alloc,
+        keys,
+        table.attrs.as_slice().len(),
+        rows.texts.as_slice(),
+    )?;
+    push_count(out, table, rows.texts.as_slice().len())?;
+    push_flaws(out, table, rows.ids.as_slice(), flaws.as_slice())?;
     Ok(flaws.as_slice().is_empty())
 }
 
-pub fn push_flaws(out: &mut Vec<u8>, table: &Table, flaws: &[Flaw]) -> Result<(), AllocError>
-    ensures { OnOk result (out.new.items ≡ out.old.items ++ flat_map (flaw_line table.now) flaws.now) }
+pub fn push_flaws(
+    out: &mut Vec<u8>,
+    table: &Table,
+    ids: &[RowId],
+    flaws: &[Flaw],
+) -> Result<(), AllocError>
+    ensures { OnOk result (out.new.items ≡ out.old.items ++ flat_map (flaw_line table.now ids.now) flaws.now) }
 {
     for flaw in flaws {
-        push_flaw(out, table, *flaw)?;
+        push_flaw(out, table, ids, *flaw)?;
     }
     Ok(())
 }
 
-fn push_flaw(out: &mut Vec<u8>, table: &Table, flaw: Flaw) -> Result<(), AllocError>
-    ensures { OnOk result (out.new.items ≡ out.old.items ++ flaw_line table.now flaw) }
+fn push_flaw(out: &mut Vec<u8>, table: &Table, ids: &[RowId], flaw: Flaw) -> Result<(), AllocError>
+    ensures { OnOk result (out.new.items ≡ out.old.items ++ flaw_line table.now ids.now flaw) }
 {
     match flaw {
-        Flaw::Long { attr, row } => push_long(out, table, attr, row),
-        Flaw::Spaced { attr, row } => push_spaced(out, table, attr, row),
-        Flaw::Repeated { row } => push_repeated(out, table, row),
+        Flaw::Long { attr, row } => push_long(out, table, id_at(ids, row), attr),
+        Flaw::Spaced { attr, row } => push_spaced(out, table, id_at(ids, row), attr),
+        Flaw::Repeated { row } => push_repeated(out, table, id_at(ids, row)),
     }
 }
 
-fn push_long(out: &mut Vec<u8>, table: &Table, attr: usize, row: usize) -> Result<(), AllocError>
-    ensures { OnOk result (out.new.items ≡ out.old.items ++ flaw_line table.now (Long attr row)) }
+/// The id of a row by its place, counted from 1.
+fn id_at(ids: &[RowId], place: usize) -> RowId
+    ensures { result ≡ id_at ids.now place }
+{
+    match ids.get(place.saturating_sub(1)) {
+        Some(id) => *id,
+        None => place as RowId,
+    }
+}
+
+fn push_long(out: &mut Vec<u8>, table: &Table, row: RowId, attr: usize) -> Result<(), AllocError>
+    ensures { OnOk result (out.new.items ≡ out.old.items ++ long_line table.now row attr) }
 {
     push_row(out, table, row)?;
     push_name(out, table, attr)?;
     out.extend_from_slice(b" runs over more than ten lines\n")
 }
 
-fn push_spaced(out: &mut Vec<u8>, table: &Table, attr: usize, row: usize) -> Result<(), AllocError>
-    ensures { OnOk result (out.new.items ≡ out.old.items ++ flaw_line table.now (Spaced attr row)) }
+fn push_spaced(out: &mut Vec<u8>, table: &Table, row: RowId, attr: usize) -> Result<(), AllocError>
+    ensures { OnOk result (out.new.items ≡ out.old.items ++ spaced_line table.now row attr) }
 {
     push_row(out, table, row)?;
     push_name(out, table, attr)?;
     out.extend_from_slice(b" has blanks at an end, and stands without them in another row\n")
 }
 
-fn push_repeated(out: &mut Vec<u8>, table: &Table, row: usize) -> Result<(), AllocError>
-    ensures { OnOk result (out.new.items ≡ out.old.items ++ flaw_line table.now (Repeated row)) }
+fn push_repeated(out: &mut Vec<u8>, table: &Table, row: RowId) -> Result<(), AllocError>
+    ensures { OnOk result (out.new.items ≡ out.old.items ++ repeated_line table.now row) }
 {
     push_row(out, table, row)?;
     out.extend_from_slice(b"stands above, too\n")
 }
 
-fn push_row(out: &mut Vec<u8>, table: &Table, row: usize) -> Result<(), AllocError>
+fn push_row(out: &mut Vec<u8>, table: &Table, row: RowId) -> Result<(), AllocError>
     ensures { OnOk result (out.new.items ≡ out.old.items ++ row_words table.now row) }
 {
     out.extend_from_slice(table.name.as_str().as_bytes())?;
     out.extend_from_slice(b" row ")?;
-    push_number(out, row as u64)?;
+    push_number(out, row)?;
     out.extend_from_slice(b": ")
 }
