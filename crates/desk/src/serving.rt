@@ -36,7 +36,8 @@ impl From<AllocError> for DeskFault {
     }
 }
 
-/// Answers the events in order. Each reply goes to the sink whole, as one piece, before the next event is begun.
+/// Answers the events in order. As the code stands, each reply goes to the sink whole, as one piece, before the next event
+/// is begun; no clause says so.
 pub fn serve_desk<O: Sink, L: Ledger>(
     alloc: Global,
     desk: &mut Desk,

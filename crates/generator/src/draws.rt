@@ -5,7 +5,7 @@ ghost use Rattle.generator.specs.Draws.{draw, next_word};
 
 use std::marker::Model;
 
-/// The word off which the next number is drawn.
+/// The word off which the next number is drawn. Words follow one another as in the generator of Knuth's MMIX.
 #[derive(Drop)]
 pub struct Draws {
     word: u64,

@@ -49,6 +49,7 @@ pub fn fetch_project<S: Shelf, L: Ledger>(
     Ok(Project { bench, commands })
 }
 
+/// The tables of a project whose schema and rules were read, on a bench.
 #[tactic(auto, unfolding(crate::specs::Project::fetch_bench))]
 pub fn fetch_bench<S: Shelf, L: Ledger>(
     alloc: Global,

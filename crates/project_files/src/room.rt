@@ -17,6 +17,7 @@ impl Room {
         Room { keys, bench: None }
     }
 
+    /// The keys with which a call in the room hashes.
     pub fn keys(&self) -> HashKeys {
         self.keys
     }

@@ -22,8 +22,8 @@ use shelf_io::{PutFailed, Sink, write_out};
 use std::alloc::{AllocError, Global};
 use std::sync::ledger::Ledger;
 
-/// Answers the commands in order. Each reply goes to the sink whole, as one piece, before the next
-/// command is begun.
+/// Answers the commands in order. As the code stands, each reply goes to the sink whole, as one piece, before the next
+/// command is begun; no clause says so.
 pub fn serve<O: Sink, L: Ledger>(
     alloc: Global,
     bench: &mut Bench,

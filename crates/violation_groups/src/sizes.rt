@@ -22,7 +22,7 @@ fn values_size(values: &[ValueRows]) -> Result<usize, AllocError>
     Ok(size)
 }
 
-/// How many rows break a dependency.
+/// How many lines of the list groups stand for. A row that is listed for two tableau rows counts twice.
 pub fn groups_size(groups: &[Group]) -> Result<usize, AllocError>
     ensures { IfOk result (λ size. size ≡ sum_by group_size groups.now) }
 {
@@ -34,7 +34,7 @@ pub fn groups_size(groups: &[Group]) -> Result<usize, AllocError>
     Ok(size)
 }
 
-/// How many rows lack a partner.
+/// How many lines of the list missing keys stand for. A row that is listed for two tableau rows counts twice.
 pub fn missing_size(missing: &[Missing]) -> Result<usize, AllocError>
     ensures { IfOk result (λ size. size ≡ sum_by missing_size missing.now) }
 {
