@@ -10,9 +10,9 @@ pub struct ListOptions {
     pub table: Option<Text>,
     /// only violations of that rule
     pub rule: Option<Text>,
-    /// no more than that many
+    /// at most that many groups of a rule, values of a group and ids of a value
     pub first: Option<u64>,
-    /// before any fix of the script
+    /// the tables as they were read, the script not run
     pub loaded: bool,
 }
 

@@ -32,7 +32,7 @@ fn row_command<'a>(alloc: Global) -> Result<Command<'a>, AllocError> {
         .help("Its id")
         .value_parser(value_parser!(u64).range(1..));
     Command::new(alloc, "row")
-        .about("One row: what it breaks, and what is known of it")
+        .about("One row: its values and what it breaks")
         .arg(project(alloc))?
         .arg(table)?
         .arg(row)?
@@ -91,7 +91,7 @@ fn first<'a>(alloc: Global) -> Arg<'a> {
     Arg::new(alloc, "first")
         .long("first")
         .value_name("N")
-        .help("No more than so many")
+        .help("At most N groups of a rule, values of a group, and ids of a value")
         .value_parser(value_parser!(u64).range(1..=500_000))
 }
 
@@ -99,7 +99,7 @@ fn vouch<'a>(alloc: Global) -> Arg<'a> {
     Arg::new(alloc, "vouch")
         .long("vouch")
         .value_name("A,B,..")
-        .help("The attributes that somebody vouches for")
+        .help("Attributes known to be right: tells what a fix would do, and changes nothing")
 }
 
 fn loaded<'a>(alloc: Global) -> Arg<'a> {
