@@ -6,6 +6,7 @@ ghost use Rattle.fix_engine.specs.declared.fault.FixFault.TheVariants as fault;
 use std::alloc::AllocError;
 use thiserror::Error;
 
+/// Why a fix has no verdict. Each variant is told in the words of its error.
 #[derive(Clone, Copy, Debug, PartialEq, Eq, Error)]
 pub enum FixFault {
     #[error("a name that is vouched for is no attribute of the table")]

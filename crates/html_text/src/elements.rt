@@ -22,6 +22,7 @@ pub fn push_between(
     Ok(())
 }
 
+/// Appends a text from outside as code, and a blank.
 #[tactic(auto, unfolding(crate::specs::Elements::code))]
 pub fn push_code(out: &mut Vec<u8>, text: &Text) -> Result<(), AllocError>
     ensures { OnOk result (out.new.items ≡ out.old.items ++ code text.now) }
@@ -29,6 +30,7 @@ pub fn push_code(out: &mut Vec<u8>, text: &Text) -> Result<(), AllocError>
     push_between(out, b"<code>", text, b"</code> ")
 }
 
+/// Appends a text from outside in bold, and a blank.
 #[tactic(auto, unfolding(crate::specs::Elements::bold))]
 pub fn push_bold(out: &mut Vec<u8>, text: &Text) -> Result<(), AllocError>
     ensures { OnOk result (out.new.items ≡ out.old.items ++ bold text.now) }
@@ -36,6 +38,7 @@ pub fn push_bold(out: &mut Vec<u8>, text: &Text) -> Result<(), AllocError>
     push_between(out, b"<b>", text, b"</b> ")
 }
 
+/// Appends a text from outside with a mark, and a blank.
 #[tactic(auto, unfolding(crate::specs::Elements::marked))]
 pub fn push_marked(out: &mut Vec<u8>, text: &Text) -> Result<(), AllocError>
     ensures { OnOk result (out.new.items ≡ out.old.items ++ marked text.now) }
@@ -43,6 +46,7 @@ pub fn push_marked(out: &mut Vec<u8>, text: &Text) -> Result<(), AllocError>
     push_between(out, b"<mark>", text, b"</mark> ")
 }
 
+/// Appends a text from outside as a cell of a table.
 #[tactic(auto, unfolding(crate::specs::Elements::cell))]
 pub fn push_cell(out: &mut Vec<u8>, text: &Text) -> Result<(), AllocError>
     ensures { OnOk result (out.new.items ≡ out.old.items ++ cell text.now) }
@@ -72,6 +76,7 @@ pub fn push_size(out: &mut Vec<u8>, size: usize) -> Result<(), AllocError>
     push_number(out, size as u64)
 }
 
+/// Appends a number of things as a cell of a table.
 #[tactic(auto, unfolding(crate::specs::Elements::number_cell))]
 pub fn push_number_cell(out: &mut Vec<u8>, size: usize) -> Result<(), AllocError>
     ensures { OnOk result (out.new.items ≡ out.old.items ++ number_cell size) }
