@@ -10,6 +10,7 @@ use Rattle.bench_core.specs.History.{History}
 use Rattle.bench_core.specs.Loading.{Tuples, loaded}
 use Rattle.bench_core.specs.State.{State}
 use Rattle.shelf_io.specs.Transcript.{IsTranscript}
+use Rattle.session.specs.Probes.{Counted, IsCountedReply}
 use Rattle.session.specs.Replies.{IsReply}
 use Rattle.session.specs.Scripts.{script_of}
 use Rattle.session.specs.declared.command.Command.{Command}
@@ -102,3 +103,10 @@ abbrev pub LeadsTo : ProjectRead → History → Type 0
 LeadsTo project last =
     let start = project.tables in
     (replies : List ℕ) × IsTranscript (IsReply start.rules start.limits) start.history project.commands replies last
+
+-- the same with the count of probes of indexes before it and after it: each command takes no more than it may in the history in
+-- which it is answered
+abbrev pub LeadsWithin : ProjectRead → ℕ → Counted → Type 0
+LeadsWithin project begun last =
+    let start = project.tables in
+    (replies : List ℕ) × IsTranscript (IsCountedReply start.rules start.limits) (start.history, begun) project.commands replies last

@@ -6,7 +6,7 @@ ghost use Rattle.bench_core.specs.Indexed.{load_probes};
 ghost use Rattle.session.specs.Scripts.{script_of};
 ghost use Rattle.cli_output.specs.Fetching.{Fetches, Reads, about};
 ghost use Rattle.cli_output.specs.RuleFiles.{spelled};
-ghost use Rattle.project_files.specs.Project.{LeadsTo, fetch_bench, fetch_commands, fetch_project, flaw_of, read_of, script_line, tables_of};
+ghost use Rattle.project_files.specs.Project.{LeadsTo, LeadsWithin, fetch_bench, fetch_commands, fetch_project, flaw_of, read_of, script_line, tables_of};
 
 use crate::tables::{fetch_pooled, load};
 use bench_core::Bench;
@@ -124,6 +124,9 @@ pub fn after_script<L: Ledger>(
 ) -> Result<Bench, AllocError>
     ensures made_with { IfOk result (λ bench. (bench.rules ≡ project.bench.rules) × (bench.limits ≡ project.bench.limits)) }
     ensures leads { IfOk result (λ bench. LeadsTo (read_of project) bench.history) }
+
+    // The script took no more probes than the sum of what each command may.
+    ensures probes { IfOk result (λ bench. LeadsWithin (read_of project) steps.old (bench.history, steps.new)) }
 {
     let Project {
         mut bench,
