@@ -5,6 +5,7 @@ use Rattle.cert_text.specs.CertFiles.{reads_cert}
 use Rattle.cert_text.specs.declared.cert.CertParts.{CertParts}
 use Rattle.cert_text.specs.declared.fault.CertCause.{CertCause}
 use Rattle.cert_text.specs.declared.fault.CertCause.TheVariants as found
+use Rattle.cert_check.specs.Right.{IsRight}
 use Rattle.cert_check.specs.Verdict.{IsCertVerdict}
 use Rattle.cert_check.specs.declared.verdict.CertVerdict.{CertVerdict}
 use Rattle.cert_check.specs.declared.verdict.CertVerdict.TheVariants.{Holds, Fails}
@@ -46,10 +47,10 @@ abbrev pub verdict_status : CertVerdict → Status
 verdict_status Holds = Clean
 verdict_status (Fails line) = Findings
 
--- the line that tells the verdict
+-- The line that tells the verdict. Where the certificate holds, its answer to its question is right.
 abbrev pub check_outputs : Given → Outputs
 check_outputs read bytes status =
-    (verdict : CertVerdict) × IsCertVerdict read.rules read.cert verdict × (bytes ≡ verdict_text verdict) × (status ≡ verdict_status verdict)
+    (verdict : CertVerdict) × IsCertVerdict read.rules read.cert verdict × (verdict ≡ Holds → IsRight read.rules read.cert) × (bytes ≡ verdict_text verdict) × (status ≡ verdict_status verdict)
 
 -- the schema, the rules and the certificate are fetched
 abbrev pub check_task : Limits → List ℕ → List ℕ → Task
