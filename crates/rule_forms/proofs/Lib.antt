@@ -1,2 +1,3 @@
 pub mod CertAnswers
 pub mod CoverTables
+pub mod LeafLines

@@ -5,6 +5,7 @@ use Rattle.schema_core.specs.Schemas.{table_place}
 use Rattle.text_lists.specs.declared.limits.Limits.{Limits}
 use Rattle.rule_model.specs.Books.{Book}
 use Rattle.case_search.specs.Enough.{enough_of}
+use Rattle.cfd_consistency.specs.Consistent.{IsConsistent}
 use Rattle.cfd_consistency.specs.Question.{question}
 use Rattle.cfd_consistency.specs.declared.decider.Consistency.{Consistency}
 use Rattle.cfd_consistency.specs.declared.decider.Consistency.TheVariants.{Witness, Never, Spent}
@@ -18,7 +19,7 @@ use Rattle.cli_output.specs.declared.status.Status.TheVariants.{Clean, Findings}
 use Rattle.cli_output.specs.Fetching.{Fetching, ◌>>=◌, about, given}
 use Rattle.cli_output.specs.Output.{Outputs, Task}
 use Rattle.cli_output.specs.RuleFiles.{fetch_book}
-use Rattle.rule_forms.specs.Certificates.{Answers, certificates}
+use Rattle.rule_forms.specs.Certificates.{Answers, TellsWhether, certificates}
 
 -- the rules, if their schema has the table
 abbrev pub if_known : Book → Option ℕ → Result Book Cause
@@ -40,8 +41,10 @@ consistency_status (Witness tuple) = Clean
 consistency_status (Never tree) = Findings
 consistency_status (Spent tree) = status.Spent
 
+-- its text, with a status that tells whether they are
 abbrev pub consistent_outputs : List ℕ → ℕ → Book → Outputs
-consistent_outputs table budget rules = certificates (IsTableAnswer rules table budget)
+consistent_outputs table budget rules bytes status =
+    certificates (IsTableAnswer rules table budget) bytes status × TellsWhether (IsConsistent rules (table_number rules.schema table)) status
 
 -- the schema and the rules are fetched
 abbrev pub consistent_task : Limits → List ℕ → List ℕ → ℕ → Task

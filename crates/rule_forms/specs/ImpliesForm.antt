@@ -4,6 +4,7 @@ use Rattle.text_lists.specs.declared.limits.Limits.{Limits}
 use Rattle.rule_model.specs.Books.{book_deps}
 use Rattle.rule_parser.specs.RuleFiles.{reads_dep}
 use Rattle.case_search.specs.Enough.{enough_of}
+use Rattle.cfd_implication.specs.Implied.{IsImplied}
 use Rattle.cfd_implication.specs.Question.{question}
 use Rattle.cfd_implication.specs.declared.answer.Implication.{Implication}
 use Rattle.cfd_implication.specs.declared.answer.Implication.TheVariants.{Counter, Implied, Spent}
@@ -17,7 +18,7 @@ use Rattle.cli_output.specs.declared.status.Status.TheVariants.{Clean, Findings}
 use Rattle.cli_output.specs.Fetching.{Fetching, ◌>>=◌, about, given}
 use Rattle.cli_output.specs.Output.{Outputs, Task}
 use Rattle.cli_output.specs.RuleFiles.{fetch_book, spelled}
-use Rattle.rule_forms.specs.Certificates.{Answers, certificates}
+use Rattle.rule_forms.specs.Certificates.{Answers, TellsWhether, certificates}
 use Rattle.rule_forms.specs.declared.implies_form.Asked.{Asked}
 
 -- the rules of a project, and the dependency that the word spells over their schema; its fault refuses the word
@@ -38,8 +39,10 @@ implication_status (Counter one other) = Findings
 implication_status (Implied tree) = Clean
 implication_status (Spent tree) = status.Spent
 
+-- its text, with a status that tells whether they do
 abbrev pub implies_outputs : ℕ → Asked → Outputs
-implies_outputs budget asked = certificates (IsDepAnswer asked budget)
+implies_outputs budget asked bytes status =
+    certificates (IsDepAnswer asked budget) bytes status × TellsWhether (IsImplied asked.rules.schema (book_deps asked.rules) asked.dep) status
 
 -- the schema and the rules are fetched
 abbrev pub implies_task : Limits → List ℕ → List ℕ → ℕ → Task
