@@ -1,8 +1,7 @@
 -- The form `run PROJECT`: a transcript of the project's script over its tables as they are loaded.
-use Rattle.std.specs.Prelude.{◌≡◌, ◌↔◌, ◌+◌, ◌≤◌, ℕ, List}
+use Rattle.std.specs.Prelude.{◌≡◌, ◌↔◌, ◌≤◌, ℕ, List}
 use Rattle.text_lists.specs.declared.limits.Limits.{Limits}
 use Rattle.bench_core.specs.History.{History}
-use Rattle.bench_core.specs.Indexed.{load_probes}
 use Rattle.violation_report.specs.Listing.{IsSatisfied, listing}
 use Rattle.session.specs.Probes.{Counted, IsCountedReply}
 use Rattle.session.specs.Replies.{IsReply}
@@ -10,6 +9,7 @@ use Rattle.cli_output.specs.Output.{Outputs, Task}
 use Rattle.cli_output.specs.declared.status.Status.TheVariants.{Clean}
 use Rattle.shelf_io.specs.Transcript.{IsTranscript}
 use Rattle.project_files.specs.Project.{ProjectRead, fetch_project}
+use Rattle.project_forms.specs.Loaded.{once_loaded}
 use Rattle.project_forms.specs.Transcripts.{found_status}
 
 -- The status is Clean exactly where the rows of the last state satisfy all rules.
@@ -34,16 +34,11 @@ counted_from begun after project bytes status =
     let start = project.tables in
     (last : Counted) × IsTranscript (IsCountedReply start.rules start.limits) (start.history, begun) project.commands bytes last × (after ≤ last.1) × (status ≡ found_status (listing start.rules last.0.present))
 
--- And before that each row of the tables took no more than one change of a row of its table.
-abbrev pub counted_outputs : ℕ → ℕ → ProjectRead → Outputs
-counted_outputs before after project bytes status =
-    (begun : ℕ) × (begun ≤ before + load_probes project.tables.rules project.tables.history.present) × counted_from begun after project bytes status
-
--- the task with its probes
+-- the task with its probes, of which there were so many before the tables were loaded
 abbrev pub counted_run_task : ℕ → ℕ → Limits → List ℕ → Task
 counted_run_task before after limits project = record {
   Found = ProjectRead;
   fetching = fetch_project limits project;
-  outputs = counted_outputs before after;
+  outputs = λ (read : ProjectRead). once_loaded before read.tables (λ begun. counted_from begun after read);
   most_fetches = 67;
 }

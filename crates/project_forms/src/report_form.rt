@@ -1,8 +1,10 @@
 //! The form `report PROJECT`: the list of the state that the project's script leads to, as JSON.
+ghost use Rattle.std.specs.Prelude.{◌+◌, ◌*◌, ◌≤◌};
 ghost use Rattle.text_lists.specs.Limits.{AreLimits};
-ghost use Rattle.cli_output.specs.Output.{Ends, Output, UsesDevices, Writes};
+ghost use Rattle.violation_report.specs.Probes.{list_probes};
+ghost use Rattle.cli_output.specs.Output.{Ends, IsWhole, Output, UsesDevices, Writes};
 ghost use Rattle.project_files.specs.Project.{read_of};
-ghost use Rattle.project_forms.specs.ReportForm.{report_of, report_outputs, report_task};
+ghost use Rattle.project_forms.specs.ReportForm.{counted_from, counted_report_task, report_of, report_outputs, report_task};
 
 use crate::run_form::status_of;
 use bench_core::Bench;
@@ -28,6 +30,10 @@ pub fn report_project<S: Shelf, O: Sink, L: Ledger>(
     requires { AreLimits limits.now }
     ensures written { Writes (Output limits.now (report_task limits.now project.now) (S.told shelf.old).holding) result (O.told out.old).written (O.told out.new).written }
     ensures devices { UsesDevices limits.now (report_task limits.now project.now) result (S.told shelf.old) (S.told shelf.new) (O.told out.old) (O.told out.new) }
+
+    // Where the report was written, the script took no more probes than the sum of what each command may, and the report no
+    // more than two lists.
+    ensures probes { IsWhole result → Writes (Output limits.now (counted_report_task steps.old steps.new limits.now project.now) (S.told shelf.old).holding) result (O.told out.old).written (O.told out.new).written }
 {
     let mut left = limits.all_bytes;
     match fetch_project(alloc, room.keys(), shelf, project, limits, &mut left, steps) {
@@ -44,7 +50,8 @@ fn report<O: Sink, L: Ledger>(
     out: &mut O,
     steps: &mut Steps<L>,
 ) -> Status
-    ensures { Ends (report_outputs (read_of project)) result (O.told out.old) (O.told out.new) }
+    ensures ends { Ends (report_outputs (read_of project)) result (O.told out.old) (O.told out.new) }
+    ensures probes { IsWhole result → Writes (counted_from steps.old steps.new (read_of project)) result (O.told out.old).written (O.told out.new).written }
 {
     match after_script(alloc, project, steps) {
         Ok(bench) => {
@@ -63,7 +70,8 @@ fn tell<O: Sink, L: Ledger>(
     out: &mut O,
     steps: &mut Steps<L>,
 ) -> Status
-    ensures { Ends (report_of bench.now.rules bench.now.history.present) result (O.told out.old) (O.told out.new) }
+    ensures ends { Ends (report_of bench.now.rules bench.now.history.present) result (O.told out.old) (O.told out.new) }
+    ensures probes { steps.new ≤ steps.old + 2 * list_probes bench.now.rules bench.now.history.present }
 {
     match json_report(alloc, &bench.queries(), steps) {
         Ok(text) => end_with(out, &text, status_of(bench)),

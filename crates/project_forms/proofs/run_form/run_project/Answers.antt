@@ -1,7 +1,8 @@
 use Rattle.std.proofs.Common.{arith}
-use Rattle.project_forms.specs.RunForm.{counted_from, counted_outputs, counted_run_task, run_task}
+use Rattle.project_forms.specs.RunForm.{counted_from, counted_run_task, run_task}
 use Rattle.project_files.specs.Project.{read_of}
-use Rattle.cli_output.proofs.Outputs.{Writes-wider, output-found, output-stopped, uses-stopped}
+use Rattle.cli_output.proofs.Outputs.{output-found, output-stopped, uses-stopped}
+use Rattle.project_forms.proofs.Loaded.{writes-once_loaded}
 use Rattle.project_forms.proofs.run_form.run_project.Goals as goal
 
 pub returns-in-Ok-clause-written : goal.returns-in-Ok-clause-written
@@ -24,7 +25,7 @@ returns-in-Ok-clause-probes g c = λ whole.
     let after = (g.O.Sink.told c.answer-status.new.out).written in
     output-found limits (counted_run_task c.args.steps.now c.answer-status.new.steps limits c.args.project.now) (g.S.Shelf.told c.args.shelf.now).holding project c.in-Ok.ensures.fetches.gives
     c.answer-status.result before after
-    (Writes-wider (counted_from c.fetch_project.new.steps c.answer-status.new.steps project) (counted_outputs c.args.steps.now c.answer-status.new.steps project) (λ bytes status o. (c.fetch_project.new.steps, c.in-Ok.ensures.probes, o)) c.answer-status.result before after (c.answer-status.ensures.probes whole))
+    (writes-once_loaded c.args.steps.now c.fetch_project.new.steps project.tables (λ begun. counted_from begun c.answer-status.new.steps project) c.in-Ok.ensures.probes c.answer-status.result before after (c.answer-status.ensures.probes whole))
 
 pub returns-in-Err-clause-probes : goal.returns-in-Err-clause-probes
 returns-in-Err-clause-probes g c = λ whole.
