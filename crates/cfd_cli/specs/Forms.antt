@@ -7,9 +7,9 @@ use Rattle.cli_output.specs.declared.status.Status.TheVariants.{Usage}
 use Rattle.cli_output.specs.Fetching.{given}
 use Rattle.cli_output.specs.Output.{Only, Task}
 use Rattle.find_form.specs.FindForm.{find_task}
-use Rattle.project_forms.specs.DeskForm.{desk_task}
+use Rattle.project_forms.specs.DeskForm.{counted_desk_task, desk_task}
 use Rattle.project_forms.specs.GenerateForm.{generate_task}
-use Rattle.project_forms.specs.ReportForm.{report_task}
+use Rattle.project_forms.specs.ReportForm.{counted_report_task, report_task}
 use Rattle.project_forms.specs.RunForm.{counted_run_task, run_task}
 use Rattle.rule_forms.specs.CheckForm.{check_task}
 use Rattle.rule_forms.specs.ConsistentForm.{consistent_task}
@@ -51,6 +51,8 @@ task_of limits words = form_task limits (form_of words)
 abbrev pub counted_form_task : ℕ → ℕ → Limits → Option Form → Task
 counted_form_task before after limits None = usage_task
 counted_form_task before after limits (Some (Run project)) = counted_run_task before after limits project
+counted_form_task before after limits (Some (Report project)) = counted_report_task before after limits project
+counted_form_task before after limits (Some (Desk project events)) = counted_desk_task before after limits project events
 counted_form_task before after limits (Some form) = form_task limits (Some form)
 
 abbrev pub counted_task_of : ℕ → ℕ → Limits → List (List ℕ) → Task

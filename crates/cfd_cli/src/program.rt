@@ -117,8 +117,8 @@ pub fn run_counted<S: Shelf, O: Sink, L: Ledger>(
     ensures devices { UsesDevices limits.now (task_of limits.now words.now) result (S.told shelf.old) (S.told shelf.new) (O.told out.old) (O.told out.new) }
     ensures unread { (task_of limits.now words.now).most_fetches ≡ 0 → result ≢ Status.ReadFault }
 
-    // Where a script was answered to its end, the output goes with counts of probes: all rows that were loaded and all
-    // commands took no more of them than the sum of what each may.
+    // Where `run`, `report` or `desk` came to its end, the output goes with counts of probes: all rows that were loaded and
+    // all commands or events took no more of them than the sum of what each may, and a report no more than two lists.
     ensures probes { IsWhole result → Writes (Output limits.now (counted_task_of steps.old steps.new limits.now words.now) (S.told shelf.old).holding) result (O.told out.old).written (O.told out.new).written }
 {
     match form_of(alloc, words.as_slice()) {

@@ -1,6 +1,6 @@
 -- The form `desk PROJECT EVENTS`: a transcript of the events of several editors over the project's tables as they are
 -- loaded, and no entry. The script that the schema names is left alone.
-use Rattle.std.specs.Prelude.{◌≡◌, ◌↔◌, ℕ, List, [], Ok}
+use Rattle.std.specs.Prelude.{◌≡◌, ◌↔◌, ◌≤◌, ℕ, List, [], Ok}
 use Rattle.text_lists.specs.declared.limits.Limits.{Limits}
 use Rattle.desk_events.specs.EventFiles.{events_of}
 use Rattle.desk_events.specs.declared.event.Event.{Event}
@@ -17,10 +17,11 @@ use Rattle.cli_output.specs.Fetching.{Fetching, ◌>>=◌, about, file, given}
 use Rattle.cli_output.specs.Output.{Outputs, Task}
 use Rattle.cli_output.specs.RuleFiles.{fetch_rules, fetch_schema, spelled}
 use Rattle.project_files.specs.Project.{Tables, fetch_bench, tables_of}
+use Rattle.project_forms.specs.Loaded.{once_loaded}
 use Rattle.project_forms.specs.Transcripts.{found_status, transcripts}
 use Rattle.project_forms.specs.declared.desk_form.DeskFiles.{DeskFiles}
 use Rattle.desk_state.specs.Desk.{DeskModel}
-use Rattle.desk.specs.DeskReplies.{IsReply}
+use Rattle.desk.specs.DeskReplies.{Counted, IsCountedReply, IsReply}
 
 -- ---- what is read
 
@@ -75,5 +76,20 @@ desk_task limits project events = record {
   Found = DeskRead;
   fetching = fetch_desk limits project events;
   outputs = desk_outputs limits.last_id;
+  most_fetches = 67;
+}
+
+-- The transcripts with the probes of indexes, of which there were so many before the first event and so many at the end: each
+-- event takes no more than it may at the desk at which it is answered, and the status takes none.
+abbrev pub counted_transcripts : ℕ → ℕ → DeskModel → List Event → Outputs
+counted_transcripts begun after desk events bytes status =
+    (last : Counted) × IsTranscript IsCountedReply (desk, begun) events bytes last × (after ≤ last.1) × (status ≡ found_status (listing desk.rules last.0.history.present))
+
+-- the task with its probes, of which there were so many before the tables were loaded
+abbrev pub counted_desk_task : ℕ → ℕ → Limits → List ℕ → List ℕ → Task
+counted_desk_task before after limits project events = record {
+  Found = DeskRead;
+  fetching = fetch_desk limits project events;
+  outputs = λ (desk : DeskRead). once_loaded before desk.tables (λ begun. counted_transcripts begun after (opened limits.last_id desk.tables) desk.events);
   most_fetches = 67;
 }

@@ -1,11 +1,12 @@
 //! The form `desk PROJECT EVENTS`: answers the events of several editors over a project's tables.
-ghost use Rattle.std.specs.Prelude.{◌≡◌, ◌≤◌};
+ghost use Rattle.std.specs.Prelude.{◌≡◌, ◌+◌, ◌≤◌, IfOk};
 ghost use Rattle.text_lists.specs.Limits.{AreLimits};
+ghost use Rattle.bench_core.specs.Indexed.{load_probes};
 ghost use Rattle.desk_events.specs.EventFiles.{events_of};
 ghost use Rattle.cli_output.specs.Fetching.{Fetches, Reads, about};
-ghost use Rattle.cli_output.specs.Output.{Ends, Output, UsesDevices, Writes};
+ghost use Rattle.cli_output.specs.Output.{Ends, IsWhole, Output, UsesDevices, Writes};
 ghost use Rattle.cli_output.specs.RuleFiles.{spelled};
-ghost use Rattle.project_forms.specs.DeskForm.{desk_outputs, desk_task, desk_transcripts, event_line, fetch_desk, fetch_events, flaw_of, read_of};
+ghost use Rattle.project_forms.specs.DeskForm.{counted_desk_task, counted_transcripts, desk_outputs, desk_task, desk_transcripts, event_line, fetch_desk, fetch_events, flaw_of, opened, read_of};
 
 use crate::run_form::status_of;
 use bench_core::Bench;
@@ -42,6 +43,9 @@ pub fn desk_project<S: Shelf, O: Sink, L: Ledger>(
     requires { AreLimits limits.now }
     ensures written { Writes (Output limits.now (desk_task limits.now project.now events.now) (S.told shelf.old).holding) result (O.told out.old).written (O.told out.new).written }
     ensures devices { UsesDevices limits.now (desk_task limits.now project.now events.now) result (S.told shelf.old) (S.told shelf.new) (O.told out.old) (O.told out.new) }
+
+    // Where the events were answered, all of it took no more probes than the sum of what each event may.
+    ensures probes { IsWhole result → Writes (Output limits.now (counted_desk_task steps.old steps.new limits.now project.now events.now) (S.told shelf.old).holding) result (O.told out.old).written (O.told out.new).written }
 {
     let mut left = limits.all_bytes;
     let keys = room.keys();
@@ -66,7 +70,8 @@ fn fetch_desk<S: Shelf, L: Ledger>(
     steps: &mut Steps<L>,
 ) -> Result<DeskFiles, Stop>
     requires { AreLimits limits.now }
-    ensures { Fetches (fetch_desk limits.now name.now events.now) read_of 67 result (S.told shelf.old) (S.told shelf.new) left.old left.new }
+    ensures fetches { Fetches (fetch_desk limits.now name.now events.now) read_of 67 result (S.told shelf.old) (S.told shelf.new) left.old left.new }
+    ensures probes { IfOk result (λ files. steps.new ≤ steps.old + load_probes files.bench.rules files.bench.history.present) }
 {
     let schema = fetch_schema(alloc, shelf, name, limits, left)?;
     let rules = fetch_rules(alloc, shelf, schema, limits, left)?;
@@ -123,7 +128,8 @@ fn answer<O: Sink, L: Ledger>(
     steps: &mut Steps<L>,
 ) -> Status
     requires { last ≤ 999_999_999_999 }
-    ensures { Ends (desk_outputs last (read_of files)) result (O.told out.old) (O.told out.new) }
+    ensures ends { Ends (desk_outputs last (read_of files)) result (O.told out.old) (O.told out.new) }
+    ensures probes { IsWhole result → Writes (counted_transcripts steps.old steps.new (opened last (read_of files).tables) (read_of files).events) result (O.told out.old).written (O.told out.new).written }
 {
     let DeskFiles { bench, events } = files;
     let mut desk = Desk::open(alloc, bench, last);
@@ -140,7 +146,8 @@ fn answer_events<O: Sink, L: Ledger>(
     out: &mut O,
     steps: &mut Steps<L>,
 ) -> Status
-    ensures { Ends (desk_transcripts desk.old events.now) result (O.told out.old) (O.told out.new) }
+    ensures ends { Ends (desk_transcripts desk.old events.now) result (O.told out.old) (O.told out.new) }
+    ensures probes { IsWhole result → Writes (counted_transcripts steps.old steps.new desk.old events.now) result (O.told out.old).written (O.told out.new).written }
 {
     match serve_desk(alloc, desk, events, out, steps) {
         Ok(()) => status_of(desk.bench()),

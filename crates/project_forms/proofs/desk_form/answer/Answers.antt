@@ -6,10 +6,10 @@ use Rattle.shelf_io.specs.Sink.{SinkTold}
 use Rattle.desk_entries.specs.Entries.{Entry}
 use Rattle.desk_state.specs.Desk.{DeskModel}
 use Rattle.cli_output.specs.declared.status.Status.{Status}
-use Rattle.cli_output.specs.Output.{Ends}
+use Rattle.cli_output.specs.Output.{Ends, Writes}
 use Rattle.cli_output.proofs.Outputs.{Ends-wider}
 use Rattle.project_files.specs.Project.{Tables}
-use Rattle.project_forms.specs.DeskForm.{DeskRead, desk_outputs, desk_transcripts, opened, read_of}
+use Rattle.project_forms.specs.DeskForm.{DeskRead, counted_transcripts, desk_outputs, desk_transcripts, opened, read_of}
 use Rattle.project_forms.proofs.Reports.{clean_where_satisfied}
 use Rattle.project_forms.proofs.desk_form.answer.Goals as goal
 
@@ -28,12 +28,21 @@ told most desk status sink sink_after ends =
     Ends-wider (desk_transcripts (opened most desk.tables) desk.events) (desk_outputs most desk)
     (λ bytes status is. (is.0, is.1, is.2, clean_where_satisfied desk.tables.rules is.0.history.present status is.2)) status sink sink_after ends
 
-pub returns : goal.returns
-returns g c =
+pub returns-clause-ends : goal.returns-clause-ends
+returns-clause-ends g c =
     let files = read_of c.args.files in
     let start = c.open-desk.result in
     let is = is_opened start c.args.last files.tables c.open-desk.ensures.bench.0 c.open-desk.ensures.bench.1 c.open-desk.ensures.bench.2 c.open-desk.ensures.last c.open-desk.ensures.no_entries in
     let before = g.O.Sink.told c.args.out.now in
     let after = g.O.Sink.told c.answer_events-status.new.out in
     told c.args.last files c.answer_events-status.result before after
-    (subst (λ (d : DeskModel). Ends (desk_transcripts d files.events) c.answer_events-status.result before after) is c.answer_events-status.ensures)
+    (subst (λ (d : DeskModel). Ends (desk_transcripts d files.events) c.answer_events-status.result before after) is c.answer_events-status.ensures.ends)
+
+pub returns-clause-probes : goal.returns-clause-probes
+returns-clause-probes g c = λ whole.
+    let files = read_of c.args.files in
+    let start = c.open-desk.result in
+    let is = is_opened start c.args.last files.tables c.open-desk.ensures.bench.0 c.open-desk.ensures.bench.1 c.open-desk.ensures.bench.2 c.open-desk.ensures.last c.open-desk.ensures.no_entries in
+    let before = (g.O.Sink.told c.args.out.now).written in
+    let after = (g.O.Sink.told c.answer_events-status.new.out).written in
+    subst (λ (d : DeskModel). Writes (counted_transcripts c.args.steps.now c.answer_events-status.new.steps d files.events) c.answer_events-status.result before after) is (c.answer_events-status.ensures.probes whole)

@@ -27,9 +27,9 @@ with_rules : Limits → List ℕ → Schema → Fetching DeskRead
 with_rules limits events schema =
     fetch_rules limits schema >>= λ rules. fetch_bench limits rules >>= λ tables. fetch_events limits events >>= λ told. given (Ok (record { tables = tables; events = told }))
 
-pub returns-in_err-events : goal.returns-in_err-events
+pub returns-in_err-events-clause-fetches : goal.returns-in_err-events-clause-fetches
 unfolding fetch_desk with_events with_bench with_rules desk_with
-returns-in_err-events g c =
+returns-in_err-events-clause-fetches g c =
     let limits = c.args.limits.now in
     let events = c.args.events.now in
     let p = err_from_is_err_and c.from_residual-in_err-events.result c.from_residual-in_err-events.ensures.1 in
@@ -39,9 +39,9 @@ returns-in_err-events g c =
     (fetches-next (fetch_bench limits c.in_ok-rules.rules) (with_events limits events) tables_of read_of 64 1 c.in_ok-bench.bench c.from_residual-in_err-events.result _ _ _ _ _ _ c.in_ok-bench.ensures.fetches
     (fetches-stopped (fetch_events limits events) (desk_with (tables_of c.in_ok-bench.bench)) (λ x. x) read_of 1 0 c.in_err-events.field-0.0 c.from_residual-in_err-events.result _ _ _ _ same c.in_err-events.ensures)))
 
-pub returns : goal.returns
+pub returns-clause-fetches : goal.returns-clause-fetches
 unfolding fetch_desk with_events with_bench with_rules desk_with
-returns g c =
+returns-clause-fetches g c =
     let limits = c.args.limits.now in
     let events = c.args.events.now in
     let bench = c.in_ok-bench.bench in
