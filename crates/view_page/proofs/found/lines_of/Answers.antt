@@ -1,4 +1,4 @@
-use Rattle.std.proofs.Common.{[], ◌∷◌, ap, ◌∙◌}
+use Rattle.std.proofs.Common.{[], ◌∷◌, ◌++◌, ap, ◌∙◌}
 use Rattle.view_page.proofs.FoundLines.{lines-more}
 use Rattle.view_page.proofs.found.lines_of.Goals as goal
 
