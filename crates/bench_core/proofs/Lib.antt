@@ -22,6 +22,7 @@ pub mod InStepWith
 pub mod FollowedChange
 pub mod RowJoins
 pub mod Answering
+pub mod RowsAt
 pub mod Behind
 pub mod MasterRows
 pub mod ProbesOfChange

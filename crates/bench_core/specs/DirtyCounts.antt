@@ -1,5 +1,5 @@
 -- How many groups and keys are dirty, told by the rules and the rows: what a list has to go over.
-use Rattle.std.specs.Prelude.{ℕ, ◌*◌, ◌||◌, Bool, List, length, map, filter, slice_get}
+use Rattle.std.specs.Prelude.{ℕ, ◌+◌, ◌*◌, ◌||◌, Bool, List, length, map, filter, slice_get, sum_by}
 use Rattle.std.specs.List.{list_any}
 use Rattle.std.specs.Option.{option_map_or}
 use Rattle.std.specs.Set.{distinct_count}
@@ -55,6 +55,11 @@ dep_walk state dep = length dep.rule.rows * dep_dirty state dep
 
 abbrev pub cind_walk : State → Cind → ℕ
 cind_walk state cind = length cind.rule.rows * cind_dirty state cind
+
+-- What one list of all violations takes: each dependency and each inclusion gone over once. Rows that violate nothing don't
+-- count.
+abbrev pub list_probes : Book → State → ℕ
+list_probes rules state = sum_by (dep_walk state) (book_deps rules) + sum_by (cind_walk state) (book_cinds rules)
 
 -- the same by the number of the rule
 abbrev pub dep_walk_at : Book → State → ℕ → ℕ

@@ -8,7 +8,7 @@ ghost use Rattle.bench_core.specs.Loading.{AreTables, full_table, loaded};
 ghost use Rattle.bench_core.specs.Edited.{refusal_of};
 ghost use Rattle.bench_core.specs.History.{HasNoPast, HasNothingUndone, IsRedone, IsUndone, first_undone, history_edited, last_past};
 ghost use Rattle.bench_core.specs.Stored.{RowsHaveTexts, stored, table_state};
-ghost use Rattle.bench_core.specs.Answers.{AreMastersOf};
+ghost use Rattle.bench_core.specs.Answers.{AreMastersOf, row_texts};
 ghost use Rattle.bench_core.specs.Bench.{IsHistory};
 ghost use Rattle.bench_core.specs.Indexed.{AreOfTheChange, edit_probes, load_probes};
 ghost use Rattle.bench_core.specs.declared.edit.RedoFault.TheVariants as redo_fault;
@@ -18,6 +18,7 @@ use crate::changes::Direction;
 use crate::edit::{Applied, EditFault, LoadFault, RedoFault, UndoFault};
 use crate::project::Project;
 use crate::queries::BenchQueries;
+use crate::tuples::texts_of;
 use bench_index::AllIndexes;
 use edit_log::Edit;
 use hash_keys::HashKeys;
@@ -183,6 +184,24 @@ impl Bench {
         ensures valid { IsHistory self.now.rules self.now.limits self.now.history }
     {
         self.project.rows(table)
+    }
+
+    /// The texts of a row, where the table and the row are there.
+    pub fn row_texts(
+        &self,
+        alloc: Global,
+        table: usize,
+        row: RowId,
+    ) -> Result<Option<Texts>, AllocError>
+        ensures { IfOk result (λ texts. texts ≡ row_texts self.now.history.present table row) }
+    {
+        if table >= self.table_count() {
+            return Ok(None);
+        }
+        match self.store(table).get(row) {
+            Some(tuple) => Ok(Some(texts_of(alloc, self.pool(), tuple)?)),
+            None => Ok(None),
+        }
     }
 
     /// What its rules find, for whoever lists and counts it.

@@ -1,10 +1,8 @@
 //! The table that an edit names, and the change that the edit is there.
 
 ghost use Rattle.std.specs.Prelude.{◌≡◌, Some, IfOk};
-ghost use Rattle.std.specs.FinMap as finmap;
 ghost use Rattle.text_lists.specs.Limits.{AreLimits};
 ghost use Rattle.line_grammar.specs.Faults.{GivesUnlessMemory};
-ghost use Rattle.row_store.specs.Tuple.{ids_of};
 ghost use Rattle.value_pool.specs.Pool.{KeepsIds};
 ghost use Rattle.bench_core.specs.State.{IsTableState};
 ghost use Rattle.bench_core.specs.Edited.{after_delete, after_edit, after_fix, after_insert, after_set, refusal_of};

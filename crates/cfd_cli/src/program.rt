@@ -1,7 +1,7 @@
 //! The top call.
 ghost use Rattle.std.specs.Prelude.{◌≡◌, ◌≢◌, ◌<◌, ◌⊎◌, Some};
 ghost use Rattle.text_lists.specs.Limits.{AreLimits, standard};
-ghost use Rattle.cfd_cli.specs.Forms.{counted_form_task, counted_task_of, form_task, task_of, usage_line};
+ghost use Rattle.cfd_cli.specs.Forms.{counted_form_task, counted_task_of, form_task, task_of};
 ghost use Rattle.cli_output.specs.Output.{IsWhole, Output, UsesDevices, Writes};
 ghost use Rattle.call_words.specs.Words.{HasForm, IsFit};
 

@@ -24,7 +24,7 @@ use Rattle.bench_core.specs.declared.edit.Applied.{Applied}
 use Rattle.desk_state.specs.declared.reply.Reply.{Reply}
 use Rattle.desk_state.specs.declared.reply.Reply.TheVariants as reply
 use Rattle.bench_core.proofs.Fits.{bound_parts}
-use Rattle.desk_state.proofs.RowFound.{texts-at}
+use Rattle.bench_core.proofs.RowsAt.{texts-at}
 use Rattle.desk_state.proofs.RowsEdited.{below-next, next-at, next_at}
 use Rattle.desk_state.proofs.EntryMade.{AreBelow, EntryMade, Leaves, entry-made, ok-parts, place-named}
 use Rattle.desk_state.proofs.Standing.{AreStanding, IsFree, IsMade, IsOpposite, OwnRow, each-entry, plain-standing, taking-standing}

@@ -27,7 +27,7 @@ use Rattle.bench_core.specs.declared.edit.Applied.TheVariants.{Changed, Inserted
 use Rattle.bench_core.specs.declared.edit.EditFault.TheVariants.{IdsSpent, RowsFull, UnknownAttr, UnknownRow, UnknownTable}
 use Rattle.bench_core.proofs.Fits.{bound_parts, then_parts}
 use Rattle.bench_core.proofs.Kept.{some_if_ok}
-use Rattle.desk_state.proofs.RowFound.{texts-at}
+use Rattle.bench_core.proofs.RowsAt.{texts-at}
 use Rattle.desk_state.proofs.RowsEdited.{next-at, next-grows, next-set, next_at, texts-others, texts-set, with_row-other, with_row-own, with_texts-other, with_texts-own, without_row-other, without_row-own}
 use Rattle.desk_state.proofs.Standing.{OwnRow}
 use Rattle.desk_state.proofs.Standing.OwnRow.{changed, deleted, inserted}

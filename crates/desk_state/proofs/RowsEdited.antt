@@ -7,7 +7,7 @@ use Rattle.std.proofs.lemmas.Option.{none-some}
 use Rattle.std.proofs.lemmas.List.Elements.{All-head, All-tail}
 use Rattle.bench_core.specs.Answers.{row_texts}
 use Rattle.bench_core.specs.State.{Row, State, TableState, has_id, texts_of, with_row, with_texts, without_row}
-use Rattle.desk_state.proofs.RowFound.{texts-at}
+use Rattle.bench_core.proofs.RowsAt.{texts-at}
 
 -- ---- one table
 

@@ -2,7 +2,7 @@
 use Rattle.std.specs.Prelude.{ℕ, ◌+◌, ◌≤◌, List, Option, None, Some}
 use Rattle.rule_model.specs.Books.{Book}
 use Rattle.bench_core.specs.Indexed.{edit_probes, table_probes}
-use Rattle.violation_report.specs.Probes.{list_probes}
+use Rattle.bench_core.specs.DirtyCounts.{list_probes}
 use Rattle.desk_events.specs.declared.event.Act.{Act}
 use Rattle.desk_events.specs.declared.event.Act.TheVariants as act
 use Rattle.desk_entries.specs.Entries.{Entry, entry_at, last_live}

@@ -5,7 +5,6 @@ ghost use Rattle.bench_core.specs.Edited.{name_of_table};
 ghost use Rattle.desk_entries.specs.Kept.{entry_new};
 ghost use Rattle.desk_state.specs.Desk.{before_in, entry_in, is_delete, named_row, opposite, row_of_edit, table_name, table_of_edit};
 
-use crate::rows::row_texts;
 use bench_core::{Applied, Bench};
 use desk_entries::NewEntry;
 use edit_log::Edit;
@@ -74,7 +73,7 @@ fn texts_before(
     match edit {
         Edit::Insert { .. } => Ok(None),
         Edit::Set { row, .. } | Edit::Delete { row, .. } | Edit::Fix { row, .. } => {
-            row_texts(alloc, bench, table, *row)
+            bench.row_texts(alloc, table, *row)
         }
     }
 }

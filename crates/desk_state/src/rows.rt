@@ -1,16 +1,14 @@
-//! Rows of a bench, by the names of their tables or by numbers, with their texts.
+//! Rows of a bench, by the names of their tables.
 
 ghost use Rattle.std.specs.Prelude.{◌≡◌, ◌≢◌, Err, Ok, map, IfErr, IfOk};
-ghost use Rattle.bench_core.specs.Answers.{row_texts};
 ghost use Rattle.bench_core.specs.Stored.{HaveTexts, text_of};
 ghost use Rattle.bench_core.specs.declared.edit.EditFault.TheVariants as edit_fault;
 ghost use Rattle.desk_state.specs.Desk.{row_named};
 ghost use Rattle.row_store.specs.Tuple.{ids_of};
 
-use bench_core::{Bench, EditFault, texts_of};
+use bench_core::{Bench, EditFault};
 use row_store::{RowId, Tuple};
-use schema_core::{Text, Texts};
-use std::alloc::{AllocError, Global};
+use schema_core::Text;
 
 /// A row that is there.
 #[derive(Clone, Copy)]
@@ -38,23 +36,5 @@ pub(crate) fn find_row<'a>(
             tuple,
         }),
         None => Err(EditFault::UnknownRow),
-    }
-}
-
-/// The texts of a row of a numbered table, where both are there.
-pub(crate) fn row_texts(
-    alloc: Global,
-    bench: &Bench,
-    table: usize,
-    row: RowId,
-) -> Result<Option<Texts>, AllocError>
-    ensures { IfOk result (λ texts. texts ≡ row_texts bench.now.history.present table row) }
-{
-    if table >= bench.table_count() {
-        return Ok(None);
-    }
-    match bench.store(table).get(row) {
-        Some(tuple) => Ok(Some(texts_of(alloc, bench.pool(), tuple)?)),
-        None => Ok(None),
     }
 }

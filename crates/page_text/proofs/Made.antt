@@ -21,7 +21,7 @@ use Rattle.page_text.specs.Markup.{markup, more_text}
 use Rattle.page_text.specs.Parts.{IsMadeOfParts, Part, Markup, Style, Element, Text, Number, part_text}
 use Rattle.page_text.specs.Words.{attr_code, attr_codes, cind_words, dep_words, dep_words_of, line_name, side_of, wanted, wanted_of}
 use Rattle.page_text.specs.Rows.{id_end, id_text, rows_cells}
-use Rattle.page_text.specs.Groups.{caption, chosen_by, equals_text, group_head, group_text, groups_text, missing_row, missing_rows, missing_table, shared_text, value_row, values_rows}
+use Rattle.page_text.specs.Groups.{caption, chosen_by, equals_text, group_head, group_text, groups_text, missing_row, missing_rows, missing_table, value_row, values_rows}
 use Rattle.page_text.specs.Kinds.{Kind, cind_kind, dep_kind}
 use Rattle.page_text.specs.Overview.{bar, row_end, rule_name, rule_row_at, rule_row_of, rule_rows, table_at, table_of, tables_rows}
 use Rattle.page_text.specs.Sections.{body_of, counts_line, section, section_at, section_head, section_of, sections}

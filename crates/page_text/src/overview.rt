@@ -1,7 +1,6 @@
 //! The tables, and the rules by how many violations they have.
-ghost use Rattle.std.specs.Prelude.{◌≡◌, ◌++◌, OnOk, length, slice_get};
+ghost use Rattle.std.specs.Prelude.{◌≡◌, ◌++◌, OnOk};
 ghost use Rattle.std.specs.Option.{option_copied};
-ghost use Rattle.html_text.specs.Elements.{each_place};
 ghost use Rattle.page_text.specs.Markup.{markup};
 ghost use Rattle.page_text.specs.Overview.{bar, row_end, rule_head, rule_link, rule_name, rule_row_at, rule_row_of, rule_rows, table_at, table_of, table_row, tables_rows};
 

@@ -3,7 +3,6 @@ ghost use Rattle.std.specs.Prelude.{◌≡◌, ◌++◌, IfOk, OnOk};
 ghost use Rattle.page_text.specs.Markup.{markup, style};
 ghost use Rattle.page_text.specs.Page.{head_text, overview_text, page_text, sections_text, state_piece, styled};
 ghost use Rattle.page_text.specs.Parts.{IsMadeOfParts};
-ghost use Rattle.rule_model.specs.Books.{book_cinds, book_deps};
 
 use crate::checks::push_checks;
 use crate::markup::{Piece, markup, push, style};

@@ -1,7 +1,6 @@
 //! What is told of each rule that has violations.
-ghost use Rattle.std.specs.Prelude.{◌≡◌, ◌++◌, OnOk, length, slice_get, slice_index};
+ghost use Rattle.std.specs.Prelude.{◌≡◌, ◌++◌, OnOk, slice_index};
 ghost use Rattle.std.specs.Option.{option_copied};
-ghost use Rattle.html_text.specs.Elements.{each_place};
 ghost use Rattle.page_text.specs.Sections.{body_of, counts_line, section, section_at, section_head, section_of, sections};
 
 use crate::kinds::Rule;

@@ -25,6 +25,8 @@ use Rattle.view_refusal.specs.RowCounts.{count_line}
 use Rattle.project_flaws.specs.Verdicts.{AreVerdicts}
 use Rattle.project_flaws.specs.declared.cited.RowName.{RowName}
 use Rattle.project_flaws.specs.declared.rows.TableRows.{TableRows}
+use Rattle.project_flaws.specs.declared.told.Counts.{Counts}
+use Rattle.project_flaws.specs.declared.told.Counts.TheVariants as counts
 use Rattle.project_flaws.specs.declared.values.MayStand.{MayStand}
 use Rattle.project_flaws.specs.declared.values.MayStand.TheVariants as may
 use Rattle.project_flaws.specs.declared.values.ValueVerdict.{ValueVerdict}
@@ -36,7 +38,7 @@ use Rattle.project_flaws.specs.declared.verdicts.Verdict.TheVariants.{Holds, Nev
 abbrev pub row_words : Table → ℕ → List ℕ
 row_words table row = table.name ++ codes " row " ++ decimal row ++ codes ": "
 
--- the id of a row by its place, counted from 1
+-- the id of a row by its place, counted from 1; a place beyond the ids stands for itself
 abbrev pub id_at : List ℕ → ℕ → ℕ
 id_at ids place = option_map_or (λ id. id) (slice_get ids (place - 1)) place
 
@@ -63,30 +65,28 @@ flaw_line table ids (Repeated row) = repeated_line table (id_at ids row)
 abbrev pub flaws_text : Table → TableRows → List ℕ
 flaws_text table rows = flat_map (flaw_line table rows.ids) (flaws_of (length table.attrs) rows.texts)
 
--- how many rows were read, and what is odd in them
-abbrev pub table_text : Table → TableRows → List ℕ
-table_text table rows = count_line table (length rows.texts) ++ flaws_text table rows
+-- how many rows were read, where that is told
+abbrev pub counted : Counts → Table → TableRows → List ℕ
+counted counts.Told table rows = count_line table (length rows.texts)
+counted counts.LeftOut table rows = []
+
+-- and what is odd in them
+abbrev pub table_text : Counts → Table → TableRows → List ℕ
+table_text counts table rows = counted counts table rows ++ flaws_text table rows
 
 abbrev pub has_no_flaw : Table → TableRows → Bool
 has_no_flaw table rows = length (flaws_of (length table.attrs) rows.texts) == 0
 
 -- ---- all tables, with the rows of each: nothing is told of the rows of a table that aren't given
 
-abbrev pub pair_text : Table × TableRows → List ℕ
-pair_text (table, rows) = table_text table rows
-
-abbrev pub pair_flaws : Table × TableRows → List ℕ
-pair_flaws (table, rows) = flaws_text table rows
+abbrev pub pair_text : Counts → Table × TableRows → List ℕ
+pair_text counts (table, rows) = table_text counts table rows
 
 abbrev pub pair_clean : Table × TableRows → Bool
 pair_clean (table, rows) = has_no_flaw table rows
 
-abbrev pub tables_text : List Table → List TableRows → List ℕ
-tables_text tables all = flat_map pair_text (zip tables all)
-
--- what is odd, without how many rows were read
-abbrev pub tables_flaws : List Table → List TableRows → List ℕ
-tables_flaws tables all = flat_map pair_flaws (zip tables all)
+abbrev pub tables_text : Counts → List Table → List TableRows → List ℕ
+tables_text counts tables all = flat_map (pair_text counts) (zip tables all)
 
 abbrev pub tables_clean : List Table → List TableRows → Bool
 tables_clean tables all = list_all pair_clean (zip tables all)
@@ -213,9 +213,9 @@ verdicts_text tables verdicts = flat_map verdict_text (zip tables verdicts)
 
 -- ---- the project, by its rules and the rows of its tables
 
-abbrev pub whole_text : Book → List TableRows → List Verdict → List ℕ
-whole_text rules all verdicts =
-    tables_text rules.schema.tables all ++ verdicts_text rules.schema.tables verdicts ++ edits_text rules.schema all (book_edits rules)
+abbrev pub whole_text : Counts → Book → List TableRows → List Verdict → List ℕ
+whole_text counts rules all verdicts =
+    tables_text counts rules.schema.tables all ++ verdicts_text rules.schema.tables verdicts ++ edits_text rules.schema all (book_edits rules)
 
 abbrev pub is_clean : Book → List TableRows → List Verdict → Bool
 is_clean rules all verdicts = tables_clean rules.schema.tables all && list_all is_good verdicts && edits_clean rules.schema all (book_edits rules)
@@ -225,16 +225,6 @@ abbrev pub status_of : Bool → Status
 status_of true = Clean
 status_of false = Findings
 
--- what is told, with the status that goes with it
-abbrev pub IsTold : Book → List TableRows → List ℕ → Status → Type 0
-IsTold rules all bytes status = (verdicts : List Verdict) × AreVerdicts rules verdicts × (bytes ≡ whole_text rules all verdicts) × (status ≡ status_of (is_clean rules all verdicts))
-
--- ---- the same without the numbers of rows: only what is off
-
-abbrev pub findings_text : Book → List TableRows → List Verdict → List ℕ
-findings_text rules all verdicts =
-    tables_flaws rules.schema.tables all ++ verdicts_text rules.schema.tables verdicts ++ edits_text rules.schema all (book_edits rules)
-
--- all that is off, and nothing else
-abbrev pub IsFound : Book → List TableRows → List ℕ → Type 0
-IsFound rules all bytes = (verdicts : List Verdict) × AreVerdicts rules verdicts × (bytes ≡ findings_text rules all verdicts)
+-- what is told, with the status that goes with it; without the numbers of rows it is what is off, and nothing else
+abbrev pub IsTold : Counts → Book → List TableRows → List ℕ → Status → Type 0
+IsTold counts rules all bytes status = (verdicts : List Verdict) × AreVerdicts rules verdicts × (bytes ≡ whole_text counts rules all verdicts) × (status ≡ status_of (is_clean rules all verdicts))

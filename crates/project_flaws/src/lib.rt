@@ -4,7 +4,6 @@
 
 mod cited;
 mod edits;
-mod found;
 mod items;
 mod names;
 mod rows;
@@ -13,8 +12,7 @@ mod values;
 mod verdicts;
 
 pub use cited::RowName;
-pub use found::found_on;
 pub use rows::TableRows;
-pub use told::{Told, told_of, told_on};
+pub use told::{Counts, Told, told_on};
 pub use values::{MayStand, ValueVerdict};
 pub use verdicts::Verdict;

@@ -3,7 +3,7 @@ ghost use Rattle.std.specs.Prelude.{◌≡◌, ◌++◌, ◌&&◌, IfOk, OnOk};
 ghost use Rattle.std.specs.List.{flat_map};
 ghost use Rattle.cli_output.specs.Output.{IsWhole};
 ghost use Rattle.project_flaws.specs.Rows.{all_rows};
-ghost use Rattle.project_flaws.specs.Told.{IsTold, flaw_line, has_no_flaw, id_at, is_clean, long_line, repeated_line, row_words, spaced_line, status_of, table_text, tables_clean, tables_text, whole_text};
+ghost use Rattle.project_flaws.specs.Told.{IsTold, counted, flaw_line, has_no_flaw, id_at, is_clean, long_line, repeated_line, row_words, spaced_line, status_of, table_text, tables_clean, tables_text, whole_text};
 
 use crate::edits::push_edits;
 use crate::names::push_name;
@@ -18,6 +18,13 @@ use schema_core::{Table, push_number};
 use std::alloc::{AllocError, Global};
 use table_flaws::{Flaw, flaws_of};
 use view_refusal::push_count;
+
+/// Whether the number of rows of each table is told, too, or only what is off.
+#[derive(Clone, Copy)]
+pub enum Counts {
+    Told,
+    LeftOut,
+}
 
 /// What is told of a project, and how the call ends.
 #[derive(Drop)]
@@ -37,9 +44,10 @@ fn status_of(clean: bool) -> Status
     }
 }
 
-/// What is off in a project that was read, by the rows that its bench has, each told by its id.
-pub fn told_on(alloc: Global, bench: &Bench) -> Result<Told, AllocError>
-    ensures told { IfOk result (λ told. IsTold bench.now.rules (all_rows bench.now.history.present) told.text.items told.status) }
+/// What is off in a project that was read, by the rows that its bench has, each told by its id: a line for each thing, and no
+/// other text but the numbers of rows.
+pub fn told_on(alloc: Global, bench: &Bench, counts: Counts) -> Result<Told, AllocError>
+    ensures told { IfOk result (λ told. IsTold counts bench.now.rules (all_rows bench.now.history.present) told.text.items told.status) }
     ensures whole { IfOk result (λ told. IsWhole told.status) }
 {
     let all = all_rows(alloc, bench)?;
@@ -48,23 +56,32 @@ pub fn told_on(alloc: Global, bench: &Bench) -> Result<Told, AllocError>
         bench.pool().hash_keys(),
         bench.rules(),
         all.as_slice(),
+        counts,
     )
 }
 
-/// What is off in a project that was read: its rules, and the rows of its tables in the order of the schema. Where the
-/// rows of a table are missing, nothing is told of them, nor that a rule has no master row among them.
-pub fn told_of(
+/// The same of rules and of the rows of their tables, in the order of the schema.
+fn told_of(
     alloc: Global,
     keys: HashKeys,
     rules: &RuleBook,
     tables: &[TableRows],
+    counts: Counts,
 ) -> Result<Told, AllocError>
-    ensures told { IfOk result (λ told. IsTold rules.now tables.now told.text.items told.status) }
+    ensures told { IfOk result (λ told. IsTold counts rules.now tables.now told.text.items told.status) }
     ensures whole { IfOk result (λ told. IsWhole told.status) }
 {
     let verdicts = verdicts(alloc, rules)?;
     let mut text = Vec::new(alloc);
-    let clean = push_whole(alloc, keys, &mut text, rules, tables, verdicts.as_slice())?;
+    let clean = push_whole(
+        alloc,
+        keys,
+        &mut text,
+        rules,
+        tables,
+        verdicts.as_slice(),
+        counts,
+    )?;
     let status = status_of(clean);
     Ok(Told { text, status })
 }
@@ -76,12 +93,13 @@ fn push_whole(
     rules: &RuleBook,
     all: &[TableRows],
     verdicts: &[Verdict],
+    counts: Counts,
 ) -> Result<bool, AllocError>
-    ensures text { OnOk result (out.new.items ≡ out.old.items ++ whole_text rules.now all.now verdicts.now) }
+    ensures text { OnOk result (out.new.items ≡ out.old.items ++ whole_text counts rules.now all.now verdicts.now) }
     ensures clean { IfOk result (λ clean. clean ≡ is_clean rules.now all.now verdicts.now) }
 {
     let tables = rules.schema().tables.as_slice();
-    let even = push_tables(alloc, keys, out, tables, all)?;
+    let even = push_tables(alloc, keys, out, tables, all, counts)?;
     push_verdicts(out, tables, verdicts)?;
     let apply = push_edits(out, rules.schema(), all, rules.edits().as_slice())?;
     Ok(even && are_good(verdicts) && apply)
@@ -93,13 +111,14 @@ fn push_tables(
     out: &mut Vec<u8>,
     tables: &[Table],
     all: &[TableRows],
+    counts: Counts,
 ) -> Result<bool, AllocError>
-    ensures text { OnOk result (out.new.items ≡ out.old.items ++ tables_text tables.now all.now) }
+    ensures text { OnOk result (out.new.items ≡ out.old.items ++ tables_text counts tables.now all.now) }
     ensures clean { IfOk result (λ clean. clean ≡ tables_clean tables.now all.now) }
 {
     let mut clean = true;
     for (table, rows) in tables.iter().zip(all) {
-        let none = push_table(alloc, keys, out, table, rows)?;
+        let none = push_table(alloc, keys, out, table, rows, counts)?;
         clean = clean && none;
     }
     Ok(clean)
@@ -111,8 +130,9 @@ fn push_table(
     out: &mut Vec<u8>,
     table: &Table,
     rows: &TableRows,
+    counts: Counts,
 ) -> Result<bool, AllocError>
-    ensures text { OnOk result (out.new.items ≡ out.old.items ++ table_text table.now rows.now) }
+    ensures text { OnOk result (out.new.items ≡ out.old.items ++ table_text counts table.now rows.now) }
     ensures clean { IfOk result (λ none. none ≡ has_no_flaw table.now rows.now) }
 {
     let flaws = flaws_of(
@@ -121,12 +141,26 @@ fn push_table(
         table.attrs.as_slice().len(),
         rows.texts.as_slice(),
     )?;
-    push_count(out, table, rows.texts.as_slice().len())?;
+    push_counted(out, table, rows, counts)?;
     push_flaws(out, table, rows.ids.as_slice(), flaws.as_slice())?;
     Ok(flaws.as_slice().is_empty())
 }
 
-pub fn push_flaws(
+fn push_counted(
+    out: &mut Vec<u8>,
+    table: &Table,
+    rows: &TableRows,
+    counts: Counts,
+) -> Result<(), AllocError>
+    ensures { OnOk result (out.new.items ≡ out.old.items ++ counted counts table.now rows.now) }
+{
+    match counts {
+        Counts::Told => push_count(out, table, rows.texts.as_slice().len()),
+        Counts::LeftOut => Ok(()),
+    }
+}
+
+fn push_flaws(
     out: &mut Vec<u8>,
     table: &Table,
     ids: &[RowId],
@@ -150,7 +184,7 @@ fn push_flaw(out: &mut Vec<u8>, table: &Table, ids: &[RowId], flaw: Flaw) -> Res
     }
 }
 
-/// The id of a row by its place, counted from 1.
+/// The id of a row by its place, counted from 1. A place beyond the ids stands for itself.
 fn id_at(ids: &[RowId], place: usize) -> RowId
     ensures { result ≡ id_at ids.now place }
 {

@@ -6,7 +6,7 @@ use Rattle.rule_model.specs.Books.{Book}
 use Rattle.bench_core.specs.History.{History}
 use Rattle.bench_core.specs.State.{State}
 use Rattle.violation_report.specs.Listing.{IsSatisfied, listing}
-use Rattle.violation_report.specs.Probes.{list_probes}
+use Rattle.bench_core.specs.DirtyCounts.{list_probes}
 use Rattle.violation_report.specs.Report.{report_text}
 use Rattle.session.specs.Probes.{Counted}
 use Rattle.cli_output.specs.Output.{Outputs, Task}

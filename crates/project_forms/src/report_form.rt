@@ -1,7 +1,7 @@
 //! The form `report PROJECT`: the list of the state that the project's script leads to, as JSON.
 ghost use Rattle.std.specs.Prelude.{◌+◌, ◌*◌, ◌≤◌};
 ghost use Rattle.text_lists.specs.Limits.{AreLimits};
-ghost use Rattle.violation_report.specs.Probes.{list_probes};
+ghost use Rattle.bench_core.specs.DirtyCounts.{list_probes};
 ghost use Rattle.cli_output.specs.Output.{Ends, IsWhole, Output, UsesDevices, Writes};
 ghost use Rattle.project_files.specs.Project.{read_of};
 ghost use Rattle.project_forms.specs.ReportForm.{counted_from, counted_report_task, report_of, report_outputs, report_task};

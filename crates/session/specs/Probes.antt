@@ -4,7 +4,8 @@ use Rattle.text_lists.specs.declared.limits.Limits.{Limits}
 use Rattle.rule_model.specs.Books.{Book}
 use Rattle.bench_core.specs.History.{History, first_undone, last_past}
 use Rattle.bench_core.specs.Indexed.{AreOfTheChange, edit_probes, table_probes}
-use Rattle.violation_report.specs.Probes.{explain_probes, list_probes}
+use Rattle.bench_core.specs.DirtyCounts.{list_probes}
+use Rattle.violation_report.specs.Probes.{explain_probes}
 use Rattle.shelf_io.specs.Transcript.{Replies}
 use Rattle.session.specs.Replies.{IsReply}
 use Rattle.session.specs.declared.command.Command.{Command}

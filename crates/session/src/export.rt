@@ -1,9 +1,7 @@
 //! The rows of a table as a table file.
 
-ghost use Rattle.std.specs.Prelude.{◌≡◌, ◌++◌, ◌<◌, All, IfOk, OnOk, length};
-ghost use Rattle.schema_core.specs.Lookups.{attrs_at};
+ghost use Rattle.std.specs.Prelude.{◌≡◌, ◌++◌, ◌<◌, IfOk, OnOk, length};
 ghost use Rattle.cfd_semantics.specs.Tuple.{tuples_of};
-ghost use Rattle.bench_core.specs.State.{rows_at};
 ghost use Rattle.session.specs.Replies.{export_text, rows_text};
 
 use crate::reply::{push_counted, push_refused};

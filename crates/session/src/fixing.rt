@@ -7,7 +7,6 @@ ghost use Rattle.bench_core.specs.Indexed.{table_probes};
 ghost use Rattle.bench_core.specs.Stored.{HaveTexts};
 ghost use Rattle.bench_core.specs.declared.edit.Applied.TheVariants as applied;
 ghost use Rattle.fix_engine.specs.Questions.{texts_of};
-ghost use Rattle.row_store.specs.Tuple.{ids_of};
 ghost use Rattle.rule_runs.specs.Marks.{marked};
 ghost use Rattle.session.specs.Fixing.{asked, conflict_text, covered, fixed_text, name_at, value_at};
 ghost use Rattle.session.specs.Replies.{IsFixReply};

@@ -3,7 +3,8 @@
 ghost use Rattle.std.specs.Prelude.{◌≡◌, ◌++◌, ◌+◌, ◌≤◌, codes, decimal, All, OnOk};
 ghost use Rattle.std.specs.List.{flat_map};
 ghost use Rattle.bench_core.specs.Edited.{name_of_table};
-ghost use Rattle.violation_report.specs.Probes.{explain_probes, list_probes};
+ghost use Rattle.bench_core.specs.DirtyCounts.{list_probes};
+ghost use Rattle.violation_report.specs.Probes.{explain_probes};
 ghost use Rattle.violation_report.specs.Text.{IsLineOf, line_text};
 ghost use Rattle.session.specs.Replies.{changed_text, count_text, counted_text, done_text, explain_text, fault_text, lines_text, list_text, refused_text};
 

@@ -6,13 +6,14 @@ use Rattle.cli_output.specs.Output.{Only, Outputs, Task}
 use Rattle.project_files.specs.Project.{ProjectRead}
 use Rattle.project_flaws.specs.Rows.{all_rows}
 use Rattle.project_flaws.specs.Told.{IsTold}
+use Rattle.project_flaws.specs.declared.told.Counts.TheVariants.{Told}
 use Rattle.view_refusal.specs.Shown.{off_text}
 use Rattle.view_check.specs.Seen.{SeenRead, fetch_seen}
 use Rattle.view_check.specs.declared.fetching.Off.{Off}
 
 -- of the tables as they were read: the script is read, too, and not run
 abbrev pub read_outputs : ProjectRead → Outputs
-read_outputs project = IsTold project.tables.rules (all_rows project.tables.history.present)
+read_outputs project = IsTold Told project.tables.rules (all_rows project.tables.history.present)
 
 abbrev pub off_outputs : Limits → Off → Outputs
 off_outputs limits off = Only (off_text limits off.refusal off.anew) Refused

@@ -12,7 +12,7 @@ use bench_core::Bench;
 use cli_output::{Status, Stop, end_by, end_with};
 use probe_steps::Steps;
 use project_files::{Project, Room};
-use project_flaws::told_on;
+use project_flaws::{Counts, told_on};
 use schema_core::{Limits, Text};
 use shelf_io::{Shelf, Sink};
 use std::alloc::{AllocError, Global};
@@ -76,9 +76,9 @@ fn tell_whole<O: Sink>(alloc: Global, room: &mut Room, project: Project, out: &m
 }
 
 fn tell_bench<O: Sink>(alloc: Global, bench: &Bench, out: &mut O) -> Status
-    ensures { Ends (IsTold bench.now.rules (all_rows bench.now.history.present)) result (O.told out.old) (O.told out.new) }
+    ensures { Ends (IsTold Counts.Told bench.now.rules (all_rows bench.now.history.present)) result (O.told out.old) (O.told out.new) }
 {
-    match told_on(alloc, bench) {
+    match told_on(alloc, bench, Counts::Told) {
         Ok(told) => end_with(out, &told.text, told.status),
         Err(AllocError) => end_by(alloc, &Stop::Memory, out),
     }

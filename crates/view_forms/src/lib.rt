@@ -4,7 +4,6 @@
 
 mod list_form;
 mod row_form;
-mod row_values;
 mod told;
 
 pub use list_form::ListForm;

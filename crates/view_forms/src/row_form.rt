@@ -1,6 +1,6 @@
 //! The form `row PROJECT TABLE ROW`.
 
-ghost use Rattle.std.specs.Prelude.{◌≡◌, ◌++◌, ◌<◌, List, ℕ, IfOk, IfSome, OnOk, length};
+ghost use Rattle.std.specs.Prelude.{◌≡◌, ◌++◌, List, ℕ, IfOk, OnOk};
 ghost use Rattle.schema_core.specs.Schemas.{table_place};
 ghost use Rattle.bench_core.specs.Answers.{row_texts};
 ghost use Rattle.cli_output.specs.Output.{IsWhole};
@@ -8,7 +8,6 @@ ghost use Rattle.project_files.specs.Project.{read_of};
 ghost use Rattle.view_options.specs.declared.options.RowOptions.{RowOptions};
 ghost use Rattle.view_forms.specs.RowForm.{AreReplies, questions, row_in, row_of, row_outputs, row_with};
 
-use crate::row_values::row_texts;
 use crate::told::{refused, status_of};
 use bench_core::Bench;
 use probe_steps::Steps;
@@ -88,8 +87,7 @@ fn row_shown<L: Ledger>(
 
 /// The table that is asked for, by its number.
 fn place_of(bench: &Bench, options: &RowOptions) -> Option<usize>
-    ensures place { result ≡ table_place bench.now.rules.schema options.now.table }
-    ensures within { IfSome result (λ table. table < length bench.now.history.present) }
+    ensures { result ≡ table_place bench.now.rules.schema options.now.table }
 {
     bench.rules().schema().table_named(options.table.as_str())
 }
@@ -102,11 +100,10 @@ fn row_in<L: Ledger>(
     options: &RowOptions,
     steps: &mut Steps<L>,
 ) -> Result<Shown, AllocError>
-    requires { table < length bench.old.history.present }
     ensures told { IfOk result (λ shown. row_in bench.old.rules bench.old.limits counts.now bench.old.history options.now table (row_texts bench.old.history.present table options.now.row) shown.text.items shown.status) }
     ensures whole { IfOk result (λ shown. IsWhole shown.status) }
 {
-    let texts = row_texts(alloc, bench, table, options.row)?;
+    let texts = bench.row_texts(alloc, table, options.row)?;
     row_with(alloc, bench, counts, table, &texts, options, steps)
 }
 

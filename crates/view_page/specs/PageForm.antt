@@ -16,7 +16,8 @@ use Rattle.cli_output.specs.Output.{Outputs, Task}
 use Rattle.cli_output.specs.declared.status.Status.{Status}
 use Rattle.cli_output.specs.declared.status.Status.TheVariants.{Clean, Findings as Found}
 use Rattle.project_files.specs.Project.{ProjectRead}
-use Rattle.project_flaws.specs.Told.{IsFound}
+use Rattle.project_flaws.specs.Told.{IsTold}
+use Rattle.project_flaws.specs.declared.told.Counts.TheVariants.{LeftOut}
 use Rattle.project_flaws.specs.Rows.{all_rows}
 use Rattle.view_project.specs.Looking.{LooksAt, counts_of}
 use Rattle.view_project.specs.ProjectTask.{project_task}
@@ -35,7 +36,7 @@ options_of options = record { first = first_shown options.first; loaded = option
 
 -- the lines of what it finds in the rules, and in the tables of a state
 abbrev pub IsChecked : Book → State → List (List ℕ) → Type 0
-IsChecked rules state found = (text : List ℕ) × IsFound rules (all_rows state) text × (found ≡ lines text)
+IsChecked rules state found = (text : List ℕ) × (status : Status) × IsTold LeftOut rules (all_rows state) text status × (found ≡ lines text)
 
 -- ---- the page of a state
 

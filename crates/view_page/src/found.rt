@@ -5,7 +5,7 @@ ghost use Rattle.view_page.specs.PageForm.{IsChecked};
 
 use bench_core::Bench;
 use line_grammar::split_line;
-use project_flaws::found_on;
+use project_flaws::{Counts, told_on};
 use std::alloc::{AllocError, Global};
 use text_lists::List;
 
@@ -13,8 +13,8 @@ use text_lists::List;
 pub fn checked(alloc: Global, bench: &Bench) -> Result<List<List<u8>>, AllocError>
     ensures { IfOk result (IsChecked bench.now.rules bench.now.history.present) }
 {
-    let text = found_on(alloc, bench)?;
-    let found = lines_of(alloc, &text)?;
+    let told = told_on(alloc, bench, Counts::LeftOut)?;
+    let found = lines_of(alloc, &told.text)?;
     Ok(found)
 }
 

@@ -1,4 +1,3 @@
 pub mod Listed
 pub mod Groups
 pub mod ByIds
-pub mod Probes

@@ -4,10 +4,9 @@ ghost use Rattle.std.specs.Prelude.{◌≡◌, ◌+◌, ◌<◌, ◌≤◌, IfOk
 ghost use Rattle.std.specs.List.{AllZip};
 ghost use Rattle.std.specs.Option.{ForSome};
 ghost use Rattle.rule_model.specs.Books.{book_cinds, book_deps};
-ghost use Rattle.bench_core.specs.DirtyCounts.{cind_walk, cind_walk_at, dep_walk, dep_walk_at};
+ghost use Rattle.bench_core.specs.DirtyCounts.{cind_walk, cind_walk_at, dep_walk, dep_walk_at, list_probes};
 ghost use Rattle.violation_groups.specs.Groups.{AreFindings, AreGroups, AreMissing, HaveAllLines};
 ghost use Rattle.violation_groups.specs.Listed.{cind_listed, dep_listed};
-ghost use Rattle.violation_groups.specs.Probes.{findings_probes};
 
 use crate::dep_groups::groups_of;
 use crate::groups::{Findings, Group, Missing};
@@ -28,7 +27,7 @@ pub fn findings<L: Ledger>(
 ) -> Result<Findings, AllocError>
     ensures found { IfOk result (AreFindings bench.now.rules bench.now.history.present) }
     ensures law { IfOk result (HaveAllLines bench.now.rules bench.now.history.present) }
-    ensures probes { steps.new ≤ steps.old + findings_probes bench.now.rules bench.now.history.present }
+    ensures probes { steps.new ≤ steps.old + list_probes bench.now.rules bench.now.history.present }
 {
     // The rules are what says that each table that they name is there.
     let _deps = bench.rules().deps();

@@ -1,17 +1,10 @@
--- How many probes of the indexes the list of a state may take, and what is told of one row.
+-- How many probes of the indexes may be taken by what is told of one row.
 use Rattle.std.specs.Prelude.{ℕ, ◌+◌, ◌==◌, if◌then◌else◌, List, length, sum_by}
 use Rattle.std.specs.Option.{option_map_or}
 use Rattle.schema_core.specs.Schemas.{table_place}
 use Rattle.rule_model.specs.declared.dep.Dep.{Dep}
 use Rattle.rule_model.specs.declared.cind.Cind.{Cind}
 use Rattle.rule_model.specs.Books.{Book, book_deps, book_cinds}
-use Rattle.bench_core.specs.DirtyCounts.{cind_walk, dep_walk}
-use Rattle.bench_core.specs.State.{State}
-
--- The list, and how long it is: for each tableau row of a dependency its dirty groups, and for each one of an inclusion its
--- dirty keys. Rows that violate nothing don't count.
-abbrev pub list_probes : Book → State → ℕ
-list_probes rules state = sum_by (dep_walk state) (book_deps rules) + sum_by (cind_walk state) (book_cinds rules)
 
 -- the tableau rows of a rule of the table, where an inclusion is of its left one
 abbrev pub dep_rows_of : ℕ → Dep → ℕ

@@ -1,9 +1,8 @@
 //! How long the list is.
 
 ghost use Rattle.std.specs.Prelude.{◌≡◌, ◌↔◌, ◌+◌, ◌≤◌, IfOk, length};
-ghost use Rattle.bench_core.specs.DirtyCounts.{cind_walk, dep_walk};
+ghost use Rattle.bench_core.specs.DirtyCounts.{cind_walk, dep_walk, list_probes};
 ghost use Rattle.violation_report.specs.Listing.{IsSatisfied, listing};
-ghost use Rattle.violation_report.specs.Probes.{list_probes};
 ghost use Rattle.violation_report.specs.RuleNumbers.{IsRuleOf, lines_at, number_at};
 
 use crate::rules::{Rule, rule_at, rule_count};

@@ -8,7 +8,7 @@ ghost use Rattle.std.specs.List.{concat};
 ghost use Rattle.serde_json.specs.Data.{string};
 ghost use Rattle.serde_json.specs.Written.{comma_if, compact_text};
 ghost use Rattle.violation_report.specs.Listing.{listing};
-ghost use Rattle.violation_report.specs.Probes.{list_probes};
+ghost use Rattle.bench_core.specs.DirtyCounts.{list_probes};
 ghost use Rattle.violation_report.specs.Report.{line_data, report_text};
 ghost use Rattle.violation_report.specs.Text.{IsLineOf};
 ghost use Rattle.violation_report.specs.Told.{attr_piece, partner_piece};

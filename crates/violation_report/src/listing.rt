@@ -3,7 +3,7 @@
 ghost use Rattle.std.specs.Prelude.{◌≡◌, ◌↔◌, ◌++◌, ◌+◌, ◌≤◌, [], length, All, IfOk, OnOk};
 ghost use Rattle.std.specs.List.{flat_map};
 ghost use Rattle.violation_report.specs.Listing.{IsSatisfied, listing};
-ghost use Rattle.violation_report.specs.Probes.{list_probes};
+ghost use Rattle.bench_core.specs.DirtyCounts.{list_probes};
 ghost use Rattle.violation_report.specs.Text.{IsLineOf, line_text};
 
 use crate::line::Line;

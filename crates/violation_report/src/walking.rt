@@ -1,9 +1,8 @@
 //! The walk over all rules, which puts each violation to a taker as a line.
 
 ghost use Rattle.std.specs.Prelude.{◌≡◌, ◌+◌, ◌≤◌, All, OnOk};
-ghost use Rattle.bench_core.specs.DirtyCounts.{cind_walk, dep_walk};
+ghost use Rattle.bench_core.specs.DirtyCounts.{cind_walk, dep_walk, list_probes};
 ghost use Rattle.violation_report.specs.Listing.{cind_lines_at, dep_line, dep_lines_at, listing};
-ghost use Rattle.violation_report.specs.Probes.{list_probes};
 ghost use Rattle.violation_report.specs.RuleNumbers.{IsRuleOf, lines_at, number_at};
 ghost use Rattle.violation_report.specs.Taking.{Takes};
 ghost use Rattle.violation_report.specs.Text.{IsLineOf};

@@ -8,10 +8,10 @@ pub returns-clause-text : goal.returns-clause-text
 returns-clause-text c =
     let tables = c.loop-table.table-iterator.a.rest.now in
     let all = c.loop-table.table-iterator.b.rest.now in
-    let whole = c.args.out.now.items ++ tables_text c.args.tables.now c.args.all.now in
+    let whole = c.args.out.now.items ++ tables_text c.args.counts c.args.tables.now c.args.all.now in
     elim c.in-None.ensures.steps [
-      | inl p ↦ nothing_left-first pair_text tables all c.loop-table.out.items whole p.1.0 c.loop-table.invariant.text
-      | inr p ↦ nothing_left-second pair_text tables all c.loop-table.out.items whole p.1.0 c.loop-table.invariant.text
+      | inl p ↦ nothing_left-first (pair_text c.args.counts) tables all c.loop-table.out.items whole p.1.0 c.loop-table.invariant.text
+      | inr p ↦ nothing_left-second (pair_text c.args.counts) tables all c.loop-table.out.items whole p.1.0 c.loop-table.invariant.text
     ]
 
 pub returns-clause-clean : goal.returns-clause-clean

@@ -1,6 +1,6 @@
 use Rattle.std.proofs.Common.{◌+◌, ◌*◌, ◌≤◌, ap, arith, subst}
 use Rattle.rule_model.specs.Books.{Book}
-use Rattle.violation_report.specs.Probes.{list_probes}
+use Rattle.bench_core.specs.DirtyCounts.{list_probes}
 use Rattle.session.specs.Probes.{Counted}
 use Rattle.project_forms.specs.ReportForm.{counted_from, report_of, report_outputs}
 use Rattle.project_files.specs.Project.{read_of}

@@ -1,7 +1,7 @@
 use Rattle.std.proofs.Common.{ap, arith, ◌∙◌, sym, subst}
 use Rattle.bench_core.specs.Bench.{BenchModel}
 use Rattle.violation_report.specs.Listing.{listing}
-use Rattle.violation_report.specs.Probes.{list_probes}
+use Rattle.bench_core.specs.DirtyCounts.{list_probes}
 use Rattle.violation_report.specs.Report.{report_text}
 use Rattle.cli_output.specs.Output.{IsWhole, Only}
 use Rattle.cli_output.proofs.Outputs.{Ends-wider}

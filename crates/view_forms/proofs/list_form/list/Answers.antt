@@ -1,6 +1,5 @@
 use Rattle.std.proofs.Common.{ℕ, List, subst}
 use Rattle.rule_model.specs.Books.{Book}
-use Rattle.view_project.specs.Looking.{counts_of}
 use Rattle.view_forms.specs.ListForm.{list_of}
 use Rattle.view_forms.proofs.list_form.list.Goals as goal
 

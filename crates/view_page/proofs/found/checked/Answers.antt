@@ -3,4 +3,6 @@ use Rattle.line_grammar.specs.Lines.{lines}
 use Rattle.view_page.proofs.found.checked.Goals as goal
 
 pub returns : goal.returns
-returns c = (c.in_ok-text.text.items, c.in_ok-text.ensures, c.in_ok-found.ensures ∙ ap lines c.deref.ensures.value)
+returns c =
+    let told = c.in_ok-told.told in
+    (told.text.items, told.status, c.in_ok-told.ensures.told, c.in_ok-found.ensures ∙ ap lines c.deref.ensures.value)

@@ -1,4 +1,4 @@
-use Rattle.std.proofs.Common.{◌≡◌, length, map, ap, sym, subst, ◌∙◌, Some, refl, option_copied, arith}
+use Rattle.std.proofs.Common.{◌≡◌, ap, sym, subst, ◌∙◌, Some, refl, option_copied, arith}
 use Rattle.std.proofs.lemmas.List.{length-map}
 use Rattle.bench_core.specs.Stored.{state_of}
 use Rattle.bench_core.specs.Changes.{history_of}
