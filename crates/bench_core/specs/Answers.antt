@@ -1,5 +1,5 @@
 -- What the rules find among the rows of a state.
-use Rattle.std.specs.Prelude.{◌≡◌, ℕ, ◌==◌, if◌then◌else◌, List, [], length, map, filter, IfSome, IsSome, Option, None, slice_get, option_and_then, option_map}
+use Rattle.std.specs.Prelude.{◌≡◌, ℕ, ◌==◌, ◌<◌, if◌then◌else◌, List, [], length, map, filter, IfSome, IsSome, Option, Some, None, slice_get, option_and_then, option_map}
 use Rattle.std.specs.FinMap as finmap
 use Rattle.std.specs.Option.{ForSome, option_map_or}
 use Rattle.std.specs.Str.{bytes_eq}
@@ -12,9 +12,11 @@ use Rattle.schema_core.specs.Lookups.{attrs_at, master_at}
 use Rattle.schema_core.specs.declared.schema.Schema.{Schema}
 use Rattle.rule_model.specs.Books.{Book, book_cinds, book_deps}
 use Rattle.master_index.specs.Masters.{Masters}
+use Rattle.row_store.specs.Tuple.{ids_of}
 use Rattle.bench_index.specs.MasterLists.{master_lists}
 use Rattle.bench_core.specs.State.{State, TableState, rows_at, texts_of}
 use Rattle.bench_core.specs.Stored.{HaveTexts, text_of}
+use Rattle.bench_core.specs.declared.bench.RowAt.{RowAt}
 
 -- The violations of a dependency among the rows of its table, each with the number of its tableau row: by tableau row,
 -- and for each by rising row. A row with partners is listed once, with the least of them.
@@ -46,6 +48,12 @@ orphans_of_row rules state number row = filter (λ orphan. orphan.1 == row) (orp
 -- the texts of a row, where the table and the row are there
 abbrev pub row_texts : State → ℕ → ℕ → Option (List (List ℕ))
 row_texts state table row = option_and_then (λ (t : TableState). texts_of t row) (slice_get state table)
+
+-- the table and the row are there, and the row's tuple stands for its texts
+pub record IsRowAt (rules : Book) (texts : List (List ℕ)) (state : State) (at : RowAt) : Type 0 where
+  pub there : at.table < length rules.schema.tables
+  pub row : row_texts state at.table at.row ≡ Some (map (text_of texts) (ids_of at.tuple.now))
+  pub named : HaveTexts texts (ids_of at.tuple.now)
 
 -- the row is there in the dependency's table, and in the left table of the inclusion
 abbrev pub IsRowOfDep : Book → State → ℕ → ℕ → Type 0

@@ -52,6 +52,13 @@ table_at schema state number =
 abbrev pub table_of_name : Schema → State → List ℕ → Option TableAt
 table_of_name schema state name = option_and_then (table_at schema state) (table_place schema name)
 
+-- a row by its table's name: the table's number and the row's texts, where both are there
+abbrev pub row_named : Book → State → List ℕ → ℕ → Step (ℕ × List (List ℕ))
+row_named rules state name row = do
+  at ← ok_or (table_of_name rules.schema state name) UnknownTable
+  texts ← ok_or (texts_of at.state row) UnknownRow
+  Ok (at.number, texts)
+
 -- the attribute of that name, with its place
 abbrev pub attr_of_name : Table → List ℕ → Option (ℕ × Attr)
 attr_of_name table name = option_and_then (λ place. option_map (λ attr. (place, attr)) (slice_get table.attrs place)) (attr_place table name)

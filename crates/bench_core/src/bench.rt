@@ -1,16 +1,19 @@
 //! A bench: rules, limits, and the history of its tables.
 
-ghost use Rattle.std.specs.Prelude.{◌≡◌, ◌↔◌, ◌+◌, ◌<◌, ◌≤◌, Err, Some, length, slice_get, OnErr, OnOk, IfOk};
+ghost use Rattle.std.specs.Prelude.{◌≡◌, ◌≢◌, ◌↔◌, ◌+◌, ◌<◌, ◌≤◌, Err, Ok, Some, length, map, slice_get, OnErr, OnOk, IfErr, IfOk};
+ghost use Rattle.row_store.specs.Tuple.{ids_of};
+ghost use Rattle.schema_core.specs.Schemas.{table_place};
 ghost use Rattle.text_lists.specs.Limits.{AreLimits};
 ghost use Rattle.line_grammar.specs.Faults.{GivesUnlessMemory};
 ghost use Rattle.bench_core.specs.State.{rows_at};
 ghost use Rattle.bench_core.specs.Loading.{AreTables, full_table, loaded};
-ghost use Rattle.bench_core.specs.Edited.{refusal_of};
+ghost use Rattle.bench_core.specs.Edited.{refusal_of, row_named};
 ghost use Rattle.bench_core.specs.History.{HasNoPast, HasNothingUndone, IsRedone, IsUndone, first_undone, history_edited, last_past};
-ghost use Rattle.bench_core.specs.Stored.{RowsHaveTexts, stored, table_state};
-ghost use Rattle.bench_core.specs.Answers.{AreMastersOf, row_texts};
+ghost use Rattle.bench_core.specs.Stored.{RowsHaveTexts, stored, table_state, text_of};
+ghost use Rattle.bench_core.specs.Answers.{AreMastersOf, IsRowAt, row_texts};
 ghost use Rattle.bench_core.specs.Bench.{IsHistory};
 ghost use Rattle.bench_core.specs.Indexed.{AreOfTheChange, edit_probes, load_probes};
+ghost use Rattle.bench_core.specs.declared.edit.EditFault.TheVariants as edit_fault;
 ghost use Rattle.bench_core.specs.declared.edit.RedoFault.TheVariants as redo_fault;
 ghost use Rattle.bench_core.specs.declared.edit.UndoFault.TheVariants as undo_fault;
 
@@ -24,10 +27,10 @@ use edit_log::Edit;
 use hash_keys::HashKeys;
 use master_index::MasterIndex;
 use probe_steps::Steps;
-use row_store::{RowId, RowStore};
+use row_store::{RowId, RowStore, Tuple};
 use row_takers::PooledTables;
 use rule_model::RuleBook;
-use schema_core::{Limits, List, Texts};
+use schema_core::{Limits, List, Text, Texts};
 use std::alloc::{AllocError, Global};
 use std::marker::Model;
 use std::sync::ledger::Ledger;
@@ -40,6 +43,14 @@ use value_pool::Pool;
 pub struct Bench {
     project: Project,
     index: AllIndexes,
+}
+
+/// A row that is there: its table's number, its id, and its tuple as it is stored.
+#[derive(Clone, Copy)]
+pub struct RowAt<'a> {
+    pub table: usize,
+    pub row: RowId,
+    pub tuple: &'a Tuple,
 }
 
 impl Model for Bench {
@@ -184,6 +195,25 @@ impl Bench {
         ensures valid { IsHistory self.now.rules self.now.limits self.now.history }
     {
         self.project.rows(table)
+    }
+
+    /// The row by the name of its table and its id, or what isn't there.
+    pub fn find_row<'a>(&'a self, table: &Text, row: RowId) -> Result<RowAt<'a>, EditFault>
+        ensures named { IfOk result (λ at. row_named self.now.rules self.now.history.present table.now row ≡ Ok (at.table, map (text_of self.now.texts) (ids_of at.tuple.now))) }
+        ensures there { IfOk result (λ at. (at.row ≡ row) × (table_place self.now.rules.schema table.now ≡ Some at.table) × IsRowAt self.now.rules self.now.texts self.now.history.present at) }
+        ensures refused { IfErr result (λ fault. (row_named self.now.rules self.now.history.present table.now row ≡ Err fault) × (fault ≢ edit_fault.Memory)) }
+    {
+        let Some(number) = self.rules().schema().table_named(table.as_str()) else {
+            return Err(EditFault::UnknownTable);
+        };
+        match self.store(number).get(row) {
+            Some(tuple) => Ok(RowAt {
+                table: number,
+                row,
+                tuple,
+            }),
+            None => Err(EditFault::UnknownRow),
+        }
     }
 
     /// The texts of a row, where the table and the row are there.

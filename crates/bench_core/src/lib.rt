@@ -19,7 +19,7 @@ mod sizes;
 mod target;
 mod tuples;
 
-pub use bench::Bench;
+pub use bench::{Bench, RowAt};
 pub use edit::{Applied, EditFault, LoadFault, RedoFault, UndoFault};
 pub use queries::BenchQueries;
 pub use tuples::texts_of;

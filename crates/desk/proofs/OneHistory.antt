@@ -6,14 +6,14 @@ use Rattle.text_lists.specs.declared.limits.Limits.{Limits}
 use Rattle.rule_model.specs.Books.{Book}
 use Rattle.edit_log.specs.declared.edit.Edit.{Edit}
 use Rattle.edit_log.specs.declared.edit.Edit.TheVariants as edit
-use Rattle.bench_core.specs.Edited.{Step}
+use Rattle.bench_core.specs.Edited.{Step, row_named}
 use Rattle.bench_core.specs.History.{History, history_edited}
 use Rattle.bench_core.specs.declared.edit.Applied.{Applied}
 use Rattle.desk_entries.specs.Entries.{Entry, entry_at, is_overtaken, last_live, version_of}
 use Rattle.desk_events.specs.declared.event.Act.{Act}
 use Rattle.desk_events.specs.declared.event.Act.TheVariants as act
 use Rattle.desk_events.specs.declared.event.Event.{Event}
-use Rattle.desk_state.specs.Desk.{Answer, DeskModel, IsDeskAnswer, act_answer, edit_answer, edit_seen, entry_in, look_answer, made, opposite, row_named, row_of_edit, take_back}
+use Rattle.desk_state.specs.Desk.{Answer, DeskModel, IsDeskAnswer, act_answer, edit_answer, edit_seen, entry_in, look_answer, made, opposite, row_of_edit, take_back}
 use Rattle.desk_state.specs.declared.reply.Reply.{Reply}
 use Rattle.desk_state.specs.declared.reply.Reply.TheVariants as reply
 use Rattle.desk.specs.OneHistory.{AreOneHistory, Lead, Made, entries_of}

@@ -15,8 +15,8 @@ use Rattle.desk_entries.proofs.Numbers.{last-passes}
 use Rattle.desk_entries.proofs.Tied.{length-snoc, same-pair, slice_get-new, slice_get-old}
 use Rattle.bench_core.specs.Answers.{row_texts}
 use Rattle.bench_core.specs.Bench.{IsBench}
-use Rattle.desk_state.specs.Desk.{DeskModel, act_answer, answered, edit_answer, edit_seen, entry_in, look_answer, made, opposite, opposite_edit, row_named, row_of_edit, table_name, take_back}
-use Rattle.bench_core.specs.Edited.{Step, edited, name_of_table}
+use Rattle.desk_state.specs.Desk.{DeskModel, act_answer, answered, edit_answer, edit_seen, entry_in, look_answer, made, opposite, opposite_edit, row_of_edit, table_name, take_back}
+use Rattle.bench_core.specs.Edited.{Step, edited, name_of_table, row_named}
 use Rattle.bench_core.specs.History.{History, accepted, history_edited}
 use Rattle.desk_state.specs.LeftTexts.{AreAsLeft, IsReached, LeftTexts, left_by, left_texts}
 use Rattle.bench_core.specs.State.{State, TableState, IsTableState, texts_of}

@@ -1,4 +1,3 @@
-pub mod RowFound
 pub mod TakenBack
 pub mod LastLive
 pub mod Standing

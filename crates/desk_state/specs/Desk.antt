@@ -1,5 +1,5 @@
 -- What a desk is, and its answer to an event: the reply, and the desk that the event leaves.
-use Rattle.std.specs.Prelude.{◌≡◌, ◌≢◌, ⊤, All, ℕ, ◌+◌, ◌==◌, nat_le, Bool, true, false, if◌then◌else◌, List, [], ◌∷◌, ◌++◌, length, Option, None, Some, Ok, Err, ok_or, slice_get}
+use Rattle.std.specs.Prelude.{◌≡◌, ◌≢◌, ⊤, All, ℕ, ◌+◌, ◌==◌, nat_le, Bool, true, false, if◌then◌else◌, List, [], ◌∷◌, ◌++◌, length, Option, None, Some, Ok, Err, slice_get}
 use Rattle.std.specs.Option.{option_map_or}
 use Rattle.schema_core.specs.Schemas.{table_place}
 use Rattle.schema_core.specs.declared.schema.Schema.{Schema}
@@ -9,12 +9,12 @@ use Rattle.rule_model.specs.Books.{Book}
 use Rattle.edit_log.specs.declared.edit.Edit.{Edit}
 use Rattle.edit_log.specs.declared.edit.Edit.TheVariants as edit
 use Rattle.bench_core.specs.Answers.{row_texts}
-use Rattle.bench_core.specs.Edited.{Step, ◌>>=◌, name_of_table, table_of_name}
+use Rattle.bench_core.specs.Edited.{Step, name_of_table, row_named}
 use Rattle.bench_core.specs.History.{History, history_edited}
-use Rattle.bench_core.specs.State.{State, texts_of}
+use Rattle.bench_core.specs.State.{State}
 use Rattle.bench_core.specs.declared.edit.Applied.{Applied}
 use Rattle.bench_core.specs.declared.edit.Applied.TheVariants.{Inserted, Changed}
-use Rattle.bench_core.specs.declared.edit.EditFault.TheVariants.{UnknownTable, UnknownRow, Memory}
+use Rattle.bench_core.specs.declared.edit.EditFault.TheVariants.{Memory}
 use Rattle.violation_report.specs.Listing.{listing}
 use Rattle.violation_report.specs.Text.{IsLineOf}
 use Rattle.desk_events.specs.declared.event.Act.{Act}
@@ -93,13 +93,6 @@ edit_answer desk editor takes edit =
     if nat_le desk.last (length desk.entries) then (EditsSpent, desk) else made desk editor takes edit (history_edited desk.rules desk.limits desk.history edit)
 
 -- ---- a row that is named
-
--- a row by its table's name: the table's number and the row's texts, where both are there
-abbrev pub row_named : Book → State → List ℕ → ℕ → Step (ℕ × List (List ℕ))
-row_named rules state name row = do
-  at ← ok_or (table_of_name rules.schema state name) UnknownTable
-  texts ← ok_or (texts_of at.state row) UnknownRow
-  Ok (at.number, texts)
 
 -- an edit of a row that was seen in some version, which is to be its present one
 abbrev pub edit_seen : DeskModel → List ℕ → ℕ → ℕ → Edit → Step (ℕ × List (List ℕ)) → Answer

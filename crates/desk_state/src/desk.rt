@@ -2,16 +2,16 @@
 
 ghost use Rattle.std.specs.Prelude.{◌≡◌, ◌+◌, ◌≤◌, [], IfOk, OnErr};
 ghost use Rattle.bench_core.specs.Bench.{IsHistory};
+ghost use Rattle.bench_core.specs.Edited.{row_named};
 ghost use Rattle.bench_core.specs.Indexed.{edit_probes};
 ghost use Rattle.desk_entries.specs.Entries.{entry_at, last_live};
 ghost use Rattle.desk_entries.specs.Kept.{MayTake};
-ghost use Rattle.desk_state.specs.Desk.{AreTold, IsDeskAnswer, act_answer, edit_answer, edit_seen, look_answer, row_named, take_last_back};
+ghost use Rattle.desk_state.specs.Desk.{AreTold, IsDeskAnswer, act_answer, edit_answer, edit_seen, look_answer, take_last_back};
 ghost use Rattle.desk_state.specs.LeftTexts.{AreAsLeft, IsReached};
 ghost use Rattle.desk_state.specs.Probes.{IsWithin, back_probes};
 
 use crate::making::{new_entry, opposite, row_of_edit};
 use crate::reply::Reply;
-use crate::rows::find_row;
 use bench_core::{Bench, EditFault, texts_of};
 use desk_entries::{Entries, NewEntry};
 use desk_events::{Act, Event};
@@ -191,7 +191,7 @@ impl Desk {
         ensures probes { steps.new ≤ steps.old + edit_probes self.old.rules edit.now }
         ensures told { IfOk result (AreTold self.new.rules) }
     {
-        let number = match find_row(&self.bench, table, row) {
+        let number = match self.bench.find_row(table, row) {
             Ok(at) => at.table,
             Err(fault) => return Ok(Reply::Refused(fault)),
         };
@@ -231,7 +231,7 @@ impl Desk {
         ensures ok { IfOk result (λ reply. look_answer self.now row (row_named self.now.rules self.now.history.present table.now row) ≡ (reply, self.now)) }
         ensures told { IfOk result (AreTold self.now.rules) }
     {
-        match find_row(&self.bench, table, row) {
+        match self.bench.find_row(table, row) {
             Ok(at) => Ok(Reply::Row {
                 table: at.table,
                 version: self.entries.version(at.table, row) as u64,

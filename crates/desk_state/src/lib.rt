@@ -5,7 +5,6 @@
 mod desk;
 mod making;
 mod reply;
-mod rows;
 
 pub use desk::Desk;
 pub use reply::Reply;

@@ -1,6 +1,6 @@
 -- What is asked of a row, by what is known of its table and of it.
-use Rattle.std.proofs.Common.{◌≡◌, ℕ, zero, suc, ◌<◌, List, [], ◌∷◌, length, Some, None, Ok, Err, refl, ap, ◌∙◌}
-use Rattle.std.specs.Prelude.{option_and_then, slice_get}
+use Rattle.std.proofs.Common.{◌≡◌, ℕ, zero, suc, List, [], ◌∷◌, Some, Ok, refl}
+use Rattle.std.specs.Prelude.{slice_get}
 use Rattle.std.proofs.lemmas.Option.{none-some}
 use Rattle.schema_core.specs.Schemas.{table_place}
 use Rattle.schema_core.specs.declared.schema.Table.{Table}
@@ -8,19 +8,11 @@ use Rattle.rule_model.specs.Books.{Book}
 use Rattle.bench_core.specs.Answers.{row_texts}
 use Rattle.bench_core.specs.Edited.{TableAt, ◌>>◌, require, table_of_name}
 use Rattle.bench_core.specs.State.{State, TableState, texts_of}
-use Rattle.bench_core.specs.declared.edit.EditFault.TheVariants.{UnknownAttr, UnknownRow, UnknownTable}
-use Rattle.bench_core.proofs.Answering.{item-there}
+use Rattle.bench_core.specs.declared.edit.EditFault.TheVariants.{UnknownAttr}
 use Rattle.session.specs.Fixing.{are_attrs, asked, asked_of}
 
 module _ (rules : Book) (state : State) (name : List ℕ) (row : ℕ) (vouched : List (List ℕ)) where
-  pub table-unknown : table_place rules.schema name ≡ None → asked rules state name row vouched ≡ Err UnknownTable
-  table-unknown none = rw none refl
-
   module _ (number : ℕ) (place : table_place rules.schema name ≡ Some number) where
-    pub row-unknown : (rows : TableState) → number < length rules.schema.tables → slice_get state number ≡ Some rows → texts_of rows row ≡ None → asked rules state name row vouched ≡ Err UnknownRow
-    row-unknown rows within there none =
-        let (table, is) = item-there rules.schema.tables number within in rw (place, is, there, none) refl
-
     pub table-known : (table : Table) (rows : TableState) → slice_get rules.schema.tables number ≡ Some table → slice_get state number ≡ Some rows → table_of_name rules.schema state name ≡ Some (record { number = number; table = table; state = rows })
     table-known table rows is there = rw (place, is, there) refl
 
@@ -33,6 +25,3 @@ pub row-there : (state : State) (table row : ℕ) (texts : List (List ℕ)) → 
 row-there [] table row texts is = absurd (none-some texts is)
 row-there (rows ∷ state) zero row texts is = (rows, refl, is)
 row-there (rows ∷ state) (suc table) row texts is = row-there state table row texts is
-
-pub texts-at : (state : State) (table row : ℕ) (rows : TableState) (texts : List (List ℕ)) → slice_get state table ≡ Some rows → texts_of rows row ≡ Some texts → row_texts state table row ≡ Some texts
-texts-at state table row rows texts there is = ap (option_and_then (λ (t : TableState). texts_of t row)) there ∙ is

@@ -19,7 +19,7 @@ use Rattle.row_store.specs.Tuple.{ids_of}
 use Rattle.rule_model.specs.declared.edit_rule.EditRule.{EditRule}
 use Rattle.rule_model.specs.Books.{Book, book_edits}
 use Rattle.master_index.specs.Masters.{Masters}
-use Rattle.bench_core.specs.Answers.{AreMastersOf, IsTupleAt, master_texts, row_texts}
+use Rattle.bench_core.specs.Answers.{AreMastersOf, IsRowAt, IsTupleAt, master_texts, row_texts}
 use Rattle.bench_core.specs.Bench.{IsBench}
 use Rattle.bench_core.specs.Edited.{Step, TableAt, ◌>>◌, require}
 use Rattle.bench_core.specs.History.{History, accepted}
@@ -45,8 +45,8 @@ use Rattle.fix_engine.specs.declared.verdict.Verdict.{Verdict}
 use Rattle.fix_engine.specs.declared.verdict.Verdict.TheVariants.{Unique, Conflict}
 use Rattle.session.specs.Fixing.{Asked, IsConflict, IsFixed, are_attrs, asked, asked_of, conflict_text, covered, fixed_text, rewritten}
 use Rattle.session.specs.Replies.{IsFixReply, refused_text}
-use Rattle.session.specs.Telling.{CanBeTold, IsRowAt, IsToldFix, IsToldFixed, IsToldRun, texts_to_write, verdict_text}
-use Rattle.session.specs.declared.fixing.RowAt.{RowAt}
+use Rattle.session.specs.Telling.{CanBeTold, IsToldFix, IsToldFixed, IsToldRun, texts_to_write, verdict_text}
+use Rattle.bench_core.specs.declared.bench.RowAt.{RowAt}
 use Rattle.session.proofs.Names.{known-names, unknown-names}
 use Rattle.session.proofs.RowFound.{row-known, row-there, table-known}
 use Rattle.session.proofs.VouchedKept.{changed-moved, vouched-kept}

@@ -1,14 +1,11 @@
 -- What is told of a verdict, and what the telling gives.
 use Rattle.std.specs.Prelude.{◌≡◌, ℕ, ◌<◌, List, length, All, Option, Some, None, Ok}
-use Rattle.row_store.specs.Tuple.{ids_of}
 use Rattle.schema_core.specs.Rows.{IsRowOf}
 use Rattle.text_lists.specs.declared.limits.Limits.{Limits}
 use Rattle.schema_core.specs.declared.schema.Table.{Table}
 use Rattle.rule_model.specs.Books.{Book, book_edits}
-use Rattle.bench_core.specs.Answers.{row_texts}
 use Rattle.bench_core.specs.Edited.{Step}
 use Rattle.bench_core.specs.History.{History, accepted}
-use Rattle.bench_core.specs.State.{State}
 use Rattle.bench_core.specs.Stored.{HaveTexts}
 use Rattle.rule_runs.specs.Marks.{marked}
 use Rattle.rule_runs.specs.declared.moves.Move.{Move}
@@ -18,13 +15,6 @@ use Rattle.fix_engine.specs.declared.verdict.Verdict.{Verdict}
 use Rattle.fix_engine.specs.declared.verdict.Verdict.TheVariants.{Unique, Conflict}
 use Rattle.session.specs.Fixing.{Asked, IsFixed, conflict_text, covered, fixed_text, rewritten}
 use Rattle.session.specs.Replies.{IsFixReply}
-use Rattle.session.specs.declared.fixing.RowAt.{RowAt}
-
--- the table and the row are there, and the row's tuple stands for its texts
-pub record IsRowAt (rules : Book) (texts : List (List ℕ)) (state : State) (at : RowAt) : Type 0 where
-  pub there : at.table < length rules.schema.tables
-  pub row : row_texts state at.table at.row ≡ Some (texts_of texts (ids_of at.tuple.now))
-  pub named : HaveTexts texts (ids_of at.tuple.now)
 
 -- its rules are of the book, and its tuple is one of the table, with ids that have texts
 pub record IsToldRun (rules : Book) (texts : List (List ℕ)) (table : Table) (run : Run) : Type 0 where

@@ -1,7 +1,8 @@
 //! The answer to a fix.
 
-ghost use Rattle.std.specs.Prelude.{◌≡◌, ◌++◌, ◌+◌, ◌<◌, ◌≤◌, ℕ, List, [], Err, Ok, Some, length, IfErr, IfOk, OnErr, OnOk};
+ghost use Rattle.std.specs.Prelude.{◌≡◌, ◌++◌, ◌+◌, ◌<◌, ◌≤◌, ℕ, List, [], Err, Ok, Some, length, IfOk, OnErr, OnOk};
 ghost use Rattle.schema_core.specs.Schemas.{table_place};
+ghost use Rattle.bench_core.specs.Answers.{IsRowAt};
 ghost use Rattle.bench_core.specs.History.{History, history_edited};
 ghost use Rattle.bench_core.specs.Indexed.{table_probes};
 ghost use Rattle.bench_core.specs.Stored.{HaveTexts};
@@ -10,15 +11,15 @@ ghost use Rattle.fix_engine.specs.Questions.{texts_of};
 ghost use Rattle.rule_runs.specs.Marks.{marked};
 ghost use Rattle.session.specs.Fixing.{asked, conflict_text, covered, fixed_text, name_at, value_at};
 ghost use Rattle.session.specs.Replies.{IsFixReply};
-ghost use Rattle.session.specs.Telling.{CanBeTold, IsRowAt, IsToldFix, IsToldRun, texts_to_write, verdict_text};
+ghost use Rattle.session.specs.Telling.{CanBeTold, IsToldFix, IsToldRun, texts_to_write, verdict_text};
 
 use crate::fix_text::{push_conflict_line, push_fixed, push_run};
 use crate::reply::{push_edit_refused, push_refused};
-use bench_core::{Bench, EditFault};
+use bench_core::{Bench, RowAt};
 use edit_log::Edit;
 use fix_engine::{FixFault, Verdict, fix};
 use probe_steps::Steps;
-use row_store::{RowId, Tuple};
+use row_store::RowId;
 use rule_model::RuleBook;
 use rule_runs::{Marks, Run};
 use schema_core::{List, Table, Text, Texts};
@@ -61,38 +62,12 @@ fn tell_fix(
     requires { reply.old.items ≡ [] }
     ensures { IfOk result (IsToldFix bench.now.rules bench.now.limits bench.now.history (asked bench.now.rules bench.now.history.present table.now row vouched.now) reply.new.items) }
 {
-    match find_row(bench, table, row) {
+    match bench.find_row(table, row) {
         Ok(at) => tell_verdict(alloc, bench, &at, vouched, reply),
         Err(fault) => {
             push_edit_refused(reply, &fault)?;
             Ok(None)
         }
-    }
-}
-
-/// A row that is there.
-#[derive(Clone, Copy)]
-struct RowAt<'a> {
-    table: usize,
-    row: RowId,
-    tuple: &'a Tuple,
-}
-
-/// The row by the name of its table and its id.
-fn find_row<'a>(bench: &'a Bench, table: &Text, row: RowId) -> Result<RowAt<'a>, EditFault>
-    ensures there { IfOk result (λ at. (at.row ≡ row) × (table_place bench.now.rules.schema table.now ≡ Some at.table) × IsRowAt bench.now.rules bench.now.texts bench.now.history.present at) }
-    ensures refused { IfErr result (λ fault. (vouched : List (List ℕ)) → asked bench.now.rules bench.now.history.present table.now row vouched ≡ Err fault) }
-{
-    let Some(number) = bench.rules().schema().table_named(table.as_str()) else {
-        return Err(EditFault::UnknownTable);
-    };
-    match bench.store(number).get(row) {
-        Some(tuple) => Ok(RowAt {
-            table: number,
-            row,
-            tuple,
-        }),
-        None => Err(EditFault::UnknownRow),
     }
 }
 
