@@ -55,23 +55,43 @@ pub fn run_folder<P: Programs>(rt: HostRuntime, programs: &P) -> ExitCode {
 
 fn judge_folder<P: Programs>(rt: HostRuntime, programs: &P) -> io::Result<bool> {
     let names = case_files(rt)?;
-    let mut shelf = FolderShelf::new(rt.alloc(), rt);
     let mut report = Report::new(rt.stdout());
-    for name in &names {
-        let name = name.as_str();
-        let before = report.cases();
-        let bytes = shelf.fetch(name, usize::MAX).map_err(error_of)?;
-        judge_file(rt.alloc(), programs, name, &bytes, &mut report)?;
-        if report.cases() == before {
-            report.no_case(name)?;
-        }
+    judge_files(rt, programs, &names, &mut report)?;
+    let cases = report.cases();
+    eprintln!(rt; "{cases} cases")?;
+    report.end()
+}
+
+fn judge_files<P: Programs, W: Write + Drop>(
+    rt: HostRuntime,
+    programs: &P,
+    names: &[String],
+    report: &mut Report<W>,
+) -> io::Result<()> {
+    let mut shelf = FolderShelf::new(rt.alloc(), rt);
+    for name in names {
+        judge_named(rt.alloc(), programs, name.as_str(), &mut shelf, report)?;
     }
     if names.is_empty() {
         report.no_case("*.cases")?;
     }
-    let cases = report.cases();
-    eprintln!(rt; "{cases} cases")?;
-    report.end()
+    Ok(())
+}
+
+fn judge_named<P: Programs, S: Shelf, W: Write + Drop>(
+    alloc: Global,
+    programs: &P,
+    name: &str,
+    shelf: &mut S,
+    report: &mut Report<W>,
+) -> io::Result<()> {
+    let before = report.cases();
+    let bytes = shelf.fetch(name, usize::MAX).map_err(error_of)?;
+    judge_file(alloc, programs, name, &bytes, report)?;
+    if report.cases() == before {
+        return report.no_case(name);
+    }
+    Ok(())
 }
 
 fn case_files(rt: HostRuntime) -> io::Result<Vec<String>> {
@@ -103,19 +123,39 @@ fn judge_file<P: Programs, W: Write + Drop>(
     report: &mut Report<W>,
 ) -> io::Result<()> {
     let mut reader = CaseReader::new(alloc);
+    judge_lines(alloc, programs, name, bytes, &mut reader, report)
+}
+
+fn judge_lines<P: Programs, W: Write + Drop>(
+    alloc: Global,
+    programs: &P,
+    name: &str,
+    bytes: &[u8],
+    reader: &mut CaseReader,
+    report: &mut Report<W>,
+) -> io::Result<()> {
     let mut number: usize = 0;
     for line in bytes.split(|byte| *byte == b'\n') {
         number = number.saturating_add(1);
-        match reader.take(line)? {
-            Reading::More => {}
-            Reading::Case(case) => judge_case(alloc, programs, name, &case, report)?,
-            Reading::Unreadable => report.unreadable(name, number, line)?,
-        }
+        judge_line(alloc, programs, name, number, line, reader, report)?;
     }
-    match reader.take(b"")? {
+    judge_line(alloc, programs, name, number, b"", reader, report)
+}
+
+// Hands a line to the reader, and judges the case that it ends, where it ends one.
+fn judge_line<P: Programs, W: Write + Drop>(
+    alloc: Global,
+    programs: &P,
+    name: &str,
+    number: usize,
+    line: &[u8],
+    reader: &mut CaseReader,
+    report: &mut Report<W>,
+) -> io::Result<()> {
+    match reader.take(line)? {
         Reading::More => Ok(()),
         Reading::Case(case) => judge_case(alloc, programs, name, &case, report),
-        Reading::Unreadable => report.unreadable(name, number, b""),
+        Reading::Unreadable => report.unreadable(name, number, line),
     }
 }
 

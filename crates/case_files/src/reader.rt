@@ -147,14 +147,16 @@ impl Draft {
             return self.add_line(text);
         }
         if let Some(text) = line.strip_prefix(b"\\") {
-            self.content()?.extend_from_slice(text)?;
-            self.ended = true;
-            return Ok(());
+            return self.add_last(text);
         }
         if let Some(rest) = line.strip_prefix(b"repeat ") {
             return self.add_repeated(rest);
         }
         let (kind, rest) = named(line)?;
+        self.add_part(kind, rest)
+    }
+
+    fn add_part(&mut self, kind: &str, rest: &str) -> Result<(), LineFault> {
         match kind {
             "program" => self.add_program(rest),
             "limit" => self.add_limit(rest),
@@ -259,16 +261,14 @@ impl Draft {
         Ok(())
     }
 
+    fn add_last(&mut self, text: &[u8]) -> Result<(), LineFault> {
+        self.content()?.extend_from_slice(text)?;
+        self.ended = true;
+        Ok(())
+    }
+
     fn add_repeated(&mut self, rest: &[u8]) -> Result<(), LineFault> {
-        let blank = rest
-            .iter()
-            .position(|byte| *byte == b' ')
-            .ok_or(LineFault::Unreadable)?;
-        let count = std::str::from_utf8(&rest[..blank]).map_err(|_| LineFault::Unreadable)?;
-        let count = number_of(count)?;
-        let text = rest[blank..]
-            .strip_prefix(b" |")
-            .ok_or(LineFault::Unreadable)?;
+        let (count, text) = repeated(rest)?;
         let content = self.content()?;
         for number in 1..=count {
             push_filled(content, text, number)?;
@@ -280,15 +280,42 @@ impl Draft {
         let alloc = self.alloc;
         let (lines, times) = rest.split_once(' ').ok_or(LineFault::Unreadable)?;
         let (lines, times) = (number_of(lines)?, number_of(times)?);
-        let content = self.content()?;
-        let start = last_lines(content, lines).ok_or(LineFault::Unreadable)?;
-        let mut above = Vec::new(alloc);
-        above.extend_from_slice(&content[start..])?;
-        for _ in 0..times {
-            content.extend_from_slice(above.as_slice())?;
-        }
-        Ok(())
+        push_again(alloc, self.content()?, lines, times)
     }
+}
+
+// The number and the text of `NUMBER |TEXT`.
+fn repeated(rest: &[u8]) -> Result<(u64, &[u8]), LineFault> {
+    let blank = rest
+        .iter()
+        .position(|byte| *byte == b' ')
+        .ok_or(LineFault::Unreadable)?;
+    let count = std::str::from_utf8(&rest[..blank]).map_err(|_| LineFault::Unreadable)?;
+    let text = rest[blank..]
+        .strip_prefix(b" |")
+        .ok_or(LineFault::Unreadable)?;
+    Ok((number_of(count)?, text))
+}
+
+// Appends the last so many lines, so many times.
+fn push_again(
+    alloc: Global,
+    content: &mut Vec<u8>,
+    lines: u64,
+    times: u64,
+) -> Result<(), LineFault> {
+    let start = last_lines(content, lines).ok_or(LineFault::Unreadable)?;
+    let mut above = Vec::new(alloc);
+    above.extend_from_slice(&content[start..])?;
+    push_times(content, above.as_slice(), times)?;
+    Ok(())
+}
+
+fn push_times(content: &mut Vec<u8>, text: &[u8], times: u64) -> Result<(), AllocError> {
+    for _ in 0..times {
+        content.extend_from_slice(text)?;
+    }
+    Ok(())
 }
 
 // Where the last so many lines begin, each of which ends with a line feed.

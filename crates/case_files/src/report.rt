@@ -42,13 +42,7 @@ impl<W: Write + Drop> Report<W> {
         let name = case.name.as_str();
         let wanted = case.status;
         writeln!(self.out, "{file}: {name}: status {status}, wanted {wanted}")?;
-        if let Some(difference) = first_difference(&case.written, written) {
-            let number = difference.number;
-            writeln!(self.out, "  line {number}")?;
-            tell_line(&mut self.out, "  wanted", difference.wanted)?;
-            tell_line(&mut self.out, "  got   ", difference.got)?;
-        }
-        Ok(())
+        tell_difference(&mut self.out, &case.written, written)
     }
 
     /// A line that can't be read, or an empty one that ends a case which can't.
@@ -97,6 +91,18 @@ impl<W: Write + Drop> Report<W> {
             writeln!(self.out, "failures: {failures}")?;
         }
         Ok(failures == 0)
+    }
+}
+
+fn tell_difference<W: Write>(out: &mut W, wanted: &[u8], got: &[u8]) -> io::Result<()> {
+    match first_difference(wanted, got) {
+        Some(difference) => {
+            let number = difference.number;
+            writeln!(out, "  line {number}")?;
+            tell_line(out, "  wanted", difference.wanted)?;
+            tell_line(out, "  got   ", difference.got)
+        }
+        None => Ok(()),
     }
 }
 
