@@ -25,6 +25,13 @@ pub fn judge_dep(alloc: Global, schema: &Schema, cfd: CfdDecl) -> Result<Dep, Ad
     ensures valid { IfOk result (IsValidDep schema.now) }
 {
     let dep = dep(alloc, schema, &cfd, 0)?;
-    check_over_schema(alloc, schema, &Decl::Cfd(cfd))?;
+    check_cfd(alloc, schema, cfd)?;
     Ok(dep)
+}
+
+/// The tests of a declaration of a dependency over a schema alone.
+fn check_cfd(alloc: Global, schema: &Schema, cfd: CfdDecl) -> Result<(), AddFault>
+    ensures { Finds result (first_of (schema_tests schema.now (Decl.Cfd cfd))) }
+{
+    check_over_schema(alloc, schema, &Decl::Cfd(cfd))
 }

@@ -10,16 +10,16 @@ use Rattle.rule_model.proofs.Firsts.{none_if_passed, refused}
 use Rattle.rule_model.proofs.ValidRules.{passes_over_schema, dep_valid}
 use Rattle.rule_model.proofs.judge.judge_dep.Goals as goal
 
-pub returns-in_err-check_over_schema-clause-exact : goal.returns-in_err-check_over_schema-clause-exact
+pub returns-in_err-check_cfd-clause-exact : goal.returns-in_err-check_cfd-clause-exact
 unfolding judged_dep
-returns-in_err-check_over_schema-clause-exact c =
-    let r = c.from_residual-in_err-check_over_schema in
+returns-in_err-check_cfd-clause-exact c =
+    let r = c.from_residual-in_err-check_cfd in
     let p = err_from_is_err_and r.result r.ensures.1 in
     let schema = c.args.schema.now in
-    rw (p.1, p.2) (refused c.in_err-check_over_schema.field-0.0 (first_of (schema_tests schema (Cfd c.args.cfd))) (dep_at schema c.args.cfd 0) c.in_err-check_over_schema.ensures)
+    rw (p.1, p.2) (refused c.in_err-check_cfd.field-0.0 (first_of (schema_tests schema (Cfd c.args.cfd))) (dep_at schema c.args.cfd 0) c.in_err-check_cfd.ensures)
 
 pub returns-clause-valid : goal.returns-clause-valid
 returns-clause-valid c =
     let schema = c.args.schema.now in
-    let none = none_if_passed (first_of (schema_tests schema (Cfd c.args.cfd))) c.in_ok-check_over_schema.ensures in
+    let none = none_if_passed (first_of (schema_tests schema (Cfd c.args.cfd))) c.in_ok-check_cfd.ensures in
     subst (λ (dep : Dep). IsValidDep schema dep) (sym c.in_ok-dep.ensures) (dep_valid schema c.args.cfd 0 c.requires.right (passes_over_schema schema (Cfd c.args.cfd) none) c.requires.rows)
