@@ -1,14 +1,17 @@
 //! The search: a walk down and up the tree of cases, whose nodes are written in preorder as it comes to them.
-ghost use Rattle.std.specs.Prelude.{◌≡◌, ◌<◌, ◌≤◌, ◌++◌, Bool, Some, true, IfOk, OnOk, length, replicate};
+ghost use Rattle.std.specs.Prelude.{◌≡◌, ◌<◌, ◌≤◌, ◌++◌, [], Bool, Some, true, IfOk, OnOk, length, replicate};
 ghost use Rattle.std.specs.List.{All, range_with_len};
 ghost use Rattle.case_tree.specs.CaseTree.{IsOneTree, Refutes, leaf_count, var_count};
 ghost use Rattle.case_tree.specs.Walk.{next_path};
 ghost use Rattle.case_search.specs.Answer.{HasOneFree, IsDecision};
+ghost use Rattle.case_search.specs.Guards.{IsGuarded};
+ghost use Rattle.case_search.specs.Places.{list_of, vars_of};
 
 use crate::assignments::values;
 use crate::guards::guard_all;
 use crate::hints::{Hints, Order};
 use crate::learner::find_model;
+use crate::places::Places;
 use crate::prune::pruned;
 use crate::step::{Step, next_step};
 use case_tree::{Checked, Clauses, Literal, Node, Path, Trail, Tree, check};
@@ -88,8 +91,7 @@ fn shorter(alloc: Global, clauses: &Clauses, tree: Tree, budget: u64) -> Result<
     }
 }
 
-// Splits first where setting a variable makes a reason hold at once, then on a variable of a demanded cell with no true
-// variable; the true subtree is searched first. The budget bounds the leaves.
+// The search from the root on. The budget bounds the leaves.
 fn walk(alloc: Global, clauses: &Clauses, order: Order, budget: u64) -> Result<Found, AllocError>
     requires one_free { All (HasOneFree clauses.now) clauses.now.clauses }
     requires some { 1 ≤ budget }
@@ -99,13 +101,36 @@ fn walk(alloc: Global, clauses: &Clauses, order: Order, budget: u64) -> Result<F
     let mut guards = guard_all(alloc, clauses)?;
     let mut trail = Trail::new(alloc, clauses.vars())?;
     let mut hints = Hints::new(alloc, clauses, order)?;
+    walk_on(alloc, clauses, &mut guards, &mut hints, &mut trail, budget)
+}
+
+// Splits first where setting a variable makes a reason hold at once, then on a variable of a demanded cell with no true
+// variable; the true subtree is searched first.
+fn walk_on(
+    alloc: Global,
+    clauses: &Clauses,
+    guards: &mut Places,
+    hints: &mut Hints,
+    trail: &mut Trail,
+    budget: u64,
+) -> Result<Found, AllocError>
+    requires one_free { All (HasOneFree clauses.now) clauses.now.clauses }
+    requires some { 1 ≤ budget }
+    requires within { budget ≤ 1000000 }
+    requires vars { trail.old.vars ≡ var_count clauses.now.cells }
+    requires at_root { trail.old.path ≡ [] }
+    requires counted { vars_of guards.old ≡ var_count clauses.now.cells }
+    requires guarded { IsGuarded clauses.now (list_of guards.old) [] }
+    ensures { IfOk result (IsDecision clauses.now budget) }
+{
+    let vars = clauses.vars();
     let mut nodes = Vec::new(alloc);
     // The subtrees that aren't written yet, the present one among them.
     let mut pending = 1usize;
     let mut leaves = 0u64;
     'walk: loop {
-        match next_step(clauses, &mut guards, &mut hints, &mut trail)? {
-            Step::Model => return Ok(Found::Model(values(alloc, &trail, clauses.vars())?)),
+        match next_step(clauses, guards, hints, trail)? {
+            Step::Model => return Ok(Found::Model(values(alloc, trail, vars)?)),
             Step::Split(var) => {
                 nodes.push(Node::Split(var))?;
                 pending += 1;
@@ -124,7 +149,7 @@ fn walk(alloc: Global, clauses: &Clauses, order: Order, budget: u64) -> Result<F
                 if leaves == budget {
                     return Ok(Found::Spent(tree_of(with_open(nodes, pending)?)));
                 }
-                advance(clauses, &mut hints, &mut trail)?;
+                advance(clauses, hints, trail)?;
             }
         }
     }

@@ -6,7 +6,7 @@ use Rattle.case_search.specs.Enough.{choices}
 use Rattle.case_search.specs.Guards.{IsGuarded, parent}
 use Rattle.case_search.specs.Places.{list_of, vars_of}
 use Rattle.case_search.proofs.Grown.{IsAt}
-use Rattle.case_search.proofs.search.walk.Given as goal
+use Rattle.case_search.proofs.search.walk_on.Given as goal
 
 abbrev pub invariant-walk : goal.invariant-walk
 invariant-walk l = record {
