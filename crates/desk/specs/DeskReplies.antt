@@ -4,8 +4,8 @@ use Rattle.shelf_io.specs.Transcript.{Replies}
 use Rattle.line_grammar.specs.Spelling.{line_text, spaced_list}
 use Rattle.rule_model.specs.Books.{Book}
 use Rattle.rule_parser.specs.RuleText.{value_parts}
-use Rattle.violation_report.specs.Text.{table_name}
-use Rattle.session.specs.Replies.{fault_text, lines_text, refused_text}
+use Rattle.violation_report.specs.Text.{lines_text, table_name}
+use Rattle.edit_replies.specs.EditReplies.{fault_text, refused_text}
 use Rattle.desk_events.specs.declared.event.Act.{Act}
 use Rattle.desk_events.specs.declared.event.Act.TheVariants as act
 use Rattle.desk_events.specs.declared.event.Event.{Event}

@@ -3,17 +3,18 @@
 ghost use Rattle.std.specs.Prelude.{◌≡◌, ◌++◌, OnOk, codes, decimal};
 ghost use Rattle.violation_report.specs.Text.{table_name};
 ghost use Rattle.desk_state.specs.Desk.{AreTold};
-ghost use Rattle.session.specs.Replies.{refused_text};
+ghost use Rattle.edit_replies.specs.EditReplies.{refused_text};
 ghost use Rattle.desk.specs.DeskReplies.{asked_row, reply_text, reply_word, version_text};
 
 use desk_events::Act;
 use desk_state::Reply;
+use edit_replies::{push_edit_refused, push_refused};
 use line_grammar::{push_number, push_spaced_list};
 use rule_model::RuleBook;
 use rule_parser::Values;
-use session::reply::{push_edit_refused, push_lines, push_refused};
 use std::alloc::AllocError;
 use text_lists::Text;
+use violation_report::push_lines;
 
 /// The first word of the reply to an act that isn't refused.
 fn reply_word(act: &Act) -> &'static [u8]

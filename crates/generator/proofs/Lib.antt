@@ -1,7 +1,2 @@
 pub mod Counted
-pub mod Fitting
-pub mod Fives
-pub mod Known
-pub mod Lists
-pub mod SameSchema
 pub mod Summaries

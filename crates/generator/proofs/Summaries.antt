@@ -8,18 +8,19 @@ use Rattle.rule_model.specs.Books.{Book}
 use Rattle.bench_core.specs.History.{History}
 use Rattle.bench_core.specs.State.{rows_at}
 use Rattle.violation_report.specs.Listing.{listing}
-use Rattle.generator.specs.declared.edits.Thousand.{Thousand}
+use Rattle.session.specs.Leading.{LeadsTo}
+use Rattle.drawn_project.specs.declared.edits.Thousand.{Thousand}
 use Rattle.generator.specs.declared.summary.Summary.{Summary}
-use Rattle.generator.specs.Edits.{thousands}
-use Rattle.generator.specs.Project.{AreRules, Begins, rows}
-use Rattle.generator.specs.Summary.{AreMade, IsMade, IsSummary, IsThousand, at_text, drawn}
+use Rattle.drawn_project.specs.Edits.{thousands}
+use Rattle.drawn_project.specs.Project.{AreRules, Begins, rows}
+use Rattle.generator.specs.Summary.{IsMade, IsSummary, IsThousand, at_text, drawn}
 
 -- what is listed under the same rules
 listed_same : (book book_after : Book) (last : History) (lines : ℕ) → book_after ≡ book → lines ≡ length (listing book_after last.present) → lines ≡ length (listing book last.present)
 listed_same book book_after last lines same few = subst (λ (b : Book). lines ≡ length (listing b last.present)) same few
 
 -- a thousand edits were made, and the line was told
-pub told_one : {E : Type 0} (book book_after : Book) (limits : Limits) (before after : History) (thousand : Thousand) (count lines : ℕ) (text text_after : List ℕ) (result : Result (Unit {0}) E) → AreMade book limits before thousand.commands after → book_after ≡ book
+pub told_one : {E : Type 0} (book book_after : Book) (limits : Limits) (before after : History) (thousand : Thousand) (count lines : ℕ) (text text_after : List ℕ) (result : Result (Unit {0}) E) → LeadsTo book limits before thousand.commands after → book_after ≡ book
     → count ≡ length (rows_at after.present 0) → lines ≡ length (listing book_after after.present) → OnOk result (text_after ≡ text ++ at_text thousand.made count lines)
     → OnOk result (Answers (IsThousand book limits) before (thousand ∷ []) after (Some text) (Some text_after))
 told_one book book_after limits before after thousand count lines text text_after (Err fault) made same many few told = tt

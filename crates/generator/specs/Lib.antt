@@ -1,4 +1,1 @@
-pub mod Draws
-pub mod Edits
-pub mod Project
 pub mod Summary

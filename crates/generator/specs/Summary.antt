@@ -8,12 +8,11 @@ use Rattle.bench_core.specs.History.{History}
 use Rattle.bench_core.specs.Loading.{Tuples}
 use Rattle.bench_core.specs.State.{rows_at}
 use Rattle.violation_report.specs.Listing.{listing}
-use Rattle.session.specs.Replies.{IsReply}
-use Rattle.session.specs.declared.command.Command.{Command}
-use Rattle.generator.specs.declared.edits.Thousand.{Thousand}
-use Rattle.generator.specs.Draws.{Drawn, ◌>>=◌, given}
-use Rattle.generator.specs.Edits.{thousands}
-use Rattle.generator.specs.Project.{AreRules, Begins, rows}
+use Rattle.session.specs.Leading.{LeadsTo}
+use Rattle.drawn_project.specs.declared.edits.Thousand.{Thousand}
+use Rattle.drawn_project.specs.Draws.{Drawn, ◌>>=◌, given}
+use Rattle.drawn_project.specs.Edits.{thousands}
+use Rattle.drawn_project.specs.Project.{AreRules, Begins, rows}
 
 -- what is drawn off a number: the rows of g, and then all edits
 unfoldable pub drawn : Drawn (Tuples × List Thousand)
@@ -24,18 +23,13 @@ drawn = do
 
 -- ---- a thousand edits
 
--- each of the commands is answered as in a script, and this is the history that the last one leaves
-pub record AreMade (book : Book) (limits : Limits) (before : History) (commands : List Command) (after : History) : Type 0 where
-  pub replies : List ℕ
-  pub answered : IsTranscript (IsReply book limits) before commands replies after
-
 -- `at E rows R lines L`: after so many edits there are so many rows of g, and the list has so many lines
 abbrev pub at_text : ℕ → ℕ → ℕ → List ℕ
 at_text made rows lines = codes "at " ++ decimal made ++ codes " rows " ++ decimal rows ++ codes " lines " ++ decimal lines ++ codes "\n"
 
 -- a thousand edits are made, and then the line tells of the history that they leave
 pub record IsThousand (book : Book) (limits : Limits) (before : History) (thousand : Thousand) (told : List ℕ) (after : History) : Type 0 where
-  pub made : AreMade book limits before thousand.commands after
+  pub made : LeadsTo book limits before thousand.commands after
   pub told-is : told ≡ at_text thousand.made (length (rows_at after.present 0)) (length (listing book after.present))
 
 -- ---- all edits

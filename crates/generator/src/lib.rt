@@ -1,14 +1,6 @@
-//! A project that is drawn off a number, the same for the same number on any machine: two tables with their rules, and
-//! 5,000 edits in five thousands; and the summary of what they lead to.
+//! What the edits of a drawn project lead to.
 #![tactic(auto)]
 
-mod bench;
-mod draws;
-mod edits;
-mod project;
 mod summary;
 
-pub use bench::draw_bench;
-pub use draws::Draws;
-pub use edits::{Thousand, draw_thousands};
 pub use summary::{Summary, generate};

@@ -1,18 +1,15 @@
-//! The generated project with its edits, and what is told of it.
+//! A drawn project with its edits, and what is told of it.
 
 ghost use Rattle.std.specs.Prelude.{◌≡◌, ◌++◌, [], ◌∷◌, Some, IfOk, OnOk, length};
 ghost use Rattle.shelf_io.specs.Transcript.{Answers};
 ghost use Rattle.bench_core.specs.State.{rows_at};
-ghost use Rattle.generator.specs.Summary.{AreMade, IsMade, IsSummary, IsThousand, at_text};
+ghost use Rattle.generator.specs.Summary.{IsMade, IsSummary, IsThousand, at_text};
 
-use crate::bench::draw_bench;
-use crate::draws::Draws;
-use crate::edits::{Thousand, draw_thousands};
 use bench_core::Bench;
+use drawn_project::{Draws, Thousand, draw_bench, draw_thousands};
 use probe_steps::Steps;
-use schema_core::{List, push_number};
-use session::{Command, serve};
-use shelf_io::SteadySink;
+use schema_core::push_number;
+use session::perform;
 use std::alloc::{AllocError, Global};
 use std::sync::ledger::Ledger;
 use violation_report::count;
@@ -85,26 +82,9 @@ fn make_thousand<L: Ledger>(
     ensures told { OnOk result (Answers (IsThousand bench.old.rules bench.old.limits) bench.old.history (thousand.now ∷ []) bench.new.history (Some text.old.items) (Some text.new.items)) }
     ensures made_with { (bench.new.rules ≡ bench.old.rules) × (bench.new.limits ≡ bench.old.limits) }
 {
-    make(alloc, bench, &thousand.commands, steps)?;
+    perform(alloc, bench, &thousand.commands, steps)?;
     let lines = count(&bench.queries(), steps)?;
     push_at(text, thousand.made, row_count(bench), lines)
-}
-
-/// Answers the commands with no one listening.
-fn make<L: Ledger>(
-    alloc: Global,
-    bench: &mut Bench,
-    commands: &List<Command>,
-    steps: &mut Steps<L>,
-) -> Result<(), AllocError>
-    ensures made { OnOk result (AreMade bench.old.rules bench.old.limits bench.old.history commands.now bench.new.history) }
-    ensures made_with { (bench.new.rules ≡ bench.old.rules) × (bench.new.limits ≡ bench.old.limits) }
-{
-    match serve(alloc, bench, commands, &mut SteadySink::new(), steps) {
-        Ok(()) => Ok(()),
-        // That sink takes everything, so nothing but memory can be missing.
-        Err(_) => Err(AllocError),
-    }
 }
 
 /// How many rows the first table has. The generated schema has g there.

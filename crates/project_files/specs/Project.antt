@@ -9,13 +9,10 @@ use Rattle.bench_core.specs.Bench.{BenchModel}
 use Rattle.bench_core.specs.History.{History}
 use Rattle.bench_core.specs.Loading.{Tuples, loaded}
 use Rattle.bench_core.specs.State.{State}
-use Rattle.shelf_io.specs.Transcript.{IsTranscript}
-use Rattle.session.specs.Probes.{Counted, IsCountedReply}
-use Rattle.session.specs.Replies.{IsReply}
-use Rattle.session.specs.Scripts.{script_of}
-use Rattle.session.specs.declared.command.Command.{Command}
-use Rattle.session.specs.declared.command.ScriptCause.{ScriptCause}
-use Rattle.session.specs.declared.command.ScriptCause.TheVariants as script
+use Rattle.script_lines.specs.Scripts.{script_of}
+use Rattle.script_lines.specs.declared.command.Command.{Command}
+use Rattle.script_lines.specs.declared.command.ScriptCause.{ScriptCause}
+use Rattle.script_lines.specs.declared.command.ScriptCause.TheVariants as script
 use Rattle.project_files.specs.declared.project.Project.{Project}
 use Rattle.cli_output.specs.declared.refusal.Cause.{Cause}
 use Rattle.cli_output.specs.declared.refusal.Cause.TheVariants as cause
@@ -95,18 +92,3 @@ fetch_project limits name =
     fetch_bench limits rules >>= λ tables.
     fetch_commands limits tables.rules.schema >>= λ commands.
     given (Ok (record { tables = tables; commands = commands }))
-
--- ---- the script
-
--- the script, whatever its replies, leads from the tables to this history
-abbrev pub LeadsTo : ProjectRead → History → Type 0
-LeadsTo project last =
-    let start = project.tables in
-    (replies : List ℕ) × IsTranscript (IsReply start.rules start.limits) start.history project.commands replies last
-
--- the same with the count of probes of indexes before it and after it: each command takes no more than it may in the history in
--- which it is answered
-abbrev pub LeadsWithin : ProjectRead → ℕ → Counted → Type 0
-LeadsWithin project begun last =
-    let start = project.tables in
-    (replies : List ℕ) × IsTranscript (IsCountedReply start.rules start.limits) (start.history, begun) project.commands replies last

@@ -6,6 +6,6 @@ mod project;
 mod room;
 mod tables;
 
-pub use project::{Project, after_script, fetch_bench, fetch_project};
+pub use project::{Project, fetch_bench, fetch_project};
 pub use room::Room;
 pub use tables::fetch_tables;

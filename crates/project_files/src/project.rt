@@ -3,10 +3,10 @@
 ghost use Rattle.std.specs.Prelude.{◌≡◌, ◌+◌, ◌≤◌, IfOk};
 ghost use Rattle.text_lists.specs.Limits.{AreLimits};
 ghost use Rattle.bench_core.specs.Indexed.{load_probes};
-ghost use Rattle.session.specs.Scripts.{script_of};
+ghost use Rattle.script_lines.specs.Scripts.{script_of};
 ghost use Rattle.cli_output.specs.Fetching.{Fetches, Reads, about};
 ghost use Rattle.cli_output.specs.RuleFiles.{spelled};
-ghost use Rattle.project_files.specs.Project.{LeadsTo, LeadsWithin, fetch_bench, fetch_commands, fetch_project, flaw_of, read_of, script_line, tables_of};
+ghost use Rattle.project_files.specs.Project.{fetch_bench, fetch_commands, fetch_project, flaw_of, read_of, script_line, tables_of};
 
 use crate::tables::{fetch_pooled, load};
 use bench_core::Bench;
@@ -15,9 +15,9 @@ use hash_keys::HashKeys;
 use probe_steps::Steps;
 use rule_model::RuleBook;
 use schema_core::{Limits, List, Schema, Text};
-use session::{Command, ScriptCause, ScriptFault, parse_script, serve};
-use shelf_io::{Shelf, SteadySink};
-use std::alloc::{AllocError, Global};
+use script_lines::{Command, ScriptCause, ScriptFault, parse_script};
+use shelf_io::Shelf;
+use std::alloc::Global;
 use std::sync::ledger::Ledger;
 
 /// A project that was read: its rules and tables, and the commands of its script.
@@ -113,28 +113,5 @@ fn flaw_of(cause: ScriptCause) -> LineFlaw
         ScriptCause::NotUtf8 => LineFlaw::NotUtf8,
         ScriptCause::BadLine => LineFlaw::BadLine,
         ScriptCause::TooMany(limit) => LineFlaw::TooMany(limit),
-    }
-}
-
-/// The bench to which the script of a project leads, with no one listening to its replies.
-pub fn after_script<L: Ledger>(
-    alloc: Global,
-    project: Project,
-    steps: &mut Steps<L>,
-) -> Result<Bench, AllocError>
-    ensures made_with { IfOk result (λ bench. (bench.rules ≡ project.bench.rules) × (bench.limits ≡ project.bench.limits)) }
-    ensures leads { IfOk result (λ bench. LeadsTo (read_of project) bench.history) }
-
-    // The script took no more probes than the sum of what each command may.
-    ensures probes { IfOk result (λ bench. LeadsWithin (read_of project) steps.old (bench.history, steps.new)) }
-{
-    let Project {
-        mut bench,
-        commands,
-    } = project;
-    let mut unheard = SteadySink::new();
-    match serve(alloc, &mut bench, &commands, &mut unheard, steps) {
-        Ok(()) => Ok(bench),
-        Err(_) => Err(AllocError),
     }
 }

@@ -8,10 +8,11 @@ use Rattle.bench_core.specs.State.{State}
 use Rattle.violation_report.specs.Listing.{IsSatisfied, listing}
 use Rattle.bench_core.specs.DirtyCounts.{list_probes}
 use Rattle.violation_report.specs.Report.{report_text}
+use Rattle.session.specs.Leading.{LeadsTo, LeadsWithin}
 use Rattle.session.specs.Probes.{Counted}
 use Rattle.cli_output.specs.Output.{Outputs, Task}
 use Rattle.cli_output.specs.declared.status.Status.TheVariants.{Clean}
-use Rattle.project_files.specs.Project.{LeadsTo, LeadsWithin, ProjectRead, fetch_project}
+use Rattle.project_files.specs.Project.{ProjectRead, fetch_project}
 use Rattle.project_forms.specs.Loaded.{once_loaded}
 use Rattle.project_forms.specs.Transcripts.{found_status}
 
@@ -23,7 +24,7 @@ report_of rules state bytes status = (bytes ≡ report_text rules (listing rules
 abbrev pub report_outputs : ProjectRead → Outputs
 report_outputs project bytes status =
     let start = project.tables in
-    (last : History) × LeadsTo project last × report_of start.rules last.present bytes status × (status ≡ Clean ↔ IsSatisfied start.rules last.present)
+    (last : History) × LeadsTo start.rules start.limits start.history project.commands last × report_of start.rules last.present bytes status × (status ≡ Clean ↔ IsSatisfied start.rules last.present)
 
 -- the schema, the rules, the script and 64 tables are fetched at most
 abbrev pub report_task : Limits → List ℕ → Task
@@ -40,7 +41,7 @@ report_task limits project = record {
 abbrev pub counted_from : ℕ → ℕ → ProjectRead → Outputs
 counted_from begun after project bytes status =
     let start = project.tables in
-    (last : Counted) × LeadsWithin project begun last × (after ≤ last.1 + 2 * list_probes start.rules last.0.present) × report_of start.rules last.0.present bytes status
+    (last : Counted) × LeadsWithin start.rules start.limits (start.history, begun) project.commands last × (after ≤ last.1 + 2 * list_probes start.rules last.0.present) × report_of start.rules last.0.present bytes status
 
 -- the task with its probes, of which there were so many before the tables were loaded
 abbrev pub counted_report_task : ℕ → ℕ → Limits → List ℕ → Task

@@ -10,8 +10,9 @@ use crate::run_form::status_of;
 use bench_core::Bench;
 use cli_output::{Status, end_by, end_with};
 use probe_steps::Steps;
-use project_files::{Project, Room, after_script, fetch_project};
+use project_files::{Project, Room, fetch_project};
 use schema_core::{Limits, Text};
+use session::perform;
 use shelf_io::{Shelf, Sink};
 use std::alloc::{AllocError, Global};
 use std::sync::ledger::Ledger;
@@ -53,8 +54,12 @@ fn report<O: Sink, L: Ledger>(
     ensures ends { Ends (report_outputs (read_of project)) result (O.told out.old) (O.told out.new) }
     ensures probes { IsWhole result → Writes (counted_from steps.old steps.new (read_of project)) result (O.told out.old).written (O.told out.new).written }
 {
-    match after_script(alloc, project, steps) {
-        Ok(bench) => {
+    let Project {
+        mut bench,
+        commands,
+    } = project;
+    match perform(alloc, &mut bench, &commands, steps) {
+        Ok(()) => {
             let status = tell(alloc, &bench, out, steps);
             room.keep(bench);
             status

@@ -6,7 +6,7 @@ use Rattle.shelf_io.specs.Transcript.{Answers}
 use Rattle.bench_core.specs.History.{History}
 use Rattle.session.specs.Probes.{IsCountedReply, IsWithin}
 use Rattle.session.specs.Replies.{IsReply}
-use Rattle.session.specs.declared.command.Command.{Command}
+use Rattle.script_lines.specs.declared.command.Command.{Command}
 
 -- the answer to one command, and what it took
 pub counted-one : (rules : Book) (limits : Limits) (start end : History) (command : Command) (from to : ℕ) (before after : Option (List ℕ))

@@ -7,10 +7,11 @@ use Rattle.edit_log.specs.declared.edit.Edit.{Edit}
 use Rattle.bench_core.specs.History.{History, history_edited}
 use Rattle.bench_core.specs.declared.edit.Applied.{Applied}
 use Rattle.bench_core.specs.declared.edit.EditFault.{EditFault}
-use Rattle.session.specs.Replies.{count_text, done_text, explain_text, export_text, fault_text, list_text, refused_text, IsEditReply, IsRedoReply, IsReply, IsUndoReply}
-use Rattle.session.specs.declared.command.Command.{Command}
-use Rattle.session.specs.declared.command.Command.TheVariants as command
-use Rattle.session.proofs.FixReplies.{fix_reply}
+use Rattle.edit_replies.specs.EditReplies.{done_text, fault_text, refused_text, IsEditReply}
+use Rattle.session.specs.Replies.{count_text, explain_text, export_text, list_text, IsRedoReply, IsReply, IsUndoReply}
+use Rattle.script_lines.specs.declared.command.Command.{Command}
+use Rattle.script_lines.specs.declared.command.Command.TheVariants as command
+use Rattle.edit_replies.proofs.FixReplies.{fix_reply}
 
 edit_reply : (before : History) (edit : Edit) (made : Result (History × Applied) EditFault) → (reply : List ℕ) × (next : History) × IsEditReply before edit made reply next
 edit_reply before edit (Ok done) = (done_text edit done.1, done.0, (refl, refl))

@@ -14,7 +14,8 @@ use Rattle.schema_core.specs.declared.schema.Table.{Table}
 use Rattle.cfd_semantics.specs.Tuple.{tuples_of}
 use Rattle.csv_tables.specs.WrittenFiles.{table_text}
 use Rattle.rule_model.specs.Books.{Book}
-use Rattle.session.specs.Replies.{counted_text, rows_text}
+use Rattle.violation_report.specs.Text.{counted_text}
+use Rattle.session.specs.Replies.{rows_text}
 use Rattle.bench_core.specs.State.{IsTableState, Row, State, TableState, rows_at}
 
 is_wide : (attrs : List Attr) (cell_bytes : ℕ) (row : List (List ℕ)) → IsRowOf attrs cell_bytes row → length row ≡ length attrs

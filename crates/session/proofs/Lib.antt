@@ -1,11 +1,4 @@
-pub mod Accepted
-pub mod FixReplies
 pub mod EachHasReply
 pub mod Exported
 pub mod SameRules
-pub mod Cells
-pub mod RowFound
-pub mod Names
-pub mod Told
-pub mod VouchedKept
 pub mod CountedReplies

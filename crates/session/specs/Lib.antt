@@ -1,5 +1,3 @@
-pub mod Scripts
-pub mod Fixing
 pub mod Replies
-pub mod Telling
 pub mod Probes
+pub mod Leading

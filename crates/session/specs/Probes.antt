@@ -8,8 +8,8 @@ use Rattle.bench_core.specs.DirtyCounts.{list_probes}
 use Rattle.violation_report.specs.Probes.{explain_probes}
 use Rattle.shelf_io.specs.Transcript.{Replies}
 use Rattle.session.specs.Replies.{IsReply}
-use Rattle.session.specs.declared.command.Command.{Command}
-use Rattle.session.specs.declared.command.Command.TheVariants as command
+use Rattle.script_lines.specs.declared.command.Command.{Command}
+use Rattle.script_lines.specs.declared.command.Command.TheVariants as command
 
 -- From the one count to the other there were no more probes than the command may take in this history. What changes a row
 -- takes as many as the rules of its table say, however many rows there are, and so does what is told of one row. The list and

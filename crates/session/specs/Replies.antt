@@ -7,56 +7,20 @@ use Rattle.text_lists.specs.declared.limits.Limits.{Limits}
 use Rattle.cfd_semantics.specs.Tuple.{tuples_of}
 use Rattle.csv_tables.specs.WrittenFiles.{table_text}
 use Rattle.rule_model.specs.Books.{Book}
-use Rattle.edit_log.specs.declared.edit.Edit.{Edit}
-use Rattle.edit_log.specs.declared.edit.Edit.TheVariants.{Insert, Set, Delete, Fix}
-use Rattle.bench_core.specs.Edited.{name_of_table}
 use Rattle.bench_core.specs.History.{History, HasNoPast, HasNothingUndone, IsRedone, IsUndone, history_edited}
 use Rattle.bench_core.specs.State.{State, rows_at}
-use Rattle.bench_core.specs.declared.edit.Applied.{Applied}
-use Rattle.bench_core.specs.declared.edit.Applied.TheVariants.{Inserted, Changed}
-use Rattle.bench_core.specs.declared.edit.EditFault.{EditFault}
-use Rattle.bench_core.specs.declared.edit.EditFault.TheVariants.{UnknownTable, UnknownRow, UnknownAttr, WrongWidth, TextTooLong, NotInDomain, RowsFull, IdsSpent, Memory}
 use Rattle.violation_report.specs.Explained.{explanation}
 use Rattle.violation_report.specs.Listing.{listing}
-use Rattle.violation_report.specs.Text.{line_text}
+use Rattle.violation_report.specs.Text.{counted_text, lines_text}
 use Rattle.violation_report.specs.declared.explaining.ExplainFault.{ExplainFault}
 use Rattle.violation_report.specs.declared.explaining.ExplainFault.TheVariants as explain_fault
 use Rattle.violation_report.specs.declared.line.Line.{Line}
-use Rattle.session.specs.Fixing.{Asked, IsVerdict, asked}
-use Rattle.session.specs.declared.command.Command.{Command}
-use Rattle.session.specs.declared.command.Command.TheVariants as command
-
--- ---- edits
-
--- `set TABLE ID ATTR` or `deleted TABLE ID`; an insertion tells its id instead, and a fix what it changes
-abbrev pub changed_text : Edit → List ℕ
-changed_text (Insert table values) = []
-changed_text (Set table row attr value) = codes "set " ++ table ++ codes " " ++ decimal row ++ codes " " ++ attr ++ codes "\n"
-changed_text (Delete table row) = codes "deleted " ++ table ++ codes " " ++ decimal row ++ codes "\n"
-changed_text (Fix table row values) = []
-
--- `inserted TABLE ID`, or what is said of a change
-abbrev pub done_text : Edit → Applied → List ℕ
-done_text edit (Inserted row) = codes "inserted " ++ name_of_table edit ++ codes " " ++ decimal row ++ codes "\n"
-done_text edit Changed = changed_text edit
+use Rattle.edit_replies.specs.EditReplies.{IsEditReply, IsFixReply, Tells, refused_text}
+use Rattle.edit_replies.specs.Fixing.{asked}
+use Rattle.script_lines.specs.declared.command.Command.{Command}
+use Rattle.script_lines.specs.declared.command.Command.TheVariants as command
 
 -- ---- refusals
-
--- `refused CAUSE`
-abbrev pub refused_text : List ℕ → List ℕ
-refused_text cause = codes "refused " ++ cause ++ codes "\n"
-
--- the name of a cause
-abbrev pub fault_text : EditFault → List ℕ
-fault_text UnknownTable = codes "UnknownTable"
-fault_text UnknownRow = codes "UnknownRow"
-fault_text UnknownAttr = codes "UnknownAttr"
-fault_text WrongWidth = codes "WrongWidth"
-fault_text TextTooLong = codes "TextTooLong"
-fault_text (NotInDomain attr) = codes "NotInDomain " ++ attr
-fault_text RowsFull = codes "RowsFull"
-fault_text IdsSpent = codes "IdsSpent"
-fault_text Memory = codes "Memory"
 
 abbrev pub explain_fault_text : ExplainFault → List ℕ
 explain_fault_text explain_fault.UnknownTable = codes "UnknownTable"
@@ -64,14 +28,6 @@ explain_fault_text explain_fault.UnknownRow = codes "UnknownRow"
 explain_fault_text explain_fault.Memory = codes "Memory"
 
 -- ---- answers
-
--- a word and a number: `listed N`, `count N`, `explained N` or `exported N`
-abbrev pub counted_text : List ℕ → ℕ → List ℕ
-counted_text word count = word ++ codes " " ++ decimal count ++ codes "\n"
-
--- the lines, then how many they are
-abbrev pub lines_text : Book → List ℕ → List Line → List ℕ
-lines_text rules word lines = flat_map (line_text rules) lines ++ counted_text word (length lines)
 
 abbrev pub list_text : Book → State → List ℕ
 list_text rules state = lines_text rules (codes "listed") (listing rules state)
@@ -102,15 +58,6 @@ export_text rules state table = exported_text rules state (table_place rules.sch
 
 -- ---- replies
 
--- this is written, and nothing changes
-abbrev pub Tells : List ℕ → History → List ℕ → History → Type 0
-Tells text before bytes after = (bytes ≡ text) × (after ≡ before)
-
--- an edit is done and told, or refused for its first cause, and then nothing changes
-abbrev pub IsEditReply : History → Edit → Result (History × Applied) EditFault → List ℕ → History → Type 0
-IsEditReply before edit (Ok done) bytes after = (bytes ≡ done_text edit done.1) × (after ≡ done.0)
-IsEditReply before edit (Err fault) bytes after = Tells (refused_text (fault_text fault)) before bytes after
-
 -- the last change is taken back, or there is none and nothing changes
 abbrev pub IsUndoReply : History → List ℕ → History → Type 0
 IsUndoReply before bytes after =
@@ -120,11 +67,6 @@ IsUndoReply before bytes after =
 abbrev pub IsRedoReply : History → List ℕ → History → Type 0
 IsRedoReply before bytes after =
     ((bytes ≡ codes "redone\n") × IsRedone before after) ⊎ (HasNothingUndone before × Tells (refused_text (codes "NothingToRedo")) before bytes after)
-
--- a row is corrected, or two runs disagree; or that can't be asked, and nothing changes
-abbrev pub IsFixReply : Book → History → Result Asked EditFault → List ℕ → History → Type 0
-IsFixReply rules before (Ok asked) bytes after = IsVerdict rules before asked bytes after
-IsFixReply rules before (Err fault) bytes after = Tells (refused_text (fault_text fault)) before bytes after
 
 -- these bytes are written for the command in the history before it, and this is the history after it
 abbrev pub IsReply : Book → Limits → History → Command → List ℕ → History → Type 0

@@ -4,12 +4,13 @@ ghost use Rattle.std.specs.Prelude.{◌≡◌, ◌++◌, ◌<◌, IfOk, OnOk, le
 ghost use Rattle.cfd_semantics.specs.Tuple.{tuples_of};
 ghost use Rattle.session.specs.Replies.{export_text, rows_text};
 
-use crate::reply::{push_counted, push_refused};
 use bench_core::Bench;
 use csv_tables::write_table;
+use edit_replies::push_refused;
 use row_store::RowId;
 use schema_core::{List, Text, Texts};
 use std::alloc::{AllocError, Global};
+use violation_report::push_counted;
 
 /// Tells the rows of the named table.
 pub fn push_exported(

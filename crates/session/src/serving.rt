@@ -5,22 +5,41 @@ ghost use Rattle.shelf_io.specs.Rising.{Rose};
 ghost use Rattle.shelf_io.specs.Transcript.{Answers, AnswersFront};
 ghost use Rattle.bench_core.specs.History.{first_undone, history_edited, last_past};
 ghost use Rattle.bench_core.specs.Indexed.{AreOfTheChange, edit_probes};
+ghost use Rattle.session.specs.Leading.{LeadsTo, LeadsWithin};
 ghost use Rattle.session.specs.Probes.{IsCountedReply, IsWithin};
-ghost use Rattle.session.specs.Replies.{IsEditReply, IsRedoReply, IsReply, IsUndoReply};
+ghost use Rattle.edit_replies.specs.EditReplies.{IsEditReply};
+ghost use Rattle.session.specs.Replies.{IsRedoReply, IsReply, IsUndoReply};
+ghost use Rattle.session.specs.declared.serving.ServeFault.TheVariants as serve_fault;
 
-use crate::command::{Command, ServeFault};
 use crate::export::push_exported;
-use crate::fixing::answer_fix;
-use crate::reply::{
-    push_count, push_done, push_edit_refused, push_explained, push_list, push_refused,
-};
+use crate::reply::{push_count, push_explained, push_list};
 use bench_core::{Bench, EditFault, RedoFault, UndoFault};
 use edit_log::Edit;
+use edit_replies::{answer_fix, push_done, push_edit_refused, push_refused};
 use probe_steps::Steps;
 use schema_core::List;
-use shelf_io::{PutFailed, Sink, write_out};
+use script_lines::Command;
+use shelf_io::{PutFailed, Sink, SteadySink, write_out};
 use std::alloc::{AllocError, Global};
 use std::sync::ledger::Ledger;
+use thiserror::Error;
+
+/// Why the answers end before the last command.
+#[derive(Debug, Drop, Error, PartialEq, Eq)]
+pub enum ServeFault {
+    #[error("a reply could not be written")]
+    WriteFault,
+    #[error("out of memory")]
+    Memory,
+}
+
+impl From<AllocError> for ServeFault {
+    ghost from_gives = { λ _ e. e ≡ serve_fault.Memory };
+
+    fn from(_e: AllocError) -> ServeFault {
+        ServeFault::Memory
+    }
+}
 
 /// Answers the commands in order. As the code stands, each reply goes to the sink whole, as one piece, before the next
 /// command is begun; no clause says so.
@@ -47,6 +66,24 @@ pub fn serve<O: Sink, L: Ledger>(
         answer_one(alloc, bench, command, &mut reply, out, steps)?;
     }
     Ok(())
+}
+
+/// Answers the commands with no one listening.
+pub fn perform<L: Ledger>(
+    alloc: Global,
+    bench: &mut Bench,
+    commands: &List<Command>,
+    steps: &mut Steps<L>,
+) -> Result<(), AllocError>
+    ensures leads { OnOk result (LeadsTo bench.old.rules bench.old.limits bench.old.history commands.now bench.new.history) }
+    ensures probes { OnOk result (LeadsWithin bench.old.rules bench.old.limits (bench.old.history, steps.old) commands.now (bench.new.history, steps.new)) }
+    ensures made_with { (bench.new.rules ≡ bench.old.rules) × (bench.new.limits ≡ bench.old.limits) }
+{
+    match serve(alloc, bench, commands, &mut SteadySink::new(), steps) {
+        Ok(()) => Ok(()),
+        // That sink takes everything, so nothing but memory can be missing.
+        Err(_) => Err(AllocError),
+    }
 }
 
 /// Answers one command.

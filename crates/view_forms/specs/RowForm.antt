@@ -11,8 +11,8 @@ use Rattle.view_options.specs.declared.options.RowOptions.{RowOptions}
 use Rattle.view_list.specs.Rows.{no_row, no_table, row_body, row_text}
 use Rattle.shelf_io.specs.Transcript.{IsTranscript}
 use Rattle.session.specs.Replies.{IsReply}
-use Rattle.session.specs.declared.command.Command.{Command}
-use Rattle.session.specs.declared.command.Command.TheVariants as command
+use Rattle.script_lines.specs.declared.command.Command.{Command}
+use Rattle.script_lines.specs.declared.command.Command.TheVariants as command
 use Rattle.cli_output.specs.Output.{Only, Outputs, Task}
 use Rattle.cli_output.specs.declared.status.Status.TheVariants.{Refused}
 use Rattle.project_files.specs.Project.{ProjectRead}

@@ -6,8 +6,9 @@ ghost use Rattle.view_project.specs.Looking.{LooksAt, counts_of};
 
 use bench_core::Bench;
 use probe_steps::Steps;
-use project_files::{Project, after_script};
+use project_files::Project;
 use schema_core::List;
+use session::perform;
 use std::alloc::{AllocError, Global};
 use std::sync::ledger::Ledger;
 
@@ -43,11 +44,14 @@ fn bench_of<L: Ledger>(
     ensures made_with { IfOk result (λ bench. (bench.rules ≡ project.bench.rules) × (bench.limits ≡ project.bench.limits)) }
     ensures state { IfOk result (λ bench. LooksAt loaded (read_of project) bench.history) }
 {
-    if loaded {
-        Ok(project.bench)
-    } else {
-        after_script(alloc, project, steps)
+    let Project {
+        mut bench,
+        commands,
+    } = project;
+    if !loaded {
+        perform(alloc, &mut bench, &commands, steps)?;
     }
+    Ok(bench)
 }
 
 /// How many rows each table has.

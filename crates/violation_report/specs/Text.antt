@@ -1,6 +1,6 @@
 -- The text of a line of the list.
 use Rattle.std.specs.Prelude.{ℕ, ◌+◌, ◌<◌, List, [], ◌∷◌, ◌++◌, Option, None, Some, option_map, length, codes, decimal, IsSomeAnd}
-use Rattle.std.specs.List.{slice_get, concat}
+use Rattle.std.specs.List.{slice_get, concat, flat_map}
 use Rattle.std.specs.Option.{option_map_or}
 use Rattle.schema_core.specs.declared.schema.Attr.{Attr}
 use Rattle.schema_core.specs.declared.schema.Table.{Table}
@@ -79,6 +79,16 @@ abbrev pub line_text : Book → Line → List ℕ
 line_text rules (Single dep k row) = told_text (told_of rules (Single dep k row))
 line_text rules (Pair dep k row partner) = told_text (told_of rules (Pair dep k row partner))
 line_text rules (Orphan cind k row) = told_text (told_of rules (Orphan cind k row))
+
+-- ---- texts of many lines
+
+-- a word and a number
+abbrev pub counted_text : List ℕ → ℕ → List ℕ
+counted_text word count = word ++ codes " " ++ decimal count ++ codes "\n"
+
+-- the lines, then how many they are
+abbrev pub lines_text : Book → List ℕ → List Line → List ℕ
+lines_text rules word lines = flat_map (line_text rules) lines ++ counted_text word (length lines)
 
 -- ---- lines in range
 

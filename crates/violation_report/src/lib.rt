@@ -17,5 +17,5 @@ pub use clean::is_clean;
 pub use counting::count;
 pub use explaining::{ExplainFault, explain};
 pub use json::json_report;
-pub use line::{Line, line_text, push_line};
+pub use line::{Line, line_text, push_counted, push_line, push_lines};
 pub use listing::{list, push_list};

@@ -1,11 +1,12 @@
 //! The lines of the list, and their texts.
 
-ghost use Rattle.std.specs.Prelude.{◌≡◌, ◌++◌, [], codes, if◌then◌else◌, is_some, map, IfOk, OnOk, OnErr};
-ghost use Rattle.std.specs.List.{concat};
-ghost use Rattle.violation_report.specs.Text.{IsLineOf, line_text};
+ghost use Rattle.std.specs.Prelude.{◌≡◌, ◌++◌, [], codes, if◌then◌else◌, is_some, map, All, IfOk, OnOk, OnErr};
+ghost use Rattle.std.specs.List.{concat, flat_map};
+ghost use Rattle.violation_report.specs.Text.{IsLineOf, counted_text, line_text, lines_text};
 
 use crate::told::Told;
 use itoa::Buffer;
+use line_grammar::push_number;
 use row_store::RowId;
 use rule_model::RuleBook;
 use std::alloc::{AllocError, Global};
@@ -77,6 +78,40 @@ pub fn push_line(rules: &RuleBook, line: &Line, out: &mut Vec<u8>) -> Result<(),
         ],
         out,
     )
+}
+
+/// A word and a number.
+pub fn push_counted(out: &mut Vec<u8>, word: &[u8], count: usize) -> Result<(), AllocError>
+    ensures { OnOk result (out.new.items ≡ out.old.items ++ counted_text word.now count) }
+{
+    out.extend_from_slice(word)?;
+    out.push(b' ')?;
+    push_number(out, count as u64)?;
+    out.extend_from_slice(b"\n")
+}
+
+fn push_each(rules: &RuleBook, lines: &[Line], out: &mut Vec<u8>) -> Result<(), AllocError>
+    requires { All (IsLineOf rules.now) lines.now }
+    ensures { OnOk result (out.new.items ≡ out.old.items ++ flat_map (line_text rules.now) lines.now) }
+{
+    for line in lines {
+        push_line(rules, line, out)?;
+    }
+    Ok(())
+}
+
+/// The lines, then how many they are.
+pub fn push_lines(
+    rules: &RuleBook,
+    word: &[u8],
+    lines: &[Line],
+    out: &mut Vec<u8>,
+) -> Result<(), AllocError>
+    requires { All (IsLineOf rules.now) lines.now }
+    ensures { OnOk result (out.new.items ≡ out.old.items ++ lines_text rules.now word.now lines.now) }
+{
+    push_each(rules, lines, out)?;
+    push_counted(out, word, lines.len())
 }
 
 // The blank before what not every line has.

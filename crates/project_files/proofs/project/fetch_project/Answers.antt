@@ -3,7 +3,7 @@ use Rattle.std.proofs.lemmas.Result.{err_from_is_err_and}
 use Rattle.text_lists.specs.declared.limits.Limits.{Limits}
 use Rattle.schema_core.specs.declared.schema.Schema.{Schema}
 use Rattle.rule_model.specs.Books.{Book}
-use Rattle.session.specs.declared.command.Command.{Command}
+use Rattle.script_lines.specs.declared.command.Command.{Command}
 use Rattle.project_files.specs.declared.project.Project.{Project}
 use Rattle.cli_output.specs.Fetching.{Fetching, ◌>>=◌, given}
 use Rattle.cli_output.specs.RuleFiles.{fetch_rules, fetch_schema}

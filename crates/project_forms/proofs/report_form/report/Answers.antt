@@ -12,18 +12,18 @@ use Rattle.project_forms.proofs.report_form.report.Goals as goal
 pub returns-in-Ok-clause-ends : goal.returns-in-Ok-clause-ends
 returns-in-Ok-clause-ends g c =
     let start = c.args.project.bench in
-    let last = c.in-Ok.bench in
-    let told = subst (λ (rules : Book). Ends (report_of rules last.history.present) c.tell-status.result (g.O.Sink.told c.args.out.now) (g.O.Sink.told c.tell-status.new.out)) c.in-Ok.ensures.made_with.0 c.tell-status.ensures.ends in
+    let last = c.perform.new.bench in
+    let told = subst (λ (rules : Book). Ends (report_of rules last.history.present) c.tell-status.result (g.O.Sink.told c.args.out.now) (g.O.Sink.told c.tell-status.new.out)) c.perform.ensures.made_with.0 c.tell-status.ensures.ends in
     Ends-wider (report_of start.rules last.history.present) (report_outputs (read_of c.args.project)) (λ bytes status is. (last.history, c.in-Ok.ensures.leads, is, clean_where_satisfied start.rules last.history.present status is.1)) c.tell-status.result (g.O.Sink.told c.args.out.now) (g.O.Sink.told c.tell-status.new.out) told
 
 pub returns-in-Ok-clause-probes : goal.returns-in-Ok-clause-probes
 returns-in-Ok-clause-probes g c = λ whole.
     let start = c.args.project.bench in
-    let last = c.in-Ok.bench in
-    let counted : Counted = (last.history, c.after_script.new.steps) in
+    let last = c.perform.new.bench in
+    let counted : Counted = (last.history, c.perform.new.steps) in
     let before = (g.O.Sink.told c.args.out.now).written in
     let after = (g.O.Sink.told c.tell-status.new.out).written in
-    let told = subst (λ (rules : Book). Writes (report_of rules last.history.present) c.tell-status.result before after) c.in-Ok.ensures.made_with.0 c.tell-status.ensures.ends.writes in
-    let few : c.tell-status.new.steps ≤ c.after_script.new.steps + 2 * list_probes start.rules last.history.present =
-    omega (arith, c.tell-status.ensures.probes, ap (λ (rules : Book). list_probes rules last.history.present) c.in-Ok.ensures.made_with.0) in
+    let told = subst (λ (rules : Book). Writes (report_of rules last.history.present) c.tell-status.result before after) c.perform.ensures.made_with.0 c.tell-status.ensures.ends.writes in
+    let few : c.tell-status.new.steps ≤ c.perform.new.steps + 2 * list_probes start.rules last.history.present =
+    omega (arith, c.tell-status.ensures.probes, ap (λ (rules : Book). list_probes rules last.history.present) c.perform.ensures.made_with.0) in
     Writes-wider (report_of start.rules last.history.present) (counted_from c.args.steps.now c.tell-status.new.steps (read_of c.args.project)) (λ bytes status is. (counted, c.in-Ok.ensures.probes, few, is)) c.tell-status.result before after told

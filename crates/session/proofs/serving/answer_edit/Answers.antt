@@ -4,8 +4,9 @@ use Rattle.shelf_io.proofs.Transcripts.{front-not_begun, front-not_written}
 use Rattle.bench_core.specs.History.{History}
 use Rattle.bench_core.specs.declared.edit.Applied.{Applied}
 use Rattle.bench_core.specs.declared.edit.EditFault.{EditFault}
-use Rattle.session.specs.Replies.{IsEditReply, IsReply, done_text}
-use Rattle.session.specs.declared.command.Command.TheVariants.{Edit}
+use Rattle.edit_replies.specs.EditReplies.{IsEditReply, done_text}
+use Rattle.session.specs.Replies.{IsReply}
+use Rattle.script_lines.specs.declared.command.Command.TheVariants.{Edit}
 use Rattle.session.proofs.serving.answer_edit.Goals as goal
 
 -- the edit was done, whether or not its reply could be made

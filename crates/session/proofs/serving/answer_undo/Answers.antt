@@ -2,7 +2,7 @@ use Rattle.std.proofs.Common.{ℕ, List, [], ◌∷◌, Option, Ok, Err, OnErr, 
 use Rattle.shelf_io.specs.Transcript.{AnswersFront}
 use Rattle.shelf_io.proofs.Transcripts.{front-not_begun, front-not_written}
 use Rattle.session.specs.Replies.{IsReply, IsUndoReply}
-use Rattle.session.specs.declared.command.Command.TheVariants.{Undo}
+use Rattle.script_lines.specs.declared.command.Command.TheVariants.{Undo}
 use Rattle.session.proofs.serving.answer_undo.Goals as goal
 
 -- the change was taken back, whether or not that could be told

@@ -1,0 +1,5 @@
+pub mod Fitting
+pub mod Fives
+pub mod Known
+pub mod Lists
+pub mod SameSchema

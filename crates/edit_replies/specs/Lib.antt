@@ -1,0 +1,3 @@
+pub mod Fixing
+pub mod EditReplies
+pub mod Telling
