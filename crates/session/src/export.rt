@@ -38,7 +38,7 @@ fn push_rows(
 {
     let table = &bench.rules().schema().tables.as_slice()[number];
     let stored = bench.rows(number)?;
-    let rows = tuples_of(alloc, stored.as_slice())?;
+    let rows = tuples_of(alloc, stored)?;
     let count = rows.as_slice().len();
     let file = write_table(alloc, table, &rows)?;
     out.extend_from_slice(&file)?;
@@ -46,12 +46,13 @@ fn push_rows(
 }
 
 /// The texts of rows, without their ids.
-fn tuples_of(alloc: Global, rows: &[(RowId, Texts)]) -> Result<List<Texts>, AllocError>
-    ensures { IfOk result (λ tuples. tuples ≡ tuples_of rows.now) }
+fn tuples_of(alloc: Global, rows: List<(RowId, Texts)>) -> Result<List<Texts>, AllocError>
+    ensures { IfOk result (λ tuples. tuples ≡ tuples_of rows) }
 {
     let mut tuples = List::new(alloc);
-    for row in rows {
-        tuples.push(row.1.copied()?)?;
+    for row in rows.into_vec() {
+        let (_, texts) = row;
+        tuples.push(texts)?;
     }
     Ok(tuples)
 }
