@@ -1,6 +1,6 @@
 //! The table that an edit names, and the change that the edit is there.
 
-ghost use Rattle.std.specs.Prelude.{◌≡◌, Some, IfOk};
+ghost use Rattle.std.specs.Prelude.{Some, IfOk};
 ghost use Rattle.text_lists.specs.Limits.{AreLimits};
 ghost use Rattle.line_grammar.specs.Faults.{GivesUnlessMemory};
 ghost use Rattle.value_pool.specs.Pool.{KeepsIds};

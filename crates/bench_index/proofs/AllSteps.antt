@@ -7,8 +7,7 @@ use Rattle.schema_core.specs.Lookups.{master_at}
 use Rattle.value_pool.specs.Pool.{KeepsIds}
 use Rattle.rule_model.specs.declared.dep.Dep.{Dep}
 use Rattle.rule_model.specs.declared.cind.Cind.{Cind}
-use Rattle.rule_model.specs.declared.edit_rule.EditRule.{EditRule}
-use Rattle.rule_model.specs.Books.{Book, IsBook, book_deps, book_cinds, book_edits}
+use Rattle.rule_model.specs.Books.{Book, IsBook, book_deps, book_cinds}
 use Rattle.row_store.specs.Watches.{HoldsOfRow, HoldsTheSame, IsInStep}
 use Rattle.row_store.specs.declared.watch.Watch.{Ghosts}
 use Rattle.row_store.proofs.Zips.{all_through}

@@ -1,6 +1,5 @@
 -- What a caller knows of indexes in step with its rows, as the calls ask for it. `settled_in_step` is in Settled.
-use Rattle.std.proofs.Common.{◌≡◌, ℕ, ◌<◌, true, List, length, arith}
-use Rattle.std.specs.Prelude.{◌==◌}
+use Rattle.std.proofs.Common.{ℕ, ◌<◌, List, length, arith}
 use Rattle.std.proofs.lemmas.Bool.Decides.{nat_tests}
 use Rattle.std.proofs.lemmas.Slice.Zip.{AllZip-long}
 use Rattle.rule_model.specs.Books.{Book, book_deps}

@@ -1,7 +1,7 @@
 //! A whole table joins. One index after the other takes all of its rows, so that each of them is at work by itself: that is
 //! quicker than all indexes row by row, since what one index looks at lies closer together than what ten do.
 
-ghost use Rattle.std.specs.Prelude.{◌≡◌, ◌+◌, ◌-◌, ◌*◌, ◌≤◌, ℕ, None, IsTrue, All, OnOk, sum_by};
+ghost use Rattle.std.specs.Prelude.{◌≡◌, ◌+◌, ◌-◌, ◌*◌, ◌≤◌, ℕ, None, IsTrue, OnOk, sum_by};
 ghost use Rattle.std.specs.FinMap as finite;
 ghost use Rattle.std.specs.List.{AllZip};
 ghost use Rattle.std.specs.Option.{ForSome};

@@ -1,7 +1,7 @@
 //! A sink that holds small pieces back, so that many short replies are few writes of the system.
 #![tactic(auto)]
 
-ghost use Rattle.std.specs.Prelude.{◌≡◌, ◌≤◌, ◌++◌, [], IsTrue, OnOk, OnErr, drop, if◌then◌else◌};
+ghost use Rattle.std.specs.Prelude.{◌≡◌, ◌≤◌, ◌++◌, [], OnOk, OnErr, drop, if◌then◌else◌};
 ghost use Rattle.shelf_io.specs.Rising.{Rose};
 ghost use Rattle.buffered_sink.specs.Held.{told_with};
 

@@ -4,7 +4,7 @@
 //!
 //! This is the watching of literals of Moskewicz, Madigan, Zhao, Zhang and Malik, "Chaff: Engineering an Efficient SAT
 //! Solver" (DAC 2001), with one literal of a clause in place of two.
-ghost use Rattle.std.specs.Prelude.{◌≡◌, ◌<◌, ℕ, List, [], ◌∷◌, true, false, Some, length, slice_get, IfOk, OnOk, IfSome, IfNone, IsSomeAnd};
+ghost use Rattle.std.specs.Prelude.{◌≡◌, ◌<◌, ℕ, List, [], true, false, Some, length, slice_get, IfOk, OnOk, IfSome, IfNone, IsSomeAnd};
 ghost use Rattle.std.specs.List.{All, Contains};
 ghost use Rattle.case_tree.specs.declared.clauses.Literal.{Literal};
 ghost use Rattle.case_tree.specs.declared.tree.Reason.{Reason};

@@ -1,5 +1,5 @@
 //! A list of clauses for each variable.
-ghost use Rattle.std.specs.Prelude.{◌≡◌, ◌≢◌, ◌<◌, ℕ, ◌++◌, [], ◌∷◌, length, IfOk, OnOk, MatchOption, vec_len};
+ghost use Rattle.std.specs.Prelude.{◌≡◌, ◌≢◌, ◌<◌, ℕ, ◌++◌, [], ◌∷◌, length, IfOk, OnOk, MatchOption};
 ghost use Rattle.case_search.specs.Places.{list_at};
 
 use std::alloc::{AllocError, Global};

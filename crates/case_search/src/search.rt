@@ -1,6 +1,6 @@
 //! The search: a walk down and up the tree of cases, whose nodes are written in preorder as it comes to them.
-ghost use Rattle.std.specs.Prelude.{◌≡◌, ◌<◌, ◌≤◌, ◌++◌, [], Bool, Some, true, IfOk, OnOk, length, replicate};
-ghost use Rattle.std.specs.List.{All, range_with_len};
+ghost use Rattle.std.specs.Prelude.{◌≡◌, ◌<◌, ◌≤◌, ◌++◌, [], Some, true, IfOk, OnOk, replicate};
+ghost use Rattle.std.specs.List.{All};
 ghost use Rattle.case_tree.specs.CaseTree.{IsOneTree, Refutes, leaf_count, var_count};
 ghost use Rattle.case_tree.specs.Walk.{next_path};
 ghost use Rattle.case_search.specs.Answer.{HasOneFree, IsDecision};

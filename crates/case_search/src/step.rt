@@ -1,6 +1,6 @@
 //! What the search does at a node: a leaf costs a look at the clauses that the last split's literal guarded, and any other
 //! node that and a look at what it forces. Only where no hint is left all variables are looked at.
-ghost use Rattle.std.specs.Prelude.{◌≡◌, ◌+◌, ◌^◌, ◌<◌, ◌≢◌, ◌⊎◌, ℕ, Some, None, true, false, length, IfSome, IfNone, IfOk, OnOk, MatchOption, IsTrue, IsSomeAnd, slice_get, [], ◌∷◌};
+ghost use Rattle.std.specs.Prelude.{◌≡◌, ◌+◌, ◌^◌, ◌<◌, ◌≢◌, ◌⊎◌, ℕ, Some, None, true, false, IfSome, IfNone, IfOk, OnOk, MatchOption, IsTrue, IsSomeAnd, slice_get, [], ◌∷◌};
 ghost use Rattle.std.specs.Bool.{MatchBool};
 ghost use Rattle.std.specs.List.{All};
 ghost use Rattle.case_tree.specs.declared.clauses.Literal.{Literal};

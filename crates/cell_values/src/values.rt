@@ -1,6 +1,6 @@
 //! The values of each attribute that the dependencies tell apart.
 
-ghost use Rattle.std.specs.Prelude.{◌≡◌, ◌==◌, ◌||◌, ◌+◌, ◌^◌, ◌<◌, ◌++◌, false, if◌then◌else◌, [], ◌∷◌, length, All, IfOk, OnOk, find, option_copied};
+ghost use Rattle.std.specs.Prelude.{◌≡◌, ◌==◌, ◌||◌, ◌+◌, ◌^◌, ◌<◌, ◌++◌, false, if◌then◌else◌, [], ◌∷◌, All, IfOk, OnOk, find, option_copied};
 ghost use Rattle.std.specs.List.{flat_map, list_any};
 ghost use Rattle.text_lists.specs.Repeats.{AreDistinct};
 ghost use Rattle.cfd_semantics.specs.Pattern.{is_set};

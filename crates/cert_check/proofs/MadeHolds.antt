@@ -11,10 +11,7 @@ use Rattle.cert_text.specs.Written.{IsBudget}
 use Rattle.std.proofs.lemmas.List.{length-map}
 use Rattle.std.proofs.lemmas.List.Elements.{All-from_recursion, recursion_from_All}
 use Rattle.schema_core.specs.Lookups.{attrs_at, domain_at}
-use Rattle.text_lists.specs.Names.{IsName, IsConstant}
-use Rattle.schema_core.specs.declared.schema.Domain.{Domain}
-use Rattle.cfd_semantics.specs.declared.pattern.Pattern.{Pattern}
-use Rattle.cfd_semantics.specs.declared.pattern.Pattern.TheVariants as patterns
+use Rattle.text_lists.specs.Names.{IsName}
 use Rattle.rule_model.specs.Declarations.{IsWrittenCell, IsWrittenRow}
 use Rattle.rule_model.specs.declared.decl.CfdRow.{CfdRow}
 use Rattle.rule_parser.specs.RuleText.{attr_name}
@@ -27,7 +24,7 @@ use Rattle.case_tree.specs.CaseTree.{leaf_count}
 use Rattle.cfd_semantics.specs.declared.dependency.TableauRow.{TableauRow}
 use Rattle.rule_model.specs.Books.{Book, IsBook, book_deps}
 use Rattle.rule_model.specs.Judged.{judged_dep}
-use Rattle.rule_model.specs.Rules.{IsCellOf, IsConstantOf, IsValidDep, IsValidRow}
+use Rattle.rule_model.specs.Rules.{IsValidDep, IsValidRow}
 use Rattle.rule_model.specs.declared.dep.Dep.{Dep}
 use Rattle.rule_parser.proofs.Judging.{judged_again}
 use Rattle.rule_parser.proofs.DepsAgain.{cell_written, cells_written, named}

@@ -1,6 +1,6 @@
 //! The variables and cells of a question by their names.
 
-ghost use Rattle.std.specs.Prelude.{◌≡◌, ◌+◌, ◌*◌, ◌^◌, ◌<◌, ◌≤◌, ◌++◌, [], All, length, slice_get, IfOk, IfSome, OnOk};
+ghost use Rattle.std.specs.Prelude.{◌≡◌, ◌+◌, ◌*◌, ◌^◌, ◌<◌, ◌≤◌, ◌++◌, [], All, length, slice_get, IfSome, OnOk};
 ghost use Rattle.std.specs.List.{position_or_len};
 ghost use Rattle.std.specs.Option.{option_map_or};
 ghost use Rattle.rule_parser.specs.RuleText.{attr_name};
@@ -21,7 +21,7 @@ use cfd_consistency::TableQuestion;
 use cfd_implication::DepQuestion;
 use rule_parser::attr_name;
 use schema_core::Attr;
-use std::alloc::{AllocError, Global};
+use std::alloc::AllocError;
 use std::marker::Model;
 
 /// The values of the attributes that occur in a question of a kind. Clauses see the names of its variables and cells.

@@ -1,5 +1,5 @@
 -- Which certificates can be written.
-use Rattle.std.specs.Prelude.{◌≡◌, ℕ, ◌≤◌, List, [], ◌++◌, length, map, flat_map, IfSome, All}
+use Rattle.std.specs.Prelude.{◌≡◌, ℕ, ◌≤◌, List, ◌++◌, length, map, flat_map, IfSome, All}
 use Rattle.std.specs.Str.{IsUtf8}
 use Rattle.case_tree.specs.CaseTree.{CaseTree, IsOneTree, preorder}
 use Rattle.case_tree.specs.declared.tree.Node.{Node}

@@ -1,5 +1,5 @@
 //! The rows of both sides with one key, each side by itself.
-ghost use Rattle.std.specs.Prelude.{◌≡◌, true, ◌==◌, ◌&&◌, ℕ, List, not, IsTrue, IfOk, OnOk, OnErr};
+ghost use Rattle.std.specs.Prelude.{◌≡◌, true, ◌&&◌, not, IsTrue, IfOk, OnOk, OnErr};
 ghost use Rattle.cind_index.specs.RowsHeld.{has, side_of, across, is_few, IsLeftOf, HasRowMore, HasRowLess, HaveTheSame, HasNothing, ChangesSide};
 
 use crate::side::Side;

@@ -1,5 +1,5 @@
 //! The ids of a tuple at attributes, held against a list of ids.
-ghost use Rattle.std.specs.Prelude.{◌≡◌, ◌≤◌, length};
+ghost use Rattle.std.specs.Prelude.{◌≡◌};
 ghost use Rattle.std.specs.Str.{bytes_eq};
 ghost use Rattle.row_store.specs.Tuple.{ids_at, ids_of};
 ghost use Rattle.row_store.specs.Watch.{IsWide};

@@ -1,7 +1,6 @@
 //! The rows under all keys. Keys with an orphan for some row of the tableau are marked; each change of a key's rows looks at the
 //! tableau again, and keeps the totals in step.
-ghost use Rattle.std.specs.Prelude.{◌≡◌, ◌+◌, ◌<◌, ◌≤◌, ◌≢◌, ◌==◌, ◌&&◌, ◌||◌, ℕ, List, Some, false, not, length, slice_get, IsTrue, IfOk, IfSome, IfNone, OnOk, OnErr};
-ghost use Rattle.std.specs.Map.{keys_of};
+ghost use Rattle.std.specs.Prelude.{◌≡◌, ◌+◌, ◌<◌, ◌≤◌, ◌==◌, ℕ, List, Some, false, not, length, slice_get, IfOk, IfSome, IfNone, OnOk, OnErr};
 ghost use Rattle.cfd_semantics.specs.declared.inclusion.InclusionRow.{InclusionRow};
 ghost use Rattle.cind_index.specs.Entries.{is_entry};
 ghost use Rattle.cind_index.specs.Totals.{AreTotals};
@@ -14,7 +13,7 @@ use cfd_semantics::InclusionRow;
 use marked_map::MarkedMap;
 use probe_steps::Steps;
 use row_store::{Key, RowId};
-use std::alloc::{AllocError, Global};
+use std::alloc::AllocError;
 use std::sync::ledger::Ledger;
 use value_pool::ValueId;
 

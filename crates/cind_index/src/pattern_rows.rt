@@ -1,6 +1,6 @@
 //! The rows of one side with one key, by their pattern values. Where all have the same ones, the rows stand in place, without
 //! a map.
-ghost use Rattle.std.specs.Prelude.{◌≡◌, ◌⊎◌, true, false, option_copied, ◌==◌, ◌&&◌, ◌||◌, [], ℕ, List, not, ◌↔◌, IsTrue, IfSome, IfOk, OnOk, OnErr, Contains};
+ghost use Rattle.std.specs.Prelude.{◌≡◌, ◌⊎◌, true, false, option_copied, ◌==◌, ◌&&◌, ℕ, List, not, ◌↔◌, IsTrue, IfSome, IfOk, OnOk, OnErr, Contains};
 ghost use Rattle.std.specs.Option.{option_map_or};
 ghost use Rattle.std.specs.Str.{bytes_eq};
 ghost use Rattle.cind_index.specs.RowsHeld.{is_in, is_filled, rows_for, in_map, has_by, has_some_by, IsMore, IsLess, IsSame, IsOnly, HoldsSoMany};

@@ -1,6 +1,6 @@
 //! The rows of one side with one key. A lone row with at most one pattern value stands in place, without memory; others
 //! stand by their pattern values, in a box of their own.
-ghost use Rattle.std.specs.Prelude.{◌≡◌, true, ◌⊎◌, ◌==◌, ◌&&◌, [], ◌∷◌, ℕ, List, not, ◌↔◌, IsTrue, IfOk, IfSome, OnOk, OnErr, Contains};
+ghost use Rattle.std.specs.Prelude.{◌≡◌, true, ◌⊎◌, ◌==◌, ◌&&◌, [], ◌∷◌, ℕ, not, ◌↔◌, IsTrue, IfOk, IfSome, OnOk, OnErr, Contains};
 ghost use Rattle.std.specs.Str.{bytes_eq};
 ghost use Rattle.cind_index.specs.RowsHeld.{has, has_by, has_some, HasRowMore, HasRowLess, HaveTheSame, HasNothing, IsLeftOf, is_few, IsOnly, IsMore, IsSame, HoldsSoMany};
 

@@ -1,6 +1,6 @@
 //! The schema and the rules of a project, in the order in which they are fetched and read. `left` is everywhere how many
 //! bytes the files that are still to come may have together.
-ghost use Rattle.std.specs.Prelude.{◌≡◌, IfOk};
+ghost use Rattle.std.specs.Prelude.{IfOk};
 ghost use Rattle.text_lists.specs.Limits.{AreLimits};
 ghost use Rattle.schema_core.specs.Schemas.{IsValidSchema};
 ghost use Rattle.schema_core.specs.SchemaFiles as schema_file;

@@ -1,6 +1,6 @@
 -- Valid dependencies of a table that have names of their own are, where the limits allow that many, those of a rule book.
 use Rattle.std.proofs.Common.{◌≡◌, ℕ, ◌<◌, ◌≤◌, Bool, false, not, List, [], ◌∷◌, ◌++◌, length, get_or, take, map, None, All, sum_by, refl, ap, sym, ◌∙◌, subst, arith}
-use Rattle.std.specs.List.{AllByRecursion, AllZip, flat_map}
+use Rattle.std.specs.List.{flat_map}
 use Rattle.std.specs.Str.{bytes_eq}
 use Rattle.std.proofs.lemmas.Bool.{false_from_ne_true, le-leb}
 use Rattle.std.proofs.lemmas.List.{get_or-map, get_or-take, length-map, length-take, take-map}
@@ -9,24 +9,21 @@ use Rattle.std.proofs.lemmas.List.Folds.{list_any_none}
 use Rattle.std.proofs.lemmas.List.Sums.{sum_by-cons, sum_by_more_le}
 use Rattle.std.proofs.lemmas.Slice.Eq.{bytes_eq-Decides}
 use Rattle.text_lists.specs.Limits.{AreLimits}
-use Rattle.text_lists.specs.Names.{IsConstant, IsName}
+use Rattle.text_lists.specs.Names.{IsName}
 use Rattle.text_lists.specs.Repeats.{AreDistinct}
 use Rattle.text_lists.specs.declared.limits.Limits.{Limits}
 use Rattle.text_lists.specs.declared.limits.Limit.TheVariants.{Cinds, Deps, Edits, TableauRows}
 use Rattle.schema_core.specs.Lookups.{attrs_at, domain_at}
 use Rattle.schema_core.specs.Schemas.{IsValidSchema}
 use Rattle.schema_core.specs.declared.schema.Attr.{Attr}
-use Rattle.schema_core.specs.declared.schema.Domain.{Domain}
 use Rattle.schema_core.specs.declared.schema.Schema.{Schema}
 use Rattle.schema_core.specs.declared.schema.Table.{Table}
 use Rattle.cfd_semantics.specs.declared.dependency.TableauRow.{TableauRow}
-use Rattle.cfd_semantics.specs.declared.pattern.Pattern.{Pattern}
-use Rattle.cfd_semantics.specs.declared.pattern.Pattern.TheVariants.{Any, In, Is, NotIn}
 use Rattle.rule_model.specs.Books.{AreFaultless, IsBook, book_cinds, book_deps, book_edits}
 use Rattle.rule_model.specs.Counts.{AreWithin, counts_of}
-use Rattle.rule_model.specs.Declarations.{IsWritten, IsWrittenCell, IsWrittenRow, IsWrittenSet, cind_count, dep_count, edit_count, name_of, row_count}
+use Rattle.rule_model.specs.Declarations.{IsWritten, IsWrittenCell, IsWrittenRow, cind_count, dep_count, edit_count, name_of, row_count}
 use Rattle.rule_model.specs.Faults.{duplicate_rule, fault_of, over_limit, tests, too_many, unless}
-use Rattle.rule_model.specs.Rules.{IsCellOf, IsConstantOf, IsSetOf, IsValidCind, IsValidDep, IsValidEditRule, IsValidRow, cinds_of, edits_of}
+use Rattle.rule_model.specs.Rules.{IsValidCind, IsValidDep, IsValidEditRule, IsValidRow, cinds_of, edits_of}
 use Rattle.rule_model.specs.declared.counts.Counts.{Counts}
 use Rattle.rule_model.specs.declared.decl.Decl.{Decl}
 use Rattle.rule_model.specs.declared.dep.Dep.{Dep}

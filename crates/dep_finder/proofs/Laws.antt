@@ -1,7 +1,7 @@
 -- What is found is satisfied and has no part that is, and from each satisfied candidate one that is found is left.
-use Rattle.std.proofs.Common.{◌≡◌, ℕ, zero, suc, ◌<◌, ◌≤◌, Bool, true, false, not, ◌&&◌, List, [], ◌∷◌, map, filter, length, All, get_or, refl, sym, ap, subst, ◌∙◌, arith}
-use Rattle.std.specs.Prelude.{AllPairs, nat_eq, nat_le, slice_index_or}
-use Rattle.std.specs.List.{Contains, count_by, list_all, list_any}
+use Rattle.std.proofs.Common.{◌≡◌, ℕ, ◌<◌, ◌≤◌, Bool, true, false, not, ◌&&◌, List, [], ◌∷◌, map, filter, length, All, get_or, refl, sym, ap, subst, ◌∙◌, arith}
+use Rattle.std.specs.Prelude.{AllPairs, nat_eq, slice_index_or}
+use Rattle.std.specs.List.{Contains, count_by, list_any}
 use Rattle.std.specs.Cmp.Lexicographic.{pointwise, pointwise_decides}
 use Rattle.std.specs.Str.{bytes_eq}
 use Rattle.std.proofs.lemmas.Bool.{and_from, and_parts, both_ways, eq-eqb, eqb-true, false_from_ne_true, le-leb, leb-true, not-true, not_from_false}
@@ -13,14 +13,12 @@ use Rattle.std.proofs.lemmas.Slice.Eq.{bytes_eq-Decides}
 use Rattle.cfd_semantics.specs.declared.pattern.Pattern.{Pattern}
 use Rattle.cfd_semantics.specs.declared.pattern.Pattern.TheVariants.{Any, Is}
 use Rattle.cfd_semantics.specs.declared.dependency.Dependency.{Dependency}
-use Rattle.cfd_semantics.specs.declared.dependency.TableauRow.{TableauRow}
 use Rattle.cfd_semantics.proofs.SetFacts.{contains_from_filter}
 use Rattle.dep_search.specs.Counting.{tally}
 use Rattle.dep_search.specs.Found.{all_found, determines, has_support, is_constant, is_first, is_plain, is_short, left_sides, proper_parts, settles, side_at}
 use Rattle.dep_search.specs.Rows.{Row, agree, row_at, texts}
-use Rattle.dep_search.specs.declared.candidate.Candidate.{Candidate}
 use Rattle.dep_finder.specs.Minimal.{AreConstants, AreSides, Hold, IsMinimal, constant, kept_cells, part, plain}
-use Rattle.dep_finder.proofs.Meaning.{AreWide, AreWithin, IsSettled, agree_decides, constant_held, constant_holds, determines_from, determines_true, plain_held, plain_holds, settles_from, settles_true, text_at, texts_at}
+use Rattle.dep_finder.proofs.Meaning.{AreWide, AreWithin, agree_decides, constant_held, constant_holds, determines_from, determines_true, plain_held, plain_holds, settles_from, settles_true, text_at, texts_at}
 use Rattle.dep_finder.proofs.KeptParts.{filter_shorter, kept_cells_of, kept_is_part, part_is_kept}
 use Rattle.dep_finder.proofs.LeastParts.{any_found, least_within}
 use Rattle.dep_finder.proofs.FoundLists.{IsSide, constant_found, constant_of, left_side, plain_found, plain_of}

@@ -1,5 +1,5 @@
 -- The rules of what is found are the least ones.
-use Rattle.std.proofs.Common.{◌≡◌, ℕ, ◌<◌, ◌≤◌, suc, List, [], ◌∷◌, map, length, Some, All, refl, sym, ap, subst, ◌∙◌}
+use Rattle.std.proofs.Common.{◌≡◌, ℕ, ◌≤◌, suc, List, [], ◌∷◌, map, All, refl, sym, ap, subst, ◌∙◌}
 use Rattle.std.specs.List.{Contains}
 use Rattle.std.proofs.lemmas.List.Elements.{All-map}
 use Rattle.std.proofs.lemmas.List.Sorted.{All-permutation, Contains-permutation}
@@ -10,7 +10,7 @@ use Rattle.dep_search.specs.Rows.{Row, row_at}
 use Rattle.dep_search.specs.declared.candidate.Candidate.{Candidate}
 use Rattle.rule_model.specs.declared.dep.Dep.{Dep}
 use Rattle.dep_finder.specs.Deps.{deps_from, rule_of}
-use Rattle.dep_finder.specs.Minimal.{AreLeast, Hold, IsCandidate, IsMinimal, LeavesOne, constant, part, plain}
+use Rattle.dep_finder.specs.Minimal.{AreLeast, Hold, IsCandidate, IsMinimal, LeavesOne, constant, plain}
 use Rattle.dep_finder.specs.Minimal.IsCandidate.{as_constant, as_plain}
 use Rattle.dep_finder.proofs.Meaning.{AreWide, text_at, texts_at}
 use Rattle.dep_finder.proofs.Laws.{constant_cells, constant_left, constant_minimal, constants_of, part_plain, plain_left, plain_minimal, sides_of, tests_of}

@@ -1,11 +1,11 @@
 -- What passes a test has a part that passes it, no part of which does.
 use Rattle.std.proofs.Common.{◌≡◌, ℕ, zero, suc, ◌<◌, ◌≤◌, Bool, true, false, ◌&&◌, List, [], ◌∷◌, filter, length, refl, sym, ap, subst, ◌∙◌, arith, ⊎_elim}
-use Rattle.std.specs.List.{Contains, list_all, list_any}
+use Rattle.std.specs.List.{Contains, list_any}
 use Rattle.std.proofs.lemmas.Bool.{cases_Bool, or_cases, true≢false}
 use Rattle.std.proofs.lemmas.List.Kept.{AllPairs-filter}
 use Rattle.cfd_semantics.proofs.Members.{contains-here, contains-there}
 use Rattle.dep_search.specs.Found.{proper_parts}
-use Rattle.dep_finder.proofs.KeptParts.{IsKept, IsRising, filter_all, filter_filter, filter_less, part_is_kept}
+use Rattle.dep_finder.proofs.KeptParts.{IsKept, IsRising, filter_filter, filter_less, part_is_kept}
 
 -- one that passes
 pub any_found : (p : List ℕ → Bool) (xs : List (List ℕ)) → list_any p xs ≡ true → (x : List ℕ) × Contains xs x × (p x ≡ true)

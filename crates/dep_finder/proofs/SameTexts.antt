@@ -1,7 +1,7 @@
 -- Rows that have the same texts at attributes, at fewer of them, and how many rows there are.
-use Rattle.std.proofs.Common.{◌≡◌, ℕ, zero, suc, ◌+◌, ◌<◌, ◌≤◌, Bool, true, false, not, ◌&&◌, cond, List, [], ◌∷◌, map, filter, take, length, All, get_or, refl, sym, ap, subst, ◌∙◌, arith, ⊎_elim, add-one}
+use Rattle.std.proofs.Common.{◌≡◌, ℕ, zero, suc, ◌+◌, ◌<◌, ◌≤◌, Bool, true, false, not, cond, List, [], ◌∷◌, filter, take, length, All, get_or, refl, sym, ap, subst, ◌∙◌, arith, ⊎_elim}
 use Rattle.std.specs.Prelude.{nat_le, slice_index_or}
-use Rattle.std.specs.List.{Contains, count_by, list_all}
+use Rattle.std.specs.List.{count_by, list_all}
 use Rattle.std.proofs.lemmas.Bool.{and_from, and_parts, cases_Bool, le-leb, leb-true, not-false}
 use Rattle.std.proofs.lemmas.List.{take_all}
 use Rattle.std.proofs.lemmas.List.Elements.{All-cons, All-head, All-nil, All-tail}
@@ -9,7 +9,7 @@ use Rattle.std.proofs.lemmas.List.Sums.{count_by_more_no, count_by_more_yes}
 use Rattle.dep_search.specs.Counting.{every, tally}
 use Rattle.dep_search.specs.Found.{is_first, is_short}
 use Rattle.dep_search.specs.Rows.{Row, agree, row_at, texts}
-use Rattle.dep_search.proofs.Counted.{every_fails, tally_more}
+use Rattle.dep_search.proofs.Counted.{every_fails}
 use Rattle.dep_finder.proofs.Meaning.{agree_decides, text_at, texts_at}
 
 -- ---- fewer attributes

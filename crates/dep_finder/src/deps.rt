@@ -1,11 +1,11 @@
 //! What is found, as rules.
 ghost use Rattle.std.specs.Prelude.{◌≡◌, ◌≤◌, ◌<◌, ◌++◌, List, ℕ, Some, length, map, codes, decimal, All, IfErr, IfOk};
-ghost use Rattle.dep_search.specs.Found.{left_sides, side_at};
+ghost use Rattle.dep_search.specs.Found.{left_sides};
 ghost use Rattle.dep_search.specs.Keys.{IsCandidate};
 ghost use Rattle.dep_search.specs.Rows.{Row, row_at};
 ghost use Rattle.dep_search.specs.declared.candidate.Candidate.{Candidate};
 ghost use Rattle.dep_search.specs.declared.finder.FindFault.TheVariants.{TooMany};
-ghost use Rattle.dep_finder.specs.Deps.{AreFound, AreMore, IsOver, cell_of, cells_of, dep_of, deps_from, found_name, rule_of};
+ghost use Rattle.dep_finder.specs.Deps.{AreFound, AreMore, IsOver, cell_of, cells_of, dep_of, deps_from, rule_of};
 ghost use Rattle.dep_finder.specs.Minimal.{AreLeast};
 ghost use Rattle.dep_finder.specs.Valid.{AreValid, HasOneRow, HasTexts, HaveNames, IsTextCell};
 

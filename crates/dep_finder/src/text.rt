@@ -1,5 +1,5 @@
 //! The text of what is found.
-ghost use Rattle.std.specs.Prelude.{◌≡◌, ◌++◌, ◌∷◌, [], ◌<◌, length, map, All, IfOk, OnOk};
+ghost use Rattle.std.specs.Prelude.{◌≡◌, ◌++◌, ◌<◌, map, All, IfOk, OnOk};
 ghost use Rattle.std.specs.List.{flat_map};
 ghost use Rattle.line_grammar.specs.Spelling.{file_text, line_text};
 ghost use Rattle.rule_model.specs.declared.dep.Dep.{Dep};

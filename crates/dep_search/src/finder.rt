@@ -1,5 +1,5 @@
 //! What is found for a left side.
-ghost use Rattle.std.specs.Prelude.{◌≡◌, ◌≤◌, ◌<◌, ◌++◌, ◌∷◌, [], ℕ, List, length, All, IfErr, IfOk, OnOk, true, nat_le, slice_index_or};
+ghost use Rattle.std.specs.Prelude.{◌≡◌, ◌≤◌, ◌<◌, ◌++◌, [], ℕ, List, length, All, IfErr, IfOk, OnOk, true, nat_le, slice_index_or};
 ghost use Rattle.std.specs.List.{list_all};
 ghost use Rattle.dep_search.specs.Rows.{Row, row_at};
 ghost use Rattle.dep_search.specs.Found.{all_found, constant_at, constants_at, found_at, found_on, has_support, is_constant, is_first, is_plain, is_short, plain_at, proper_parts};

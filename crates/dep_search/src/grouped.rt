@@ -1,6 +1,5 @@
 //! The rows by the classes of some attributes.
-ghost use Rattle.std.specs.Prelude.{◌≡◌, ◌<◌, ◌++◌, ◌∷◌, [], length, take, All, IfOk};
-ghost use Rattle.dep_search.specs.Classes.{AreNexts};
+ghost use Rattle.std.specs.Prelude.{◌≡◌, ◌<◌, ◌++◌, ◌∷◌, [], length, All, IfOk};
 ghost use Rattle.dep_search.specs.Settled.{IsGrouped, IsTable, leads_of};
 
 use crate::classes::{Classes, first_pairs, nexts};

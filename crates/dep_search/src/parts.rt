@@ -1,5 +1,5 @@
 //! The parts of a left side.
-ghost use Rattle.std.specs.Prelude.{◌≡◌, ℕ, ◌<◌, ◌+◌, ◌++◌, [], ◌∷◌, List, length, drop, map, IfOk, OnOk};
+ghost use Rattle.std.specs.Prelude.{◌≡◌, ℕ, ◌<◌, ◌+◌, ◌++◌, ◌∷◌, List, length, drop, map, IfOk, OnOk};
 ghost use Rattle.dep_search.specs.Found.{proper_parts};
 
 use std::alloc::{AllocError, Global};

@@ -1,7 +1,7 @@
 //! What pairs of rows tell of two attributes.
 ghost use Rattle.std.specs.Prelude.{◌≡◌, ◌<◌, [], ◌∷◌, ℕ, List, length, All, IfOk, true, false, slice_index_or};
 ghost use Rattle.dep_search.specs.Found.{determines};
-ghost use Rattle.dep_search.specs.Pairs.{ArePairs, HasAll, IsBelow, IsPair, IsSample};
+ghost use Rattle.dep_search.specs.Pairs.{ArePairs, IsPair, IsSample};
 ghost use Rattle.dep_search.specs.Settled.{IsTable};
 
 use crate::pairs::{Pair, Pairs, is_apart, same_pairs};

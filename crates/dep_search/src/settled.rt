@@ -1,5 +1,5 @@
 //! Which rows settle an attribute, by the classes of rows that agree.
-ghost use Rattle.std.specs.Prelude.{◌≡◌, ◌⊎◌, ℕ, ◌<◌, false, [], ◌∷◌, All, length, take, IfOk, slice_index, slice_index_or, nat_eq};
+ghost use Rattle.std.specs.Prelude.{◌≡◌, ◌⊎◌, ℕ, ◌<◌, false, All, length, IfOk, slice_index, slice_index_or, nat_eq};
 ghost use Rattle.dep_search.specs.Counting.{tally};
 ghost use Rattle.dep_search.specs.Leaders.{AreWithin};
 ghost use Rattle.dep_search.specs.Classes.{AreClasses};

@@ -1,6 +1,6 @@
 //! Files of events. Each line is read by one rule, and its texts are moved from the tokens to the event.
 
-ghost use Rattle.std.specs.Prelude.{⊤, ◌≡◌, ◌≤◌, length, IfOk};
+ghost use Rattle.std.specs.Prelude.{⊤, ◌≤◌, length, IfOk};
 ghost use Rattle.line_grammar.specs.Faults.{IsUnlessMemory, line_tells};
 ghost use Rattle.line_grammar.specs.Phrases.{Reads};
 ghost use Rattle.text_lists.specs.declared.limits.Limits.{Limits as AllLimits};

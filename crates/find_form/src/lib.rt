@@ -4,7 +4,6 @@
 
 ghost use Rattle.std.specs.Prelude.{◌≡◌, ◌≤◌, length, All, IfOk};
 ghost use Rattle.text_lists.specs.Limits.{AreLimits};
-ghost use Rattle.schema_core.specs.Schemas.{table_place};
 ghost use Rattle.line_grammar.specs.Faults.{UnlessMemory};
 ghost use Rattle.cli_output.specs.Fetching.{Fetches, IsReadFault, Reads, about, refusal_in};
 ghost use Rattle.cli_output.specs.Output.{Ends, Output, UsesDevices, Writes};

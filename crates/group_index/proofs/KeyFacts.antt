@@ -1,12 +1,10 @@
 -- Keys, attribute by attribute, and cells, place by place.
-use Rattle.std.proofs.Common.{◌≡◌, ◌≢◌, ℕ, zero, suc, ◌+◌, ◌<◌, ◌≤◌, Bool, true, false, ◌&&◌, List, [], ◌∷◌, length, get_or, drop, refl, sym, ap, ◌∙◌, arith}
+use Rattle.std.proofs.Common.{◌≡◌, ◌≢◌, ℕ, ◌+◌, ◌<◌, ◌≤◌, Bool, true, false, ◌&&◌, List, [], ◌∷◌, length, get_or, drop, refl, sym, ap, ◌∙◌, arith}
 use Rattle.std.specs.Prelude.{nat_eq}
-use Rattle.std.specs.Str.{bytes_eq}
 use Rattle.std.proofs.lemmas.Bool.Decides.{nat_tests}
 use Rattle.std.proofs.lemmas.List.{drop_more, drop_all}
 use Rattle.cfd_semantics.specs.declared.pattern.Pattern.{Pattern}
 use Rattle.cfd_semantics.specs.Pattern.{matches, all_match}
-use Rattle.row_store.specs.Tuple.{ids_at}
 
 -- one more place is one more test
 pub match_more : (cells : List (Pattern ℕ)) (ids : List ℕ) (i : ℕ) (cell : Pattern ℕ) (id : ℕ) → i < length cells → i < length ids → cell ≡ get_or cells i cell → id ≡ get_or ids i 0

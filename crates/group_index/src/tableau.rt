@@ -1,7 +1,6 @@
 //! The rows of a tableau, found by the constants that they ask for.
-ghost use Rattle.std.specs.Prelude.{◌≡◌, ◌&&◌, ◌<◌, Some, slice_get, length, All, Contains, IfOk, OnOk};
+ghost use Rattle.std.specs.Prelude.{◌≡◌, ◌&&◌, ◌<◌, Some, slice_get, All, Contains, IfOk, OnOk};
 ghost use Rattle.std.specs.List.{list_any};
-ghost use Rattle.group_index.specs.Pairs.{Pair};
 ghost use Rattle.group_index.specs.Tableaux.{FindsRow, FindsRows, IsFoundBy, IsKept, allows, is_asked, members_of, offends, offends_at};
 
 use crate::index::{IdCell, IdRow};

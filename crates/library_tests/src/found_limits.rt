@@ -7,7 +7,6 @@ use dep_finder::{FindFault, find_deps};
 use hash_keys::HashKeys;
 use schema_core::{Limits, List, Table, Texts, parse_schema};
 use std::alloc::{AllocError, Global};
-use std::process::Abort;
 use std::test::Fail;
 
 const SCHEMA: &[u8] = b"table t 't'\nattr A\nattr B\n";

@@ -2,9 +2,8 @@
 
 ghost use Rattle.std.specs.Prelude.{◌≡◌, IfOk, drop, option_and_then};
 ghost use Rattle.std.specs.List.{list_all};
-ghost use Rattle.std.specs.Option.{option_copied};
 ghost use Rattle.line_grammar.specs.Leads.{are_tokens, given};
-ghost use Rattle.line_forms.specs.Fits.{fit_at, fit_by, fit_of, fit_with, is_whole};
+ghost use Rattle.line_forms.specs.Fits.{fit_at, fit_of, fit_with, is_whole};
 ghost use Rattle.line_forms.specs.Forms.{first_word, form_named};
 ghost use Rattle.line_forms.specs.Pieces.{may_lack};
 

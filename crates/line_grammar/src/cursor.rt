@@ -5,9 +5,9 @@ ghost use Rattle.std.specs.Prelude.{◌≡◌, ◌==◌, ◌∷◌, [], false, I
 ghost use Rattle.std.specs.Str.{IsUtf8};
 ghost use Rattle.text_lists.specs.Names.{IsName, IsConstant, IsFileName};
 ghost use Rattle.line_grammar.specs.GoodTokens.{IsGoodToken};
-ghost use Rattle.line_grammar.specs.Leads.{token_of, meant, tokens_left};
-ghost use Rattle.line_grammar.specs.Tokens.{is_word, text_from};
-ghost use Rattle.line_grammar.specs.Phrases.{ReadsToken, ReadsText, Passes, name_at, number_at, text_at, is_constant, is_file_name, constant_at, file_name_at, after_word, after_name};
+ghost use Rattle.line_grammar.specs.Leads.{token_of, tokens_left};
+ghost use Rattle.line_grammar.specs.Tokens.{is_word};
+ghost use Rattle.line_grammar.specs.Phrases.{ReadsToken, ReadsText, Passes, name_at, number_at, text_at, constant_at, file_name_at, after_word, after_name};
 ghost use Rattle.line_grammar.specs.Marks.{same_mark, after_mark};
 
 use crate::lead::Lead;

@@ -1,6 +1,6 @@
 //! The token at the front of bytes, one function for one rule: blanks, names, numbers, texts, marks.
 
-ghost use Rattle.std.specs.Prelude.{false, ◌≡◌, ◌<◌, ◌≤◌, ◌&&◌, ◌||◌, ◌==◌, ◌≢◌, [], ◌∷◌, ℕ, List, IfSome, IfNone, IfOk, IsTrue, Option, Some, None, length, take, drop, position, not};
+ghost use Rattle.std.specs.Prelude.{false, ◌≡◌, ◌<◌, ◌≤◌, ◌&&◌, ◌||◌, ◌==◌, ◌≢◌, [], ◌∷◌, IfSome, IfNone, IfOk, Option, Some, None, length, take, drop, position, not};
 ghost use Rattle.std.specs.Option.{option_map};
 ghost use Rattle.std.specs.List.{position_or_len};
 ghost use Rattle.std.specs.Char.{is_ascii_alphabetic, is_ascii_digit};

@@ -1,10 +1,10 @@
 //! The rows of one master table by the ids in some of its columns, kept in step with the rows.
-ghost use Rattle.std.specs.Prelude.{◌≡◌, ◌+◌, ◌≤◌, ◌<◌, ◌==◌, ℕ, List, length, option_map, if◌then◌else◌, All, IfOk, OnOk, OnErr, IsTrue, ◌↔◌, false};
+ghost use Rattle.std.specs.Prelude.{◌≡◌, ◌+◌, ◌≤◌, ◌<◌, ◌==◌, ℕ, List, length, option_map, if◌then◌else◌, IfOk, OnOk, OnErr, IsTrue, ◌↔◌, false};
 ghost use Rattle.std.specs.FinMap as finite;
 ghost use Rattle.std.specs.Map.{lookup};
 ghost use Rattle.std.specs.Option.{ForSome};
 ghost use Rattle.std.specs.Str.{bytes_eq};
-ghost use Rattle.row_store.specs.Tuple.{ids_at, ids_of};
+ghost use Rattle.row_store.specs.Tuple.{ids_of};
 ghost use Rattle.master_index.specs.Between.{IsBetween, IsOver, Reaches, in_tables, with_one};
 ghost use Rattle.master_index.specs.ColumnRows.{AreOrderly, is_under};
 ghost use Rattle.master_index.specs.Tables.{rows_of_tables};

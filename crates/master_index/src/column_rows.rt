@@ -1,10 +1,10 @@
 //! The rows by the value ids in some columns: a hashed map from keys to row ids, in which no key stands
 //! without rows.
-ghost use Rattle.std.specs.Prelude.{◌≡◌, ◌+◌, ◌<◌, ◌≤◌, ◌++◌, [], ◌∷◌, Some, None, ℕ, List, length, slice_get, false, option_map, IfOk, OnOk, OnErr};
+ghost use Rattle.std.specs.Prelude.{◌≡◌, ◌+◌, ◌<◌, ◌≤◌, Some, None, ℕ, List, length, slice_get, false, option_map, OnOk, OnErr};
 ghost use Rattle.std.specs.FinMap as finite;
 ghost use Rattle.std.specs.Map.{lookup};
 ghost use Rattle.std.specs.Str.{bytes_eq};
-ghost use Rattle.indexmap.specs.IndexMap.{get, insert_index, ContainsKey, IsUnique};
+ghost use Rattle.indexmap.specs.IndexMap.{get, IsUnique};
 ghost use Rattle.row_store.specs.Tuple.{ids_of};
 ghost use Rattle.master_index.specs.ColumnRows.{AreOrderly, HasKeyAt, HoldAlike, IsComparedIn, IsPutUnder, IsTakenFrom, NotesAlike, NotesStay};
 ghost use Rattle.master_index.specs.ColumnSets.{has_column};

@@ -1,5 +1,5 @@
 //! The rows of tables by the tables' numbers, which are places in one growing vector.
-ghost use Rattle.std.specs.Prelude.{◌≡◌, ◌<◌, Some, None, length, map, IsSome, OnOk};
+ghost use Rattle.std.specs.Prelude.{◌≡◌, ◌<◌, Some, None, length, IsSome, OnOk};
 ghost use Rattle.std.specs.FinMap as finite;
 ghost use Rattle.row_store.specs.Tuple.{ids_of, ids_behind};
 ghost use Rattle.master_index.specs.Tables.{rows_of_tables, HasRoom};

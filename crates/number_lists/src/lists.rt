@@ -1,6 +1,6 @@
 //! All lines of a file.
 
-ghost use Rattle.std.specs.Prelude.{⊤, ◌≡◌};
+ghost use Rattle.std.specs.Prelude.{⊤};
 ghost use Rattle.number_lists.specs.NumberLists.{number_causes, with_line, lists_of};
 ghost use Rattle.number_lists.specs.declared.rules.NumberList.{NumberList as AnyList};
 ghost use Rattle.line_grammar.specs.Faults.{IsUnlessMemory, line_tells};

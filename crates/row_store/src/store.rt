@@ -1,6 +1,6 @@
 //! Slots by id in one growing vector. A slot is empty where its row was taken, or where its id was
 //! passed over.
-ghost use Rattle.std.specs.Prelude.{◌≡◌, ◌+◌, ◌-◌, ◌<◌, ◌≤◌, ◌^◌, Some, None, IsSome, OnOk, vec_len, vec_capacity};
+ghost use Rattle.std.specs.Prelude.{◌≡◌, ◌+◌, ◌-◌, ◌<◌, ◌≤◌, ◌^◌, Some, None, IsSome, OnOk, vec_capacity};
 ghost use Rattle.std.specs.FinMap as map;
 ghost use Rattle.row_store.specs.Tuple.{ids_of, ids_behind};
 ghost use Rattle.row_store.specs.Slots.{rows_in};

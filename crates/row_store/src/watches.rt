@@ -1,5 +1,5 @@
 //! Many watches at once: all of them take an edit, or none does.
-ghost use Rattle.std.specs.Prelude.{◌≡◌, ◌+◌, ◌*◌, ◌≤◌, All, OnOk, OnErr, sum_by, take, drop, length};
+ghost use Rattle.std.specs.Prelude.{◌+◌, ◌*◌, ◌≤◌, All, OnOk, OnErr, sum_by, take, drop, length};
 ghost use Rattle.std.specs.List.{AllZip};
 ghost use Rattle.std.specs.Option.{ForSome};
 ghost use Rattle.row_store.specs.Tuple.{ids_of, ids_behind};

@@ -1,5 +1,5 @@
 -- What right fates show about the pieces that stay.
-use Rattle.std.proofs.Common.{◌≡◌, ℕ, Bool, true, false, List, [], ◌∷◌, ◌++◌, sym, ap, subst}
+use Rattle.std.proofs.Common.{◌≡◌, ℕ, Bool, true, false, List, [], ◌∷◌, ◌++◌, sym, subst}
 use Rattle.std.specs.Prelude.{All}
 use Rattle.std.proofs.lemmas.List.Elements.{All-nil, All-cons, All-head, All-tail}
 use Rattle.schema_core.specs.Lookups.{attrs_at}
@@ -10,11 +10,11 @@ use Rattle.cfd_implication.specs.Implied.{IsImplied, SatisfyTable}
 use Rattle.rule_cover.specs.declared.fates.Fate.{Fate}
 use Rattle.rule_cover.specs.declared.fates.Fate.TheVariants.{Dropped, Kept, Spent}
 use Rattle.rule_cover.specs.declared.fates.Piece.{Piece}
-use Rattle.rule_cover.specs.Cover.{AreNeeded, AskTheSame, IsCover}
-use Rattle.rule_cover.specs.Fates.{AreFates, AreNumbersOf, AreRight, kept_piece, left, stays}
+use Rattle.rule_cover.specs.Cover.{AreNeeded, IsCover}
+use Rattle.rule_cover.specs.Fates.{AreFates, AreRight, kept_piece, left, stays}
 use Rattle.rule_cover.specs.Pieces.{deps_in, table_pieces}
 use Rattle.rule_cover.specs.Rounds.{again_if}
-use Rattle.rule_cover.proofs.Satisfied.{behind, both, fewer, none, of_one, one, pieces_same}
+use Rattle.rule_cover.proofs.Satisfied.{behind, both, fewer, none, one, pieces_same}
 
 -- those that stay are among all
 kept_if : (table : ℕ) (tuples : List (List (List ℕ))) (piece : Dep) (b : Bool) → SatisfyTable table (piece ∷ []) tuples → SatisfyTable table (again_if b piece) tuples

@@ -1,6 +1,6 @@
 -- What the pieces that stay are, said of tuples alone: they ask for the same as all rules of the table, and of those that are
 -- kept none could be left out.
-use Rattle.std.specs.Prelude.{◌≡◌, ℕ, ◌↔◌, List, [], ◌∷◌, ◌++◌, All}
+use Rattle.std.specs.Prelude.{ℕ, ◌↔◌, List, [], ◌∷◌, ◌++◌, All}
 use Rattle.schema_core.specs.Lookups.{attrs_at}
 use Rattle.schema_core.specs.declared.schema.Schema.{Schema}
 use Rattle.rule_model.specs.declared.dep.Dep.{Dep}

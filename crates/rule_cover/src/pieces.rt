@@ -1,7 +1,6 @@
 //! The pieces of a table.
 
-ghost use Rattle.std.specs.Prelude.{◌≡◌, ◌++◌, ◌+◌, ◌<◌, ◌^◌, All, map, IfOk, OnOk};
-ghost use Rattle.std.specs.List.{enumerate_from};
+ghost use Rattle.std.specs.Prelude.{◌≡◌, ◌++◌, ◌+◌, ◌<◌, ◌^◌, All, IfOk, OnOk};
 ghost use Rattle.rule_cover.specs.Pieces.{dep_pieces, deps_in, numbers_in, single, table_pieces};
 
 use crate::fates::Piece;

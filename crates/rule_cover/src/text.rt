@@ -10,7 +10,7 @@ ghost use Rattle.rule_model.specs.declared.dep.Dep.{Dep as AnyDep};
 ghost use Rattle.rule_parser.specs.RuleText.{attr_name};
 ghost use Rattle.cert_check.specs.Made.{IsRightTree};
 ghost use Rattle.cert_check.specs.Shown.{asks_from};
-ghost use Rattle.rule_cover.specs.CoverText.{AreFateTexts, IsCoverText, AppendsSome, IsFateText, IsTextOf, IsTreeFate, head_parts, last_parts, place_parts};
+ghost use Rattle.rule_cover.specs.CoverText.{IsCoverText, AppendsSome, IsFateText, IsTextOf, IsTreeFate, head_parts, last_parts, place_parts};
 ghost use Rattle.rule_cover.specs.Fates.{AreNumbersOf, AreSomeFates, AreSomeRight, IsSomeAnswer, numbers_of};
 ghost use Rattle.rule_cover.specs.Pieces.{IsPiece};
 

@@ -1,13 +1,13 @@
 //! The tests of the cells of a declaration. Each tells the first fault that it finds.
 
 ghost use Rattle.std.specs.Prelude.{◌≡◌, ◌==◌, ◌&&◌, not, find, length};
-ghost use Rattle.std.specs.Option.{option_copied, option_or};
+ghost use Rattle.std.specs.Option.{option_copied};
 ghost use Rattle.std.specs.List.{list_all, zip};
 ghost use Rattle.schema_core.specs.Schemas.{admits};
 ghost use Rattle.text_lists.specs.Firsts.{first_in};
 ghost use Rattle.rule_model.specs.Declarations.{constants_of, edit_constants_of};
 ghost use Rattle.schema_core.specs.Lookups.{attrs_of, domain_of};
-ghost use Rattle.rule_model.specs.Faults.{Finds, is_as_wide, is_inclusion_row_as_wide, is_even, width_mismatch, outside_in, outside_in_cell, outside_constant, outside_in_pattern, outside_in_row, outside_in_inclusion_row, outside_domain, repeated_in_cell, repeated_in_row, repeated_constant};
+ghost use Rattle.rule_model.specs.Faults.{Finds, is_even, width_mismatch, outside_in, outside_in_cell, outside_constant, outside_in_pattern, outside_in_row, outside_in_inclusion_row, outside_domain, repeated_in_cell, repeated_in_row, repeated_constant};
 
 use crate::cind::CindRow;
 use crate::decl::{Cell, CfdDecl, CfdRow, CindDecl, Decl};

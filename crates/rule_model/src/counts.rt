@@ -2,7 +2,6 @@
 
 ghost use Rattle.std.specs.Prelude.{◌≡◌, []};
 ghost use Rattle.text_lists.specs.Limits.{AreLimits};
-ghost use Rattle.rule_model.specs.Declarations.{dep_count, cind_count, edit_count, row_count};
 ghost use Rattle.rule_model.specs.Counts.{counts_of, counts_with, AreWithin};
 ghost use Rattle.rule_model.specs.Faults.{Finds, over_limit, too_many};
 

@@ -1,6 +1,6 @@
 //! Tables and attributes by their names, for declarations whose names may be unknown.
 
-ghost use Rattle.std.specs.Prelude.{◌≡◌, drop, length, IfOk};
+ghost use Rattle.std.specs.Prelude.{◌≡◌, drop, IfOk};
 ghost use Rattle.std.specs.Option.{option_map_or};
 ghost use Rattle.schema_core.specs.Schemas.{admits};
 ghost use Rattle.schema_core.specs.declared.schema.Domain.TheVariants.{AnyText};

@@ -17,12 +17,11 @@
 use Rattle.std.specs.Prelude.{ℕ, List, [], ◌∷◌, map, Option, Some, None, if◌then◌else◌, option_map, codes}
 use Rattle.std.specs.Str.{bytes_eq}
 use Rattle.line_grammar.specs.Phrases.{◌>>=◌, name_at, constant_at, after_word, few_at, list_until}
-use Rattle.line_grammar.specs.Marks.{after_mark, same_mark}
+use Rattle.line_grammar.specs.Marks.{after_mark}
 use Rattle.line_grammar.specs.TokenLists.{Reader, list1_at, list_at}
 use Rattle.text_lists.specs.declared.bounds.TheConstants.{SET_MEMBERS}
 use Rattle.line_grammar.specs.declared.tokens.Mark.TheVariants.{Colon, OpenBracket, CloseBracket, Semicolon, Equals, Differs, Arrow, Bars, Underscore, OpenBrace, CloseBrace}
 use Rattle.line_grammar.specs.declared.tokens.Token.{Token}
-use Rattle.line_grammar.specs.declared.tokens.Token.TheVariants.{Name, Sign}
 use Rattle.cfd_semantics.specs.declared.pattern.Pattern.{Pattern}
 use Rattle.cfd_semantics.specs.declared.pattern.Pattern.TheVariants.{Any, Is, In, NotIn}
 use Rattle.cfd_semantics.specs.declared.inclusion.InclusionRow.{InclusionRow}

@@ -1,6 +1,6 @@
 //! A dependency by itself, as on the command line.
 
-ghost use Rattle.std.specs.Prelude.{◌≡◌, ◌∷◌, [], All, IfOk, length};
+ghost use Rattle.std.specs.Prelude.{◌≡◌, ◌∷◌, [], IfOk, length};
 ghost use Rattle.line_grammar.specs.Faults.{IsUnlessMemory, line_tells};
 ghost use Rattle.line_grammar.specs.FileLines.{content_of};
 ghost use Rattle.line_grammar.specs.TokenLists.{none_after};

@@ -4,7 +4,7 @@ ghost use Rattle.std.specs.Prelude.{IfOk};
 ghost use Rattle.line_grammar.specs.Phrases.{Reads};
 ghost use Rattle.rule_model.specs.Declarations.{IsWrittenSet, IsWrittenCell, IsWrittenEditCell};
 ghost use Rattle.rule_parser.specs.ReadRules.{IsReadPattern};
-ghost use Rattle.rule_parser.specs.RuleLines.{set_at, set_cell, cell_at, equal_at, differs_at, test_at, pattern_at};
+ghost use Rattle.rule_parser.specs.RuleLines.{set_at, set_cell, cell_at, equal_at, test_at, pattern_at};
 ghost use Rattle.rule_parser.specs.Takes.{cell_at-takes, pattern_at-takes};
 
 use cfd_semantics::{Pattern, ValueSet};

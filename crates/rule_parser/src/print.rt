@@ -1,8 +1,8 @@
 //! The canonical text of rules.
 
-ghost use Rattle.std.specs.Prelude.{◌≡◌, ◌<◌, ◌++◌, ◌∷◌, [], length, map, OnOk, IfOk, Ok};
+ghost use Rattle.std.specs.Prelude.{◌≡◌, ◌<◌, ◌++◌, [], length, map, OnOk, IfOk, Ok};
 ghost use Rattle.std.specs.List.{flat_map, zip};
-ghost use Rattle.line_grammar.specs.Spelling.{line_text, file_text, after_comma, comma_separated, spaced_list};
+ghost use Rattle.line_grammar.specs.Spelling.{line_text, file_text, after_comma, spaced_list};
 ghost use Rattle.rule_parser.specs.RuleText.{attr_parts, value_parts, attrs_parts, members_parts, cell_parts, row_line, pair_parts, pattern_parts, cfd_parts, cfd_line, side_parts, cind_line, when_parts, gives_parts, edit_names, edit_line, cfd_row_line, cind_row_line, decl_lines, canonical, table_name, attr_name, dep_row, dep_line};
 ghost use Rattle.rule_parser.specs.RuleFiles.{reads, reads_dep};
 ghost use Rattle.schema_core.specs.Lookups.{attrs_at};

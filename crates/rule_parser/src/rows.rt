@@ -1,7 +1,5 @@
 //! The rows of tableaux.
 
-ghost use Rattle.std.specs.Prelude.{◌≡◌, is_some};
-ghost use Rattle.line_grammar.specs.Phrases.{constant_at};
 ghost use Rattle.rule_model.specs.Declarations.{IsWrittenRow, IsWrittenInclusionRow};
 ghost use Rattle.rule_parser.specs.RuleLines.{row_at, inclusion_row_at};
 

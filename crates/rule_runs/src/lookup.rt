@@ -1,8 +1,8 @@
 //! The master rows with which a rule corrects a tuple.
-ghost use Rattle.std.specs.Prelude.{◌≡◌, ◌↔◌, ◌<◌, ◌≤◌, ℕ, Some, length, map, slice_get, take, All, Contains, IsSomeAnd, MatchOption};
+ghost use Rattle.std.specs.Prelude.{◌≡◌, ◌↔◌, ◌<◌, ◌≤◌, ℕ, Some, length, map, take, All, Contains, IsSomeAnd, MatchOption};
 ghost use Rattle.std.specs.List.Sorted.{IsStrictlyIncreasing};
 ghost use Rattle.master_index.specs.Masters.{id_at};
-ghost use Rattle.rule_runs.specs.Moves.{Applies, IsReady, value_written, values_in};
+ghost use Rattle.rule_runs.specs.Moves.{Applies, value_written, values_in};
 ghost use Rattle.rule_runs.specs.Starts.{IsReadyRule, IsRuleOf, IsStart, IsTupleOf, basis_of, stage_of};
 
 use crate::marks::Marks;

@@ -1,5 +1,5 @@
 //! Whether an editing rule is ready at a tuple with validated attributes, its master rows left aside.
-ghost use Rattle.std.specs.Prelude.{◌≡◌, ◌↔◌, ◌<◌, ◌≤◌, ℕ, length, true, false, IsTrue, All};
+ghost use Rattle.std.specs.Prelude.{◌≡◌, ◌↔◌, ◌<◌, ℕ, length, true, false, IsTrue, All};
 ghost use Rattle.rule_model.specs.declared.edit_rule.EditCell.{EditCell};
 ghost use Rattle.rule_runs.specs.Marks.{marked};
 ghost use Rattle.rule_runs.specs.Moves.{Fits, MatchesPattern, IsReady};

@@ -2,11 +2,9 @@
 
 ghost use Rattle.std.specs.Prelude.{◌≡◌, IfOk, OnOk, Some};
 ghost use Rattle.line_grammar.specs.Faults.{IsUnlessMemory, GivesUnlessMemory, line_tells};
-ghost use Rattle.text_lists.specs.Limits.{AreLimits};
 ghost use Rattle.text_lists.specs.Names.{IsFileName};
-ghost use Rattle.schema_core.specs.ReadSchemas.{IsReadHead, IsReadAttr, IsTableSoFar, IsSchemaSoFar};
-ghost use Rattle.schema_core.specs.Schemas.{IsValidSchema, IsValidTable};
-ghost use Rattle.schema_core.specs.SchemaFiles.{schema_causes, has_table, has_attr, has_no_value, has_value_twice, has_too_many_values, table_fault, attr_fault, unless, add_attr, add_table, add_file, add_head, add_group};
+ghost use Rattle.schema_core.specs.ReadSchemas.{IsTableSoFar, IsSchemaSoFar};
+ghost use Rattle.schema_core.specs.SchemaFiles.{schema_causes, has_table, has_attr, has_no_value, has_value_twice, has_too_many_values, table_fault, attr_fault, unless, add_attr, add_table, add_file, add_group};
 ghost use Rattle.text_lists.specs.declared.limits.Limits.{Limits as AllLimits};
 ghost use Rattle.schema_core.specs.declared.schema.Schema.{Schema as AnySchema};
 ghost use Rattle.schema_core.specs.declared.schema.Table.{Table as AnyTable};

@@ -1,7 +1,6 @@
 //! The lines of a schema file, one rule of its grammar after another.
 
 ghost use Rattle.std.specs.Prelude.{IfOk};
-ghost use Rattle.text_lists.specs.Names.{IsName, IsFileName};
 ghost use Rattle.line_grammar.specs.Phrases.{Reads};
 ghost use Rattle.schema_core.specs.ReadSchemas.{IsReadAttr, IsReadDomain, IsReadHead};
 ghost use Rattle.schema_core.specs.SchemaLines.{table_at, head_for, head_at, domain_at, attr_at};

@@ -2,16 +2,15 @@
 use Rattle.std.proofs.Common.{◌≡◌, ◌≢◌, ℕ, zero, suc, ◌+◌, ◌<◌, ◌≤◌, Bool, true, false, ◌&&◌, cond, List, [], ◌∷◌, ◌++◌, length, take, drop, Option, Some, None, refl, ap, sym, ◌∙◌, subst, arith, append_assoc, take_all}
 use Rattle.std.specs.Prelude.{All, IfSome, Ok, codes, is_some, map, not, slice_get, slice_index_or}
 use Rattle.std.specs.Option.{option_map, option_to_list}
-use Rattle.std.specs.List.{AllByRecursion, flat_map, list_any}
+use Rattle.std.specs.List.{AllByRecursion, flat_map}
 use Rattle.std.specs.Str.{IsUtf8, bytes_eq}
-use Rattle.std.proofs.lemmas.Bool.{cond_both, false_from_ne_true, false≢true, or_from}
+use Rattle.std.proofs.lemmas.Bool.{cond_both, false≢true}
 use Rattle.std.proofs.lemmas.List.{append-nil}
 use Rattle.std.proofs.lemmas.List.Elements.{recursion_from_All}
 use Rattle.std.proofs.lemmas.Str.{IsUtf8-nil, is_utf8-from_IsUtf8}
 use Rattle.text_lists.specs.Limits.{standard}
 use Rattle.text_lists.specs.Names.{IsFileName, IsName, is_name}
 use Rattle.text_lists.specs.Repeats.{AreDistinct, is_among}
-use Rattle.text_lists.proofs.RepeatLemmas.{bytes_eq-tells}
 use Rattle.line_grammar.specs.FileLines.{content_of, file_lines, lines_from}
 use Rattle.line_grammar.specs.Lines.{lines, without_return}
 use Rattle.line_grammar.specs.Spelling.{IsReadable, file_text, line_text, mark, name, text, tokens_in}

@@ -7,8 +7,7 @@ ghost use Rattle.schema_core.specs.SchemaFiles.{reads};
 ghost use Rattle.schema_core.specs.SchemaText.{value_parts};
 ghost use Rattle.schema_core.specs.Schemas.{IsValidSchema};
 ghost use Rattle.schema_draft.specs.DraftSchemas.{HoldTexts, schema_of};
-ghost use Rattle.schema_core.specs.declared.schema.Domain.TheVariants.{AnyText, Finite};
-ghost use Rattle.schema_draft.specs.Drafts.{attr_parts, attr_text, column_text, columns_text, advice, domain_note, draft_of, has_sheet, head_text, key_note, named, names_column, notes_on, rename_note, sheet_text, only_if};
+ghost use Rattle.schema_draft.specs.Drafts.{attr_text, column_text, advice, domain_note, draft_of, has_sheet, head_text, key_note, named, names_column, notes_on, rename_note, sheet_text, only_if};
 
 use crate::columns::{column_of, few_values, is_key};
 use crate::names::{has_name, is_name};

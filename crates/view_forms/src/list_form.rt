@@ -1,6 +1,6 @@
 //! The form `list PROJECT`.
 
-ghost use Rattle.std.specs.Prelude.{◌≡◌, IfOk};
+ghost use Rattle.std.specs.Prelude.{IfOk};
 ghost use Rattle.cli_output.specs.Output.{IsWhole};
 ghost use Rattle.project_files.specs.Project.{read_of};
 ghost use Rattle.view_options.specs.declared.options.ListOptions.{ListOptions};

@@ -1,7 +1,7 @@
 //! The form `schema FILE..` of `cfdview`: a schema as a draft, with a table for each file.
 #![tactic(auto)]
 
-ghost use Rattle.std.specs.Prelude.{◌≡◌, length};
+ghost use Rattle.std.specs.Prelude.{length};
 ghost use Rattle.text_lists.specs.Limits.{AreLimits};
 ghost use Rattle.schema_draft.specs.Drafts.{draft_of, tables_from};
 ghost use Rattle.schema_draft.specs.Sheets.{sheet_of};

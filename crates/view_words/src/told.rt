@@ -1,8 +1,8 @@
 //! What is told of help, and of words that ask for nothing that there is.
 use crate::command::view_command;
 use crate::form::{is_form, is_version};
+use clap::Error;
 use clap::error::ErrorKind;
-use clap::{Command, Error};
 use std::alloc::{AllocError, Global};
 use text_lists::Text;
 

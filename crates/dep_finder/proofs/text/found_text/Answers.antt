@@ -1,6 +1,5 @@
-use Rattle.std.proofs.Common.{◌<◌, ◌≤◌, ◌^◌, List, All, length, sym, ap, subst, ◌∙◌, arith}
+use Rattle.std.proofs.Common.{◌<◌, ◌^◌, length, sym, ap, subst, ◌∙◌, arith}
 use Rattle.std.proofs.lemmas.Result.{IfOk-weaker}
-use Rattle.rule_model.specs.declared.dep.Dep.{Dep}
 use Rattle.dep_finder.specs.FoundText.{found_text}
 use Rattle.dep_finder.specs.ReadAgain.{IsReadAs}
 use Rattle.dep_finder.proofs.ReadAgain.{read_again}

@@ -1,5 +1,4 @@
 use Rattle.std.proofs.Common.{◌<◌, refl, sym, ap, subst, length, arith}
-use Rattle.std.specs.FinMap as finite
 use Rattle.row_store.specs.Tuple.{ids_of}
 use Rattle.master_index.specs.declared.column_index.ColumnIndex.{ColumnIndex}
 use Rattle.master_index.specs.Between.{Reaches, in_tables, with_one}

@@ -6,7 +6,7 @@ use Rattle.rule_model.specs.declared.dep.Dep.{Dep}
 use Rattle.rule_cover.specs.Fates.{AreRight}
 use Rattle.rule_cover.specs.Pieces.{IsPiece, deps_in, numbers_in, table_pieces}
 use Rattle.rule_cover.proofs.Covers.{is_cover}
-use Rattle.rule_cover.proofs.PieceFacts.{as_many, pieces_own, pieces_valid}
+use Rattle.rule_cover.proofs.PieceFacts.{pieces_own, pieces_valid}
 use Rattle.rule_cover.proofs.finder.cover_table.Goals as goal
 
 pub fates_of-requires-clause-pieces : goal.fates_of-requires-clause-pieces

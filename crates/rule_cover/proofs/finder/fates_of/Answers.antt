@@ -1,4 +1,4 @@
-use Rattle.std.proofs.Common.{◌≡◌, ℕ, ◌+◌, Bool, ◌∷◌, ◌++◌, [], List, length, sym, ap, ◌∙◌, subst, arith}
+use Rattle.std.proofs.Common.{◌≡◌, ◌+◌, Bool, ◌++◌, [], List, length, sym, ap, ◌∙◌, subst, arith}
 use Rattle.std.specs.Prelude.{All}
 use Rattle.std.proofs.lemmas.List.{get_or_default}
 use Rattle.std.proofs.lemmas.List.Elements.{All-head, All-weaker}
@@ -8,7 +8,7 @@ use Rattle.cfd_implication.specs.Answers.{IsImplicationAnswer}
 use Rattle.cfd_implication.specs.declared.answer.Implication.{Implication}
 use Rattle.rule_cover.specs.declared.fates.Fate.{Fate}
 use Rattle.rule_cover.specs.declared.fates.Piece.{Piece}
-use Rattle.rule_cover.specs.Fates.{AreRight, answer_of}
+use Rattle.rule_cover.specs.Fates.{AreRight}
 use Rattle.rule_cover.specs.Pieces.{IsPiece}
 use Rattle.rule_cover.specs.Rounds.{Halves}
 use Rattle.rule_cover.proofs.Turns.{HasFound, all_others, found_all, found_none, found_pushed, next_round}

@@ -4,8 +4,6 @@ use Rattle.std.proofs.lemmas.List.Elements.{All-head}
 use Rattle.line_grammar.specs.Spelling.{file_text}
 use Rattle.rule_model.specs.declared.dep.Dep.{Dep}
 use Rattle.rule_cover.specs.CoverText.{AreFateTexts, last_parts}
-use Rattle.rule_cover.specs.declared.fates.Fate.{Fate}
-use Rattle.rule_cover.specs.declared.fates.Piece.{Piece}
 use Rattle.rule_cover.specs.Fates.{left}
 use Rattle.rule_cover.specs.Pieces.{IsPiece}
 use Rattle.rule_cover.specs.Rounds.{Halves}

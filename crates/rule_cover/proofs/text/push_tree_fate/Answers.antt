@@ -1,4 +1,4 @@
-use Rattle.std.proofs.Common.{◌≡◌, ℕ, ◌++◌, ◌∷◌, [], List, refl, sym, ap, ◌∙◌, subst, append_assoc}
+use Rattle.std.proofs.Common.{ℕ, ◌++◌, ◌∷◌, [], List, refl, ap, ◌∙◌, subst, append_assoc}
 use Rattle.line_grammar.specs.Spelling.{file_text}
 use Rattle.rule_model.specs.declared.dep.Dep.{Dep}
 use Rattle.cert_check.specs.Made.{IsTreeText}

@@ -1,4 +1,4 @@
-use Rattle.std.proofs.Common.{subst, sym, ◌∙◌, IfSome, IfNone}
+use Rattle.std.proofs.Common.{subst, sym, IfNone}
 use Rattle.value_pool.specs.Pool.{HasId, IsNew}
 use Rattle.value_pool.proofs.PoolLemmas.{position-HasId, position-IsNew}
 use Rattle.value_pool.proofs.Pool.find.Goals as goal
