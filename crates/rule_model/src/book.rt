@@ -70,14 +70,18 @@ impl RuleBook {
     {
         let counts = self.counts.with(&self.limits, &decl);
         let earlier = self.decls.as_slice();
-        check(
+        let checked = check(
             self.alloc,
             &self.schema,
             &self.limits,
             earlier,
             &counts,
             &decl,
-        )?;
+        );
+        if let Err(fault) = checked {
+            drop(decl);
+            return Err(fault);
+        }
         join(
             self.alloc,
             &self.schema,
@@ -160,6 +164,7 @@ fn join(
     let cinds = rules.cinds.as_slice().len();
     let edits = rules.edits.as_slice().len();
     if let Err(error) = append_rules(alloc, schema, &decl, rules) {
+        drop(decl);
         rules.truncate(deps, cinds, edits);
         return Err(error);
     }

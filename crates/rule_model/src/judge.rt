@@ -33,5 +33,8 @@ pub fn judge_dep(alloc: Global, schema: &Schema, cfd: CfdDecl) -> Result<Dep, Ad
 fn check_cfd(alloc: Global, schema: &Schema, cfd: CfdDecl) -> Result<(), AddFault>
     ensures { Finds result (first_of (schema_tests schema.now (Decl.Cfd cfd))) }
 {
-    check_over_schema(alloc, schema, &Decl::Cfd(cfd))
+    let decl = Decl::Cfd(cfd);
+    let checked = check_over_schema(alloc, schema, &decl);
+    drop(decl);
+    checked
 }

@@ -1,9 +1,10 @@
 //! The faults that rows of a tableau show one by one, so that a reader of very many rows doesn't hold each one.
 
-ghost use Rattle.std.specs.Prelude.{◌≡◌, ◌++◌, ◌∷◌, [], ◌⊎◌, List, IfOk, OnOk, false};
+ghost use Rattle.std.specs.Prelude.{◌≡◌, ◌++◌, ◌∷◌, [], ◌⊎◌, List, Option, IfOk, OnOk, false};
 ghost use Rattle.std.specs.Option.{is_some};
 ghost use Rattle.schema_core.specs.Lookups.{attrs_of};
-ghost use Rattle.rule_model.specs.Faults.{is_as_wide, is_inclusion_row_as_wide, outside_in_row, outside_in_inclusion_row, repeated_in_row};
+ghost use Rattle.rule_model.specs.Faults.{Finds, is_as_wide, is_inclusion_row_as_wide, outside_in_row, outside_in_inclusion_row, repeated_in_row};
+ghost use Rattle.rule_model.specs.declared.fault.RuleFault.{RuleFault};
 ghost use Rattle.rule_model.specs.FewRows.{RowTests, cfd_row_tests, cind_row_tests, shown_with, StandFor};
 
 use crate::cells::{inclusion_row_is_inside, row_is_distinct, row_is_inside};
@@ -53,24 +54,27 @@ fn is_as_wide(cfd: &CfdDecl, row: &CfdRow) -> bool
         && row.y.as_slice().len() == cfd.y.as_slice().len()
 }
 
-fn is_outside(attrs: &[Attr], cfd: &CfdDecl, row: &CfdRow) -> Result<bool, AllocError>
-    ensures { IfOk result (λ found. found ≡ is_some (outside_in_row attrs.now cfd.now row.now)) }
+/// Whether a test found a fault.
+fn has_fault(tested: Result<(), AddFault>) -> Result<bool, AllocError>
+    ensures { (found : Option RuleFault) → Finds tested found → IfOk result (λ has. has ≡ is_some found) }
 {
-    match row_is_inside(attrs, cfd, row) {
+    match tested {
         Ok(()) => Ok(false),
         Err(AddFault::Rule(_)) => Ok(true),
         Err(AddFault::Memory) => Err(AllocError),
     }
 }
 
+fn is_outside(attrs: &[Attr], cfd: &CfdDecl, row: &CfdRow) -> Result<bool, AllocError>
+    ensures { IfOk result (λ found. found ≡ is_some (outside_in_row attrs.now cfd.now row.now)) }
+{
+    has_fault(row_is_inside(attrs, cfd, row))
+}
+
 fn is_repeated(cfd: &CfdDecl, row: &CfdRow) -> Result<bool, AllocError>
     ensures { IfOk result (λ found. found ≡ is_some (repeated_in_row cfd.now row.now)) }
 {
-    match row_is_distinct(cfd, row) {
-        Ok(()) => Ok(false),
-        Err(AddFault::Rule(_)) => Ok(true),
-        Err(AddFault::Memory) => Err(AllocError),
-    }
+    has_fault(row_is_distinct(cfd, row))
 }
 
 impl<'a> CfdTests<'a> {
@@ -112,11 +116,7 @@ fn is_inclusion_row_outside(
 ) -> Result<bool, AllocError>
     ensures { IfOk result (λ found. found ≡ is_some (outside_in_inclusion_row lefts.now rights.now cind.now row.now)) }
 {
-    match inclusion_row_is_inside(lefts, rights, cind, row) {
-        Ok(()) => Ok(false),
-        Err(AddFault::Rule(_)) => Ok(true),
-        Err(AddFault::Memory) => Err(AllocError),
-    }
+    has_fault(inclusion_row_is_inside(lefts, rights, cind, row))
 }
 
 impl<'a> CindTests<'a> {
