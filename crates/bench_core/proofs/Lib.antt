@@ -16,6 +16,7 @@ pub mod Totals
 pub mod States
 pub mod Editing
 pub mod Loads
+pub mod SoFar
 pub mod Distinct
 pub mod TuplesAt
 pub mod InStepWith

@@ -6,8 +6,8 @@ ghost use Rattle.schema_core.specs.Lookups.{attrs_at};
 ghost use Rattle.line_grammar.specs.Faults.{GivesUnlessMemory};
 ghost use Rattle.row_store.specs.Tuple.{ids_of};
 ghost use Rattle.row_takers.specs.Taken.{AreNamed};
-ghost use Rattle.bench_core.specs.Loading.{AreTables, full_table, loaded, tables_in};
-ghost use Rattle.bench_core.specs.Stored.{AreInOrder, HasOneMore, stored};
+ghost use Rattle.bench_core.specs.Loading.{AreTables, CanBeLoaded, CanLoad, HasLoaded, full_table, loaded, tables_in};
+ghost use Rattle.bench_core.specs.Stored.{AreInOrder, HasOneMore, state_of, stored};
 ghost use Rattle.bench_core.specs.Bench.{IsHeld, history, present_of};
 ghost use Rattle.bench_core.specs.Indexed.{IsIndexed, IsInStepWith, load_probes, tuples_of};
 ghost use Rattle.bench_index.specs.AllIndexes.{most_probes};
@@ -48,56 +48,94 @@ impl Project {
         ensures probes { IfOk result (λ all. steps.new ≤ steps.old + load_probes rules (present_of all.0)) }
     {
         let (mut pool, tables) = tables.into_parts();
-        let mut index = AllIndexes::new(alloc, &rules, &mut pool)?;
-        // Asking for the schema says that the rules are valid.
-        let _schema = rules.schema();
-        let project = Project::of_tuples(alloc, rules, limits, pool, tables, &mut index, steps)?;
-        Ok((project, index))
-    }
-
-    /// The project of tables that lie in the pool, unless they have too many rows or cells. The indexes take each table as
-    /// a whole.
-    fn of_tuples<L: Ledger>(
-        alloc: Global,
-        rules: RuleBook,
-        limits: Limits,
-        pool: Pool,
-        tables: Vec<Vec<Tuple>>,
-        index: &mut AllIndexes,
-        steps: &mut Steps<L>,
-    ) -> Result<Project, LoadFault>
-        requires limits { AreLimits limits }
-        requires tables { AreTables rules.schema limits.cell_bytes (tables_in pool tables.items) }
-        requires named { All (λ table. AreNamed pool table.items) tables.items }
-        requires indexed { IsIndexed rules pool (tuples_of []) index.old }
-        ensures loaded { GivesUnlessMemory full_table (loaded rules limits (tables_in pool tables.items)) present_of result }
-        ensures fresh { IfOk result (λ project. HasNoPast (history project) × HasNothingUndone (history project)) }
-        ensures held { IfOk result IsHeld }
-        ensures indexed { IfOk result (λ project. IsInStepWith project index.new) }
-        ensures made_with { IfOk result (λ project. (project.rules ≡ rules) × (project.limits ≡ limits)) }
-        ensures probes { IfOk result (λ project. steps.new ≤ steps.old + load_probes rules (present_of project)) }
-    {
-        let mut stores = Vec::new(alloc);
-        let mut counts = Counts::new(alloc, &rules)?;
-        for tuples in tables {
-            let table = stores.len();
-            let rows = tuples.len() as u64;
-            if !counts.has_room(&limits, table, rows) {
-                return Err(LoadFault::RowsFull { table });
+        match load_all(alloc, &rules, &limits, &mut pool, tables, steps) {
+            Ok(all) => {
+                let project = Project {
+                    rules,
+                    limits,
+                    pool,
+                    stores: all.stores,
+                    log: Log::new(alloc),
+                    counts: all.counts,
+                };
+                Ok((project, all.index))
             }
-            add_table(alloc, index, &rules, &mut stores, tuples, steps)?;
-            counts.recount(table, 0, rows);
+            Err(fault) => Err(fault),
         }
-        let log = Log::new(alloc);
-        Ok(Project {
-            rules,
-            limits,
-            pool,
-            stores,
-            log,
-            counts,
-        })
     }
+}
+
+/// Tables that are loaded: their rows, how much there is, and the indexes of the rules.
+#[derive(Drop)]
+struct LoadedTables {
+    stores: Vec<RowStore>,
+    counts: Counts,
+    index: AllIndexes,
+}
+
+/// Loads tables that lie in the pool, unless they have too many rows or cells.
+fn load_all<L: Ledger>(
+    alloc: Global,
+    rules: &RuleBook,
+    limits: &Limits,
+    pool: &mut Pool,
+    tables: Vec<Vec<Tuple>>,
+    steps: &mut Steps<L>,
+) -> Result<LoadedTables, LoadFault>
+    requires limits { AreLimits limits.now }
+    requires tables { AreTables rules.now.schema limits.now.cell_bytes (tables_in pool.old tables.items) }
+    requires named { All (λ table. AreNamed pool.old table.items) tables.items }
+    ensures loaded { GivesUnlessMemory full_table (loaded rules.now limits.now (tables_in pool.old tables.items)) (λ all. state_of pool.new (map stored all.stores.items)) result }
+    ensures held { IfOk result (λ all. HasLoaded rules.now pool.new (map stored all.stores.items) all.counts all.index steps.old steps.new) }
+{
+    let mut index = AllIndexes::new(alloc, rules, pool)?;
+    // Asking for the schema says that the rules are valid.
+    let _schema = rules.schema();
+    let mut counts = Counts::new(alloc, rules)?;
+    let mut stores = Vec::new(alloc);
+    add_tables(
+        &mut index,
+        rules,
+        limits,
+        tables,
+        &mut stores,
+        &mut counts,
+        steps,
+    )?;
+    Ok(LoadedTables {
+        stores,
+        counts,
+        index,
+    })
+}
+
+/// Loads tables one after another, after none, unless they have too many rows or cells.
+fn add_tables<L: Ledger>(
+    index: &mut AllIndexes,
+    rules: &RuleBook,
+    limits: &Limits,
+    tables: Vec<Vec<Tuple>>,
+    stores: &mut Vec<RowStore>,
+    counts: &mut Counts,
+    steps: &mut Steps<L>,
+) -> Result<(), LoadFault>
+    requires limits { AreLimits limits.now }
+    requires none { stores.old.items ≡ [] }
+    requires can { CanBeLoaded rules.now limits.now tables.items counts.old index.old }
+    ensures loaded { (texts : List (List ℕ)) → CanLoad rules.now limits.now texts tables.items counts.old index.old → GivesUnlessMemory full_table (loaded rules.now limits.now (tables_in texts tables.items)) (λ _. state_of texts (map stored stores.new.items)) result }
+    ensures held { OnOk result ((texts : List (List ℕ)) → CanLoad rules.now limits.now texts tables.items counts.old index.old → HasLoaded rules.now texts (map stored stores.new.items) counts.new index.new steps.old steps.new) }
+{
+    let alloc = *stores.allocator();
+    for tuples in tables {
+        let table = stores.len();
+        let rows = tuples.len() as u64;
+        if !counts.has_room(limits, table, rows) {
+            return Err(LoadFault::RowsFull { table });
+        }
+        add_table(alloc, index, rules, stores, tuples, steps)?;
+        counts.recount(table, 0, rows);
+    }
+    Ok(())
 }
 
 /// Loads one more table. All of its rows are stored before the indexes take them, one index after the other.

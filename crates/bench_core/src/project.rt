@@ -1,6 +1,6 @@
 //! What a bench holds: rules, limits, stored tables, and the log of their changes.
 
-ghost use Rattle.std.specs.Prelude.{◌≡◌, ◌+◌, ◌<◌, ◌≤◌, Ok, Some, false, length, map, slice_get, IsSomeAnd, IfOk, OnErr, OnOk};
+ghost use Rattle.std.specs.Prelude.{◌≡◌, ◌+◌, ◌<◌, ◌≤◌, List, ℕ, Ok, Option, Some, false, length, map, slice_get, IsSomeAnd, IfOk, OnErr, OnOk};
 ghost use Rattle.schema_core.specs.Schemas.{table_place};
 ghost use Rattle.line_grammar.specs.Faults.{GivesUnlessMemory};
 ghost use Rattle.row_store.specs.Tuple.{ids_if};
@@ -11,10 +11,10 @@ ghost use Rattle.bench_core.specs.History.{accepted, history_edited};
 ghost use Rattle.bench_core.specs.Stored.{state_of, stored};
 ghost use Rattle.bench_core.specs.Changes.{CanMake, IsChange, made_again, told_of};
 ghost use Rattle.bench_index.specs.declared.all_indexes.AllIndexes.{AllIndexes as Indexes};
-ghost use Rattle.bench_index.specs.AllIndexes.{most_probes};
+ghost use Rattle.bench_index.specs.AllIndexes.{AllFollow, most_probes};
 ghost use Rattle.bench_core.specs.Bench.{AtTable, IsBench, IsHeld, history, present_of, tables_of};
 ghost use Rattle.bench_core.specs.Turns.{AreCountedThen, CanBeTurned, HasNoNext, HasRoomFor, HasStepped, next_state, tuple_after, turned_all};
-ghost use Rattle.bench_core.specs.Indexed.{AreOfTheChange, IsInStepWith, IsIndexed, edit_probes, tuples_of};
+ghost use Rattle.bench_core.specs.Indexed.{AreOfTheChange, CanFollow, IsInStepWith, IsIndexed, edit_probes, tuples_of};
 
 use crate::changes::{
     Direction, follow_change, move_log, next_change, tuple_after, tuple_before, turn,
@@ -79,6 +79,34 @@ fn make_room(
         return Ok(());
     }
     stores[change.table].ready_insert()
+}
+
+/// Makes room for a change that is made for the first time, in the store of its table and in the log, and lets the indexes
+/// follow its row.
+fn get_ready<L: Ledger>(
+    stores: &mut Vec<RowStore>,
+    log: &mut Log,
+    index: &mut AllIndexes,
+    rules: &RuleBook,
+    change: &Change,
+    steps: &mut Steps<L>,
+) -> Result<(), AllocError>
+    requires table { change.now.table < length stores.old.items }
+    requires follow { CanFollow rules.now change.now.table change.now.row (ids_if change.now.old) (ids_if change.now.new) index.old }
+    ensures room { OnOk result (IsSomeAnd (slice_get stores.new.items change.now.table) (HasRoomFor Direction.Forward change.now)) }
+    ensures same { map stored stores.new.items ≡ map stored stores.old.items }
+    ensures log { OnOk result (0 < log.new.spare) }
+    ensures past { log.new.past ≡ log.old.past }
+    ensures undone { log.new.undone ≡ log.old.undone }
+    ensures followed { OnOk result (AllFollow rules.now change.now.table change.now.row (ids_if change.now.old) (ids_if change.now.new) index.old index.new) }
+    // What the indexes were in step with, they are still in step with.
+    ensures refused { OnErr result ((texts : List (List ℕ)) (tuples : ℕ → ℕ → Option (List ℕ)) → IsIndexed rules.now texts tuples index.old → IsIndexed rules.now texts tuples index.new) }
+    ensures probes { steps.new ≤ steps.old + most_probes rules.now change.now.table }
+{
+    make_room(stores, change, Direction::Forward)?;
+    log.ready()?;
+    follow_change(index, rules, change, Direction::Forward, steps)?;
+    Ok(())
 }
 
 /// Turns the table of a change into what it is then, and the numbers with it. `tuple` is what the row then has.
@@ -149,9 +177,8 @@ impl Project {
     {
         let change = self.planned(number, edit)?;
         let new = shared(&change.new)?;
-        make_room(&mut self.stores, &change, Direction::Forward)?;
-        self.log.ready()?;
-        follow_change(index, &self.rules, &change, Direction::Forward, steps)?;
+        let (stores, log) = (&mut self.stores, &mut self.log);
+        get_ready(stores, log, index, &self.rules, &change, steps)?;
         Ok(self.done(change, new))
     }
 

@@ -13,8 +13,8 @@ ghost use Rattle.edit_replies.specs.Fixing.{asked, conflict_text, covered, fixed
 ghost use Rattle.edit_replies.specs.EditReplies.{IsFixReply};
 ghost use Rattle.edit_replies.specs.Telling.{CanBeTold, IsToldFix, IsToldRun, texts_to_write, verdict_text};
 
-use crate::fix_text::{push_conflict_line, push_fixed, push_run};
 use crate::edit_text::{push_edit_refused, push_refused};
+use crate::fix_text::{push_conflict_line, push_fixed, push_run};
 use bench_core::{Bench, RowAt};
 use edit_log::Edit;
 use fix_engine::{FixFault, Verdict, fix};

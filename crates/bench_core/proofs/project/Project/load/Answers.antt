@@ -1,40 +1,34 @@
-use Rattle.std.proofs.Common.{◌≡◌, Ok, Err, refl, sym, subst, ◌∙◌, Vec, Global}
-use Rattle.std.proofs.lemmas.List.Elements.{All-weaker}
-use Rattle.std.proofs.lemmas.Result.{err_from_is_err_and}
+use Rattle.std.proofs.Common.{◌≡◌, map, Ok, Err, sym, subst}
 use Rattle.line_grammar.specs.Faults.{GivesUnlessMemory}
-use Rattle.row_store.specs.Tuple.{Tuple}
-use Rattle.row_takers.specs.Taken.{AreNamed}
-use Rattle.row_takers.proofs.Kept.{named-kept, tables-kept}
-use Rattle.bench_core.specs.Loading.{AreTables, full_table, loaded, tables_in}
+use Rattle.bench_core.specs.Loading.{AreTables, full_table, loaded}
+use Rattle.bench_core.specs.Stored.{state_of, stored}
 use Rattle.bench_core.specs.Bench.{present_of}
 use Rattle.bench_core.specs.declared.project.Project.{Project}
 use Rattle.bench_index.specs.declared.all_indexes.AllIndexes.{AllIndexes}
+use Rattle.bench_core.proofs.Filled.{held-fresh}
+use Rattle.bench_core.proofs.Loads.{loaded-bench}
 use Rattle.bench_core.proofs.project.Project.load.Goals as goal
-use Rattle.bench_core.proofs.project.Project.load.Goals.{After-schema-schema}
 
--- the tables have the same texts once the constants of the rules are in the pool
-same-texts : (g : _) (c : After-schema-schema g) → tables_in c.new.new.pool c.into_parts-pool.result.1.items ≡ c.args.tables.tables
-same-texts g c = tables-kept c.into_parts-pool.result.0 c.new.new.pool c.in_ok-index.ensures.kept c.into_parts-pool.result.1.items c.into_parts-pool.ensures.named ∙ c.into_parts-pool.ensures.texts
+pub load_all-requires-clause-tables : goal.load_all-requires-clause-tables
+load_all-requires-clause-tables g c = subst (AreTables c.args.rules.schema c.args.limits.cell_bytes) (sym c.into_parts-pool.ensures.texts) c.requires.tables
 
-pub of_tuples-requires-clause-tables : goal.of_tuples-requires-clause-tables
-of_tuples-requires-clause-tables g c = subst (AreTables c.args.rules.schema c.args.limits.cell_bytes) (sym (same-texts g (goal.at.of_tuples-requires-clause-tables g c).After-schema-schema)) c.requires.tables
+pub returns-in-Err-clause-loaded : goal.returns-in-Err-clause-loaded
+returns-in-Err-clause-loaded g c =
+    subst (λ tables. GivesUnlessMemory {X = Project × AllIndexes} full_table (loaded c.args.rules c.args.limits tables) (λ all. present_of all.0) (Err c.in-Err.fault)) c.into_parts-pool.ensures.texts c.in-Err.ensures.loaded
 
-pub of_tuples-requires-clause-named : goal.of_tuples-requires-clause-named
-of_tuples-requires-clause-named g c =
-    let old = c.into_parts-pool.result.0 in
-    let new = c.new.new.pool in
-    All-weaker (λ (table : Vec Tuple Global). AreNamed old table.items) (λ (table : Vec Tuple Global). AreNamed new table.items) (λ table. named-kept old new c.in_ok-index.ensures.kept table.items) c.into_parts-pool.result.1.items c.into_parts-pool.ensures.named
+pub returns-in-Ok-clause-loaded : goal.returns-in-Ok-clause-loaded
+returns-in-Ok-clause-loaded g c =
+    subst (λ tables. loaded c.args.rules c.args.limits tables ≡ Ok (state_of c.load_all.new.pool (map stored c.in-Ok.all.stores.items))) c.into_parts-pool.ensures.texts c.in-Ok.ensures.loaded
 
-pub of_tuples-requires-clause-indexed : goal.of_tuples-requires-clause-indexed
-of_tuples-requires-clause-indexed g c = record { valid = c.schema-schema.ensures.valid; in_step = c.in_ok-index.ensures.in_step }
+pub returns-in-Ok-clause-held : goal.returns-in-Ok-clause-held
+returns-in-Ok-clause-held g c =
+    let has = c.in-Ok.ensures.held in
+    let is = subst (λ tables. loaded c.args.rules c.args.limits tables ≡ Ok (state_of c.load_all.new.pool (map stored c.in-Ok.all.stores.items))) c.into_parts-pool.ensures.texts c.in-Ok.ensures.loaded in
+    let bench = loaded-bench c.args.rules c.args.limits c.args.tables.tables _ c.requires.limits c.requires.tables is in
+    held-fresh c.args.rules c.args.limits c.load_all.new.pool c.new.result c.in-Ok.all.stores.items _ _ _ c.new.ensures.past c.new.ensures.undone bench has.counts has.named
 
-pub returns-in_err-project-clause-loaded : goal.returns-in_err-project-clause-loaded
-returns-in_err-project-clause-loaded g c =
-    let p = err_from_is_err_and c.from_residual-in_err-project.result c.from_residual-in_err-project.ensures.1 in
-    let same : c.from_residual-in_err-project.result ≡ Err c.in_err-project.field-0.0 = rw (p.1, p.2) refl in
-    subst (GivesUnlessMemory {X = Project × AllIndexes} full_table (loaded c.args.rules c.args.limits c.args.tables.tables) (λ all. present_of all.0)) (sym same)
-    (subst (λ tables. GivesUnlessMemory {X = Project × AllIndexes} full_table (loaded c.args.rules c.args.limits tables) (λ all. present_of all.0) (Err c.in_err-project.field-0.0))
-    (same-texts g (goal.at.returns-in_err-project-clause-loaded g c).After-schema-schema) c.in_err-project.ensures.loaded)
+pub returns-in-Ok-clause-indexed : goal.returns-in-Ok-clause-indexed
+returns-in-Ok-clause-indexed g c = c.in-Ok.ensures.held.indexed
 
-pub returns-clause-loaded : goal.returns-clause-loaded
-returns-clause-loaded g c = subst (λ tables. loaded c.args.rules c.args.limits tables ≡ Ok (present_of c.in_ok-project.project)) (same-texts g (goal.at.returns-clause-loaded g c).After-schema-schema) c.in_ok-project.ensures.loaded
+pub returns-in-Ok-clause-probes : goal.returns-in-Ok-clause-probes
+returns-in-Ok-clause-probes g c = c.in-Ok.ensures.held.probes
