@@ -205,10 +205,11 @@ fn push_new<'a>(
     ensures seen { OnOk result (seen.new ≡ seen.old ++ (text.now, length tree.old.nodes) ∷ []) }
     ensures memory { IfErr result (λ fault. fault ≡ Memory) }
 {
-    let missing = missing_behind(&node, missing)?;
-    seen.remember(text, tree.nodes.len())?;
+    let place = tree.nodes.len();
+    let behind = missing_behind(&node, missing);
     tree.nodes.push(NodeLine { line: number, node })?;
-    Ok(missing)
+    seen.remember(text, place)?;
+    behind
 }
 
 /// Takes a line that spells no node seen before, and gives how many subtrees are missing behind it.

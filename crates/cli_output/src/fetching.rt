@@ -44,7 +44,10 @@ pub fn refused<T>(what: &Text, cause: Cause) -> Result<T, Stop>
 {
     match what.clone() {
         Ok(what) => Err(Stop::Refused(Refusal { what, cause })),
-        Err(_) => Err(Stop::Memory),
+        Err(_) => {
+            drop(cause);
+            Err(Stop::Memory)
+        }
     }
 }
 

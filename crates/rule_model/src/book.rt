@@ -23,7 +23,7 @@ use std::alloc::{AllocError, Global};
 use std::marker::Model;
 
 /// Declarations without fault over a schema, and the rules that they stand for.
-#[derive(Debug, Drop)]
+#[derive(Debug)]
 pub struct RuleBook {
     alloc: Global,
     schema: Schema,
@@ -31,6 +31,20 @@ pub struct RuleBook {
     decls: List<Decl>,
     rules: Rules,
     counts: Counts,
+}
+
+// By hand, so that whatever drops a book calls this, and isn't proved for each of its parts.
+impl Drop for RuleBook {
+    fn drop(self) {
+        let RuleBook {
+            alloc: _,
+            schema: _,
+            limits: _,
+            decls: _,
+            rules: _,
+            counts: _,
+        } = self;
+    }
 }
 
 impl Model for RuleBook {
