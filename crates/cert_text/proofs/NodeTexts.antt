@@ -14,8 +14,7 @@ use Rattle.line_grammar.specs.Tokens.{line_tokens}
 use Rattle.line_grammar.specs.declared.fault.LineFault.{LineFault}
 use Rattle.line_grammar.specs.declared.fault.LineFault.TheVariants.{Memory}
 use Rattle.line_grammar.specs.declared.line.Line.{Line}
-use Rattle.line_grammar.specs.declared.line.Content.{Content}
-use Rattle.line_grammar.specs.declared.line.Content.TheVariants.{NotUtf8, BadTokens, Tokens}
+use Rattle.line_grammar.specs.Contents.{Content, NotUtf8, BadTokens, Tokens}
 use Rattle.cert_text.specs.declared.answers.Draft.{Draft}
 use Rattle.cert_text.specs.declared.answers.Draft.TheVariants as draft
 use Rattle.cert_text.specs.declared.answers.Kind.{Kind}

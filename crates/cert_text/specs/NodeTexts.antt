@@ -6,8 +6,7 @@ use Rattle.line_grammar.specs.Groups.{in_turn}
 use Rattle.line_grammar.specs.Lines.{lines}
 use Rattle.line_grammar.specs.TokenLists.{none_after}
 use Rattle.line_grammar.specs.Tokens.{line_tokens}
-use Rattle.line_grammar.specs.declared.line.Content.{Content}
-use Rattle.line_grammar.specs.declared.line.Content.TheVariants.{NotUtf8, BadTokens, Tokens}
+use Rattle.line_grammar.specs.Contents.{Content, NotUtf8, BadTokens, Tokens}
 use Rattle.cert_text.specs.declared.answers.Draft.{Draft}
 use Rattle.cert_text.specs.declared.answers.Draft.TheVariants as draft
 use Rattle.cert_text.specs.declared.answers.Kind.{Kind}

@@ -21,7 +21,7 @@ use crate::nodes::{OneTupleNode, TwoTuplesNode};
 use crate::questions::{ConsistencyAnswer, ImplicationAnswer, QuestionLine, SecondTuple};
 use crate::seen::Seen;
 use crate::tree_nodes::TreeNodes;
-use line_grammar::{Content, Line, content_of, split_line};
+use line_grammar::{Line, content_of, split_line};
 use std::alloc::Global;
 
 /// Whether the question is about one tuple or about two.
@@ -110,9 +110,10 @@ fn missing_behind(node: &NodeName, missing: usize) -> Result<usize, CertFault>
 fn no_line(line: &Line<'_>) -> CertFault
     ensures { MatchResult (no_line {X = AnyDraft} line.now) (λ _. ⊥) (λ told. line_tells result ≡ Some told) }
 {
-    let cause = match &line.content {
-        Content::NotUtf8 => CertCause::NotUtf8,
-        Content::BadTokens(_) | Content::Tokens(_) => CertCause::BadLine,
+    let cause = if line.content.is_utf8() {
+        CertCause::BadLine
+    } else {
+        CertCause::NotUtf8
     };
     CertFault::At {
         line: line.number,

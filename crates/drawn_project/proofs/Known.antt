@@ -12,7 +12,7 @@ use Rattle.line_grammar.specs.FileLines.{begins_with, content_of, lines_from}
 use Rattle.line_grammar.specs.Lines.{lines}
 use Rattle.line_grammar.specs.Tokens.{is_passed, line_tokens, mark_at, text_from, token_at, tokens_from}
 use Rattle.schema_core.specs.SchemaLines.{attr_at, head_at}
-use Rattle.line_grammar.specs.declared.line.Content.TheVariants as content
+use Rattle.line_grammar.specs.Contents as content
 use Rattle.line_grammar.specs.declared.line.Line.{Line}
 use Rattle.line_grammar.specs.declared.tokens.LineTokens.{LineTokens}
 use Rattle.line_grammar.specs.declared.tokens.LineTokens.TheVariants.{NotUtf8, Passed, Tokens}

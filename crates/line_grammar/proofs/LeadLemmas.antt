@@ -1,6 +1,7 @@
 -- Tokens read off the bytes of a line when they are asked for.
 use Rattle.std.proofs.Common.{◌⊎◌, inl, inr, ◌≡◌, ℕ, zero, suc, ◌+◌, ◌<◌, ◌≤◌, Bool, true, false, cond, eqb, ◌&&◌, List, [], ◌∷◌, ◌++◌, length, Option, Some, None, refl, ap, sym, ◌∙◌, subst, arith}
 use Rattle.std.specs.Prelude.{not}
+use Rattle.std.specs.List.{AllByRecursion}
 use Rattle.std.specs.Str.{IsUtf8, is_utf8}
 use Rattle.std.proofs.lemmas.Bool.{cond_both, cond-false, cases_eq, false≢true}
 use Rattle.std.proofs.lemmas.Option.{none-some, some_pair_parts, same_Some}
@@ -8,8 +9,8 @@ use Rattle.line_grammar.specs.declared.tokens.Token.{Token}
 use Rattle.line_grammar.specs.declared.tokens.Token.TheVariants.{Quoted}
 use Rattle.line_grammar.specs.declared.tokens.LineTokens.{LineTokens}
 use Rattle.line_grammar.specs.declared.tokens.LineTokens.TheVariants.{Passed, NotUtf8, BadTokens, Tokens}
-use Rattle.line_grammar.specs.declared.line.Content.{Content}
-use Rattle.line_grammar.specs.declared.line.Content.TheVariants as content
+use Rattle.line_grammar.specs.Contents.{Content, content_on, tokens_in}
+use Rattle.line_grammar.specs.Contents as content
 use Rattle.line_grammar.specs.FileLines.{content_of}
 use Rattle.line_grammar.specs.GoodTokens.{IsGoodToken, HasGoodTokens}
 use Rattle.line_grammar.specs.Leads.{meant, measured, given, are_tokens, tokens_left}
@@ -141,6 +142,12 @@ content-bad line tokens utf8 kept is some_bad =
     ap (λ (ts : List Token). Some (content.BadTokens ts)) is
     ∙ sym (ap content_of (cond-false (not (is_utf8 line)) _ _ (ap not utf8) ∙ cond-false (is_passed line) _ _ kept ∙ line-bad line some_bad))
 
+pub content-utf8 : (line : List ℕ) → is_utf8 line ≡ true → is_passed line ≡ false → Some (content_on true line) ≡ content_of (line_tokens line)
+content-utf8 line utf8 kept =
+    cond_both (are_tokens (tokens_from (length line) false line)) (content.Tokens (tokens_left false line)) (content.BadTokens (tokens_left false line)) (λ it. Some it ≡ content_of (line_tokens line))
+    (λ all_are. content-all line (tokens_left false line) utf8 kept refl all_are)
+    (λ some_bad. content-bad line (tokens_left false line) utf8 kept refl some_bad)
+
 pub left-end : (after_word : Bool) (rest : List ℕ) → length (after_blanks rest) ≡ 0 → tokens_left after_word rest ≡ []
 left-end after_word rest ended = ap given (tokens_from-end (length rest) after_word rest ended)
 
@@ -215,5 +222,13 @@ kind_of-content NotUtf8 it is = ap kind_of (same_Some _ _ is)
 kind_of-content (BadTokens tokens) it is = ap kind_of (same_Some _ _ is)
 kind_of-content (Tokens tokens) it is = ap kind_of (same_Some _ _ is)
 
-pub content-good : (line : List ℕ) (found : Option Content) (it : Content) → found ≡ content_of (line_tokens line) → found ≡ Some it → HasGoodTokens (kind_of it)
-content-good line found it same is = subst HasGoodTokens (kind_of-content (line_tokens line) it (sym same ∙ is)) (line_tokens-are_good line)
+content-good : (line : List ℕ) (it : Content) → Some it ≡ content_of (line_tokens line) → HasGoodTokens (kind_of it)
+content-good line it is = subst HasGoodTokens (kind_of-content (line_tokens line) it (sym is)) (line_tokens-are_good line)
+
+tokens-good : (it : Content) (tokens : List Token) → HasGoodTokens (kind_of it) → Some tokens ≡ tokens_in it → AllByRecursion IsGoodToken tokens
+tokens-good content.NotUtf8 tokens good is = absurd (none-some _ (sym is))
+tokens-good (content.BadTokens own) tokens good is = subst (AllByRecursion IsGoodToken) (sym (same_Some _ _ is)) good
+tokens-good (content.Tokens own) tokens good is = subst (AllByRecursion IsGoodToken) (sym (same_Some _ _ is)) good
+
+pub line-good : (line : List ℕ) (it : Content) (tokens : List Token) → Some it ≡ content_of (line_tokens line) → Some tokens ≡ tokens_in it → AllByRecursion IsGoodToken tokens
+line-good line it tokens is own = tokens-good it tokens (content-good line it is) own

@@ -10,7 +10,7 @@ use Rattle.line_grammar.specs.FileLines.{no_lines, content_of, lines_from, file_
 use Rattle.line_grammar.specs.Lines.{lines}
 use Rattle.line_grammar.specs.Tokens.{line_tokens}
 use Rattle.line_grammar.specs.declared.tokens.LineTokens.{LineTokens}
-use Rattle.line_grammar.specs.declared.line.Content.{Content}
+use Rattle.line_grammar.specs.Contents.{Content}
 use Rattle.line_grammar.specs.Groups.{Cut, in_front, cut, in_turn, read_cut, read_groups}
 use Rattle.line_grammar.specs.declared.line.Line.{Line}
 use Rattle.line_grammar.specs.declared.group.Group.{Group}

@@ -8,7 +8,7 @@ use Rattle.line_grammar.specs.Faults.{Causes, Reading, ◌>>=◌}
 use Rattle.line_grammar.specs.FileLines.{content_of, lines_from, file_lines, first_is, begins_with}
 use Rattle.line_grammar.specs.Groups.{Cut, in_front, cut, in_turn, read_cut, read_groups}
 use Rattle.line_grammar.specs.Spelling.{line_text, file_text, tokens_in, IsReadable}
-use Rattle.line_grammar.specs.declared.line.Content.TheVariants.{Tokens}
+use Rattle.line_grammar.specs.Contents.{Tokens}
 use Rattle.line_grammar.specs.declared.line.Line.{Line}
 use Rattle.line_grammar.specs.declared.group.Group.{Group}
 use Rattle.line_grammar.specs.declared.writing.Part.{Part}

@@ -9,8 +9,7 @@ use Rattle.line_grammar.specs.declared.tokens.Token.{Token}
 use Rattle.line_grammar.specs.declared.tokens.Token.TheVariants.{Name}
 use Rattle.line_grammar.specs.declared.tokens.LineTokens.{LineTokens}
 use Rattle.line_grammar.specs.declared.tokens.LineTokens.TheVariants as kinds
-use Rattle.line_grammar.specs.declared.line.Content.{Content}
-use Rattle.line_grammar.specs.declared.line.Content.TheVariants.{NotUtf8, BadTokens, Tokens}
+use Rattle.line_grammar.specs.Contents.{Content, NotUtf8, BadTokens, Tokens}
 use Rattle.line_grammar.specs.declared.line.Line.{Line}
 
 -- ---- the lines of a file

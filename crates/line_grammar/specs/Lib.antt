@@ -12,3 +12,4 @@ pub mod Appending
 pub mod OneSpelling
 pub mod Takes
 pub mod Leads
+pub mod Contents

@@ -15,7 +15,7 @@ use crate::fault::LineFault;
 use crate::line::{Content, Line};
 use crate::lines::split_line;
 use crate::phrase::Phrase;
-use crate::reading::{is_passed, is_token_list, is_utf8};
+use crate::reading::{is_passed, is_utf8};
 use crate::unread::Unread;
 use std::alloc::Global;
 use std::marker::Model;
@@ -48,17 +48,12 @@ pub fn content_of(alloc: Global, line: &[u8]) -> Option<Content<'_>>
     ensures { result ≡ content_of (line_tokens line.now) }
 {
     if !is_utf8(line) {
-        return Some(Content::NotUtf8);
+        return Some(Content::new(alloc, line, false));
     }
     if is_passed(line) {
         return None;
     }
-    let tokens = Tokens::new(alloc, line);
-    if is_token_list(line) {
-        Some(Content::Tokens(tokens))
-    } else {
-        Some(Content::BadTokens(tokens))
-    }
+    Some(Content::new(alloc, line, true))
 }
 
 impl<'a> FileLines<'a> {
@@ -126,9 +121,9 @@ impl<'a> Line<'a> {
     pub fn begins_with(&self, word: &str) -> bool
         ensures { result ≡ begins_with word.now self.now }
     {
-        match &self.content {
-            Content::NotUtf8 => false,
-            Content::BadTokens(tokens) | Content::Tokens(tokens) => first_is(word, tokens),
+        match self.content.tokens() {
+            None => false,
+            Some(tokens) => first_is(word, &tokens),
         }
     }
 
@@ -138,17 +133,23 @@ impl<'a> Line<'a> {
         ensures fit { IfOk result P.is_fit }
     {
         let Line { number, content } = self;
-        match content {
-            Content::NotUtf8 => Err(LineFault::At {
+        let Some(tokens) = content.tokens() else {
+            return Err(LineFault::At {
                 line: number,
                 cause: C::not_utf8(),
-            }),
-            Content::BadTokens(_) => Err(bad_line(number)),
-            Content::Tokens(tokens) => match whole::<P>(alloc, tokens) {
-                Ok(value) => Ok(value),
-                Err(Unread::Absent) => Err(bad_line(number)),
-                Err(Unread::Memory) => Err(LineFault::Memory),
-            },
+            });
+        };
+        // Few lines are read in vain, so the rest of a line is looked through last.
+        match whole::<P>(alloc, tokens) {
+            Ok(value) => {
+                if content.is_token_list() {
+                    Ok(value)
+                } else {
+                    Err(bad_line(number))
+                }
+            }
+            Err(Unread::Absent) => Err(bad_line(number)),
+            Err(Unread::Memory) => Err(LineFault::Memory),
         }
     }
 }

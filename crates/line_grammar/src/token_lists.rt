@@ -4,7 +4,6 @@ ghost use Rattle.std.specs.Prelude.{◌≡◌, IfOk};
 ghost use Rattle.line_grammar.specs.Tokens.{line_tokens};
 ghost use Rattle.line_grammar.specs.GoodTokens.{HasGoodTokens};
 
-use crate::line::Content;
 use crate::line_reading::content_of;
 use crate::tokens::LineTokens;
 use std::alloc::{AllocError, Global};
@@ -14,10 +13,16 @@ pub fn read_tokens(alloc: Global, line: &[u8]) -> Result<LineTokens, AllocError>
     ensures tokens { IfOk result (λ found. found ≡ line_tokens line.now) }
     ensures good { IfOk result HasGoodTokens }
 {
-    match content_of(alloc, line) {
-        None => Ok(LineTokens::Passed),
-        Some(Content::NotUtf8) => Ok(LineTokens::NotUtf8),
-        Some(Content::BadTokens(tokens)) => Ok(LineTokens::BadTokens(tokens.owned()?)),
-        Some(Content::Tokens(tokens)) => Ok(LineTokens::Tokens(tokens.owned()?)),
+    let Some(content) = content_of(alloc, line) else {
+        return Ok(LineTokens::Passed);
+    };
+    let Some(tokens) = content.tokens() else {
+        return Ok(LineTokens::NotUtf8);
+    };
+    let tokens = tokens.owned()?;
+    if content.is_token_list() {
+        Ok(LineTokens::Tokens(tokens))
+    } else {
+        Ok(LineTokens::BadTokens(tokens))
     }
 }

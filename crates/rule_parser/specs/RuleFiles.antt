@@ -7,7 +7,7 @@ use Rattle.line_grammar.specs.Groups.{read_groups}
 use Rattle.line_grammar.specs.Tokens.{line_tokens}
 use Rattle.line_grammar.specs.TokenLists.{Reader, none_after}
 use Rattle.line_grammar.specs.declared.tokens.Token.{Token}
-use Rattle.line_grammar.specs.declared.line.Content.{Content}
+use Rattle.line_grammar.specs.Contents.{Content}
 use Rattle.line_grammar.specs.declared.line.Line.{Line}
 use Rattle.line_grammar.specs.declared.group.Group.{Group}
 use Rattle.text_lists.specs.declared.limits.Limits.{Limits}

@@ -30,7 +30,7 @@ use Rattle.schema_core.specs.declared.schema.Attr.{Attr}
 use Rattle.schema_core.specs.declared.schema.Table.{Table}
 use Rattle.schema_core.specs.declared.schema.Schema.{Schema}
 use Rattle.schema_core.specs.declared.schema_lines.SchemaHead.TheVariants as head
-use Rattle.line_grammar.specs.declared.line.Content.TheVariants.{Tokens}
+use Rattle.line_grammar.specs.Contents.{Tokens}
 use Rattle.text_lists.proofs.RepeatLemmas.{bytes_eq-tells, first_repeated-none}
 use Rattle.line_grammar.proofs.PartLemmas.{constants_again, constants_some, constants_good, AreGood, AreGood-spaced, IsLoose, IsLoose-nil, IsLoose-spaced, list_at-written, tokens_in-spaced}
 use Rattle.line_grammar.proofs.WrittenFiles.{written_lines, Written, lines_of, group_at, IsGroup, Takes, read_groups-written}

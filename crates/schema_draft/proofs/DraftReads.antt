@@ -15,8 +15,7 @@ use Rattle.line_grammar.specs.FileLines.{content_of, file_lines, lines_from}
 use Rattle.line_grammar.specs.Lines.{lines, without_return}
 use Rattle.line_grammar.specs.Spelling.{IsReadable, file_text, line_text, mark, name, text, tokens_in}
 use Rattle.line_grammar.specs.Tokens.{is_passed, line_tokens, tokens_from}
-use Rattle.line_grammar.specs.declared.line.Content.{Content}
-use Rattle.line_grammar.specs.declared.line.Content.TheVariants.{Tokens}
+use Rattle.line_grammar.specs.Contents.{Content, Tokens}
 use Rattle.line_grammar.specs.declared.line.Line.{Line}
 use Rattle.line_grammar.specs.declared.tokens.LineTokens.TheVariants.{NotUtf8, Passed}
 use Rattle.line_grammar.specs.declared.tokens.Mark.TheVariants.{Colon}

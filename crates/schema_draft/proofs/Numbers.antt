@@ -9,8 +9,7 @@ use Rattle.line_grammar.specs.Faults.{Reading, ◌>>=◌}
 use Rattle.line_grammar.specs.FileLines.{begins_with, content_begins, file_lines, found_at, no_lines, read_content, read_line}
 use Rattle.line_grammar.specs.Groups.{Cut, cut, in_front, in_turn, read_cut, read_groups}
 use Rattle.line_grammar.specs.TokenLists.{none_after}
-use Rattle.line_grammar.specs.declared.line.Content.{Content}
-use Rattle.line_grammar.specs.declared.line.Content.TheVariants.{NotUtf8, BadTokens, Tokens}
+use Rattle.line_grammar.specs.Contents.{Content, NotUtf8, BadTokens, Tokens}
 use Rattle.line_grammar.specs.declared.line.Line.{Line}
 use Rattle.line_grammar.specs.declared.group.Group.{Group}
 use Rattle.line_grammar.specs.declared.tokens.Token.{Token}

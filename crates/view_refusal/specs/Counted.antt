@@ -5,8 +5,7 @@ use Rattle.text_lists.specs.declared.limits.Limit.{Limit}
 use Rattle.text_lists.specs.declared.limits.Limit.TheVariants as limit
 use Rattle.line_grammar.specs.FileLines.{begins_with, file_lines}
 use Rattle.line_grammar.specs.Marks.{same_mark}
-use Rattle.line_grammar.specs.declared.line.Content.{Content}
-use Rattle.line_grammar.specs.declared.line.Content.TheVariants.{BadTokens, NotUtf8, Tokens}
+use Rattle.line_grammar.specs.Contents.{Content, BadTokens, NotUtf8, Tokens}
 use Rattle.line_grammar.specs.declared.line.Line.{Line}
 use Rattle.line_grammar.specs.declared.tokens.Mark.TheVariants.{Arrow}
 use Rattle.line_grammar.specs.declared.tokens.Token.{Token}

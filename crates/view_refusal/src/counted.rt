@@ -44,9 +44,9 @@ fn one_if(test: bool) -> u64
 fn tokens_on(alloc: Global, content: Content<'_>) -> Result<List<Token>, AllocError>
     ensures { IfOk result (λ tokens. tokens ≡ tokens_on content.entry) }
 {
-    match content {
-        Content::NotUtf8 => Ok(List::new(alloc)),
-        Content::BadTokens(tokens) | Content::Tokens(tokens) => tokens.owned(),
+    match content.tokens() {
+        None => Ok(List::new(alloc)),
+        Some(tokens) => tokens.owned(),
     }
 }
 
