@@ -1,4 +1,4 @@
-use Rattle.std.proofs.Common.{subst, sym, ap, ◌∙◌}
+use Rattle.std.proofs.Common.{subst, sym, ◌∙◌}
 use Rattle.std.specs.List.{AllByRecursion}
 use Rattle.line_grammar.specs.GoodTokens.{IsGoodToken}
 use Rattle.line_grammar.proofs.LeadLemmas.{line-good}
