@@ -49,7 +49,7 @@ pub enum Order {
 }
 
 /// The variables that are forced, and the demanded cells with no true variable, at the nearest node that is no leaf.
-#[derive(Debug, Drop)]
+#[derive(Debug)]
 pub struct Hints {
     alloc: Global,
     // The clauses that watch each literal.
@@ -74,32 +74,69 @@ pub struct Hints {
     recency: Recency,
 }
 
+// By hand, so that whatever drops hints calls this, and isn't proved for each of their parts.
+impl Drop for Hints {
+    fn drop(self) {
+        let Hints {
+            alloc: _,
+            watching: _,
+            watched: _,
+            by_var: _,
+            hinted: _,
+            entered: _,
+            forced: _,
+            cells: _,
+            wanted: _,
+            learned: _,
+            learned_literals: _,
+            conflict: _,
+            order: _,
+            recency: _,
+        } = self;
+    }
+}
+
 impl Hints {
     /// The hints at the root.
     pub fn new(alloc: Global, clauses: &Clauses, order: Order) -> Result<Hints, AllocError> {
-        let mut hints = Hints {
+        let mut hints = Hints::none(alloc, clauses, order)?;
+        hints.begin(clauses)?;
+        Ok(hints)
+    }
+
+    // No hint, and no clause or cell to look at. What takes memory at once comes first, so that little is dropped where
+    // there is none.
+    fn none(alloc: Global, clauses: &Clauses, order: Order) -> Result<Hints, AllocError> {
+        let watching = Places::new(alloc, clauses.vars())?;
+        let watched = vec![in alloc; None; clauses.clause_count()]?;
+        let by_var = vec![in alloc; None; clauses.vars()]?;
+        let recency = Recency::new(alloc, clauses)?;
+        Ok(Hints {
             alloc,
-            watching: Places::new(alloc, clauses.vars())?,
-            watched: vec![in alloc; None; clauses.clause_count()]?,
-            by_var: vec![in alloc; None; clauses.vars()]?,
+            watching,
+            watched,
+            by_var,
             hinted: Vec::new(alloc),
             entered: Vec::new(alloc),
             forced: BTreeSet::new(alloc),
-            cells: Vec::with_capacity(alloc, clauses.cells().len())?,
+            cells: Vec::new(alloc),
             wanted: BTreeSet::new(alloc),
             learned: Vec::new(alloc),
             learned_literals: 0,
             conflict: None,
             order,
-            recency: Recency::new(alloc, clauses)?,
-        };
+            recency,
+        })
+    }
+
+    fn begin(&mut self, clauses: &Clauses) -> Result<(), AllocError> {
         for at in 0..clauses.clause_count() {
-            hints.begin_clause(clauses.clause(at), at)?;
+            self.begin_clause(clauses.clause(at), at)?;
         }
         for (at, cell) in clauses.cells().iter().enumerate() {
-            hints.begin_cell(cell, at)?;
+            self.begin_cell(cell, at)?;
         }
-        Ok(hints)
+        Ok(())
     }
 
     /// Why the first variable that is forced is.

@@ -16,7 +16,7 @@ const FIRST_RESTART: u64 = 100;
 // How many literals of learned clauses are kept at most, when a restart comes.
 const MOST_LITERALS: usize = 200_000;
 
-#[derive(Debug, Drop)]
+#[derive(Debug)]
 struct Learner {
     alloc: Global,
     hints: Hints,
@@ -29,6 +29,21 @@ struct Learner {
     // The variables that a conflict rests on, while it is looked into.
     seen: Vec<bool>,
     ghost fits: { trail.vars ≡ length levels.items },
+}
+
+// By hand, so that whatever drops a learner calls this, and isn't proved for each of its parts.
+impl Drop for Learner {
+    fn drop(self) {
+        let Learner {
+            alloc: _,
+            hints: _,
+            trail: _,
+            levels: _,
+            level: _,
+            chosen: _,
+            seen: _,
+        } = self;
+    }
 }
 
 /// A model, where the search comes to one with at most so many conflicts.
@@ -266,20 +281,25 @@ impl Learner {
     // Goes back to where the last choice of this level was followed to its end.
     fn go_back(&mut self, clauses: &Clauses, level: usize) -> Result<(), AllocError> {
         for _ in 0..self.hints.depth() {
-            let depth = self.hints.depth();
-            if depth == 0 {
-                break;
-            }
-            let Some(last) = self.hints.literal_at(depth - 1) else {
-                break;
-            };
-            if self.level_of(last.var) <= level {
+            if !self.ends_above(level) {
                 break;
             }
             self.leave(clauses)?;
         }
         self.level = level;
         Ok(())
+    }
+
+    // Whether the last variable of the path got its value at a later level.
+    fn ends_above(&self, level: usize) -> bool {
+        let depth = self.hints.depth();
+        if depth == 0 {
+            return false;
+        }
+        match self.hints.literal_at(depth - 1) {
+            Some(last) => self.level_of(last.var) > level,
+            None => false,
+        }
     }
 
     // Goes back to where no choice was made. Where too much was learned, the older half is forgotten.
