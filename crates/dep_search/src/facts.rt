@@ -1,8 +1,9 @@
 //! What is known of left sides that were gone through, so that it is asked of no part of another one twice.
-ghost use Rattle.std.specs.Prelude.{◌≡◌, ℕ, ◌<◌, true, List, length, All, IfOk, IfSome, OnOk};
+ghost use Rattle.std.specs.Prelude.{◌≡◌, ℕ, ◌<◌, true, List, length, slice_index_or, All, IfOk, IfSome, OnOk};
 ghost use Rattle.std.specs.List.{list_any};
 ghost use Rattle.dep_search.specs.Found.{determines, proper_parts};
 ghost use Rattle.dep_search.specs.Settled.{AreFacts, IsClosed, IsGrouped, IsSettled, IsTable, KeepsFacts, StandAt, StandsAt, is_given, known_at, leads_of, says_all, says_of};
+ghost use Rattle.dep_search.specs.declared.settled.Settled.{Settled};
 
 use crate::grouped::{Grouped, grouped_by, leads};
 use crate::settled::{Settled, settled_by};
@@ -42,14 +43,32 @@ fn facts_of(alloc: Global, table: &Table, x: &[usize]) -> Result<Facts, AllocErr
 {
     let grouped = grouped_by(alloc, table, x)?;
     let leads = leads(alloc, table, &grouped)?;
-    let mut settled = List::new(alloc);
-    for a in 0..table.columns.len() {
-        settled.push(settled_at(alloc, table, &grouped, leads.as_slice(), a)?)?;
-    }
+    let settled = all_settled(alloc, table, &grouped, leads.as_slice())?;
     Ok(Facts {
         x: grouped.x,
         settled,
     })
+}
+
+// For each attribute, which rows settle it.
+fn all_settled(
+    alloc: Global,
+    table: &Table,
+    grouped: &Grouped,
+    leads: &[usize],
+) -> Result<List<Settled>, AllocError>
+    requires table { IsTable table.now }
+    requires grouped { IsGrouped table.now.rows.now grouped.now }
+    requires leads { leads.now ≡ leads_of table.now.rows.now table.now.support grouped.now.x }
+    ensures many { IfOk result (λ all. length all ≡ length table.now.columns.now) }
+    ensures each { IfOk result (λ all. (a : ℕ) (d : Settled) → a < length table.now.columns.now
+        → IsSettled table.now.rows.now table.now.support grouped.now.x a (slice_index_or all a d)) }
+{
+    let mut settled = List::new(alloc);
+    for a in 0..table.columns.len() {
+        settled.push(settled_at(alloc, table, grouped, leads, a)?)?;
+    }
+    Ok(settled)
 }
 
 /// Where the facts of some left sides stand. They are found out where they aren't there yet.

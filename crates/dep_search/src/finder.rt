@@ -341,8 +341,28 @@ fn push_open(
         leads: leads.as_slice(),
         places: places.as_slice(),
     };
-    let facts = facts_on(alloc, table, past.store.as_slice(), &side)?;
-    push_found_on(found, table, past.store.as_slice(), &side, &facts, most)?;
+    push_told(alloc, found, table, past, &side, most)
+}
+
+// What is found of a left side by its facts, which are kept.
+fn push_told(
+    alloc: Global,
+    found: &mut List<Candidate>,
+    table: &Table,
+    past: &mut Past,
+    side: &Side,
+    most: usize,
+) -> Result<(), FindFault>
+    requires past { IsPast table.now past.old }
+    requires side { IsSide table.now past.old.store side.now }
+    requires few { length found.old ≤ most }
+    ensures past { OnOk result (IsPast table.now past.new) }
+    ensures ok { OnOk result (found.new ≡ found.old ++ found_on table.now.rows.now table.now.support (length table.now.columns.now) side.now.number side.now.grouped.now.x) }
+    ensures few { OnOk result (length found.new ≤ most) }
+    ensures many { IfErr result (λ fault. fault ≡ TooMany → most < length (found.old ++ found_on table.now.rows.now table.now.support (length table.now.columns.now) side.now.number side.now.grouped.now.x)) }
+{
+    let facts = facts_on(alloc, table, past.store.as_slice(), side)?;
+    push_found_on(found, table, past.store.as_slice(), side, &facts, most)?;
     Ok(keep(table, past, facts)?)
 }
 
@@ -382,8 +402,38 @@ fn width(sides: &[List<usize>]) -> usize {
     }
 }
 
-/// All that are found, if they are not too many.
+// What is found of one left side after the other, if it is not too much.
 #[tactic(auto, unfolding(crate::specs::Found::all_found))]
+fn found_by_sides(
+    alloc: Global,
+    table: &Table,
+    past: &mut Past,
+    sides: &[List<usize>],
+    most: usize,
+) -> Result<List<Candidate>, FindFault>
+    requires table { IsTable table.now }
+    requires past { IsPast table.now past.old }
+    requires sides { All (λ (side : List ℕ). All (λ attr. attr < length table.now.columns.now) side) sides.now }
+    ensures ok { IfOk result (λ found. found ≡ all_found table.now.rows.now table.now.support (length table.now.columns.now) sides.now) }
+    ensures few { IfOk result (λ found. length found ≤ most) }
+    ensures many { IfErr result (λ fault. fault ≡ TooMany → most < length (all_found table.now.rows.now table.now.support (length table.now.columns.now) sides.now)) }
+{
+    let mut found = List::new(alloc);
+    for number in 0..sides.len() {
+        push_side(
+            alloc,
+            &mut found,
+            table,
+            past,
+            number,
+            sides[number].as_slice(),
+            most,
+        )?;
+    }
+    Ok(found)
+}
+
+/// All that are found, if they are not too many.
 pub fn all_found(
     alloc: Global,
     keys: HashKeys,
@@ -415,17 +465,6 @@ pub fn all_found(
         store: List::new(alloc),
         width: width(sides),
     };
-    let mut found = List::new(alloc);
-    for number in 0..sides.len() {
-        push_side(
-            alloc,
-            &mut found,
-            &table,
-            &mut past,
-            number,
-            sides[number].as_slice(),
-            most,
-        )?;
-    }
+    let found = found_by_sides(alloc, &table, &mut past, sides, most)?;
     Ok(found)
 }

@@ -2,7 +2,7 @@ use Rattle.std.proofs.Common.{◌≡◌, ℕ, ◌<◌, length}
 use Rattle.std.specs.Prelude.{slice_index_or}
 use Rattle.dep_search.specs.Settled.{IsSettled}
 use Rattle.dep_search.specs.declared.settled.Settled.{Settled}
-use Rattle.dep_search.proofs.facts.facts_of.Given as goal
+use Rattle.dep_search.proofs.facts.all_settled.Given as goal
 
 abbrev pub invariant-loop-a : goal.invariant-loop-a
 invariant-loop-a l = record {
