@@ -20,7 +20,7 @@ pub struct CfdRow {
 
 /// A conditional functional dependency. Rows that agree on the attributes of the left list and match a
 /// tableau row there agree on those of the right list and match it there.
-#[derive(Debug, Drop)]
+#[derive(Debug)]
 pub struct CfdDecl {
     pub name: Text,
     pub table: Text,
@@ -29,9 +29,22 @@ pub struct CfdDecl {
     pub rows: List<CfdRow>,
 }
 
+// By hand, so that whatever drops a declaration calls this, and isn't proved for each of its parts.
+impl Drop for CfdDecl {
+    fn drop(self) {
+        let CfdDecl {
+            name: _,
+            table: _,
+            x: _,
+            y: _,
+            rows: _,
+        } = self;
+    }
+}
+
 /// A conditional inclusion dependency. For each row of the left table that has the constants of a tableau
 /// row, the right table has a row with the same values and with the constants of the other side.
-#[derive(Debug, Drop)]
+#[derive(Debug)]
 pub struct CindDecl {
     pub name: Text,
     pub left: Text,
@@ -43,9 +56,25 @@ pub struct CindDecl {
     pub rows: List<CindRow>,
 }
 
+// By hand, as for a conditional functional dependency.
+impl Drop for CindDecl {
+    fn drop(self) {
+        let CindDecl {
+            name: _,
+            left: _,
+            x: _,
+            xp: _,
+            right: _,
+            y: _,
+            yp: _,
+            rows: _,
+        } = self;
+    }
+}
+
 /// An editing rule. A row that agrees with a row of the master table and matches the pattern takes the
 /// value of the target from there.
-#[derive(Debug, Drop)]
+#[derive(Debug)]
 pub struct EditDecl {
     pub name: Text,
     pub table: Text,
@@ -55,6 +84,22 @@ pub struct EditDecl {
     pub target: Text,
     pub source: Text,
     pub when: List<(Text, EditCell)>,
+}
+
+// By hand, as for a conditional functional dependency.
+impl Drop for EditDecl {
+    fn drop(self) {
+        let EditDecl {
+            name: _,
+            table: _,
+            master: _,
+            x: _,
+            xm: _,
+            target: _,
+            source: _,
+            when: _,
+        } = self;
+    }
 }
 
 #[derive(Debug, Drop)]

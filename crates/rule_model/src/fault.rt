@@ -8,7 +8,7 @@ use std::alloc::AllocError;
 use thiserror::Error;
 
 /// What is wrong with a declaration. The variants stand in the order in which they are tested.
-#[derive(Debug, Drop, Error)]
+#[derive(Debug, Error)]
 pub enum RuleFault {
     /// An earlier declaration has the name.
     #[error("an earlier rule has this name")]
@@ -46,6 +46,26 @@ pub enum RuleFault {
     /// The book would pass its limit.
     #[error("there are too many: {0:?}")]
     TooMany(Limit),
+}
+
+// By hand, so that whatever drops a fault calls this, and isn't proved for each kind of fault.
+impl Drop for RuleFault {
+    fn drop(self) {
+        match self {
+            RuleFault::DuplicateRule(_)
+            | RuleFault::UnknownTable(_)
+            | RuleFault::NotMaster(_)
+            | RuleFault::UnknownAttr(_)
+            | RuleFault::RepeatedAttr(_)
+            | RuleFault::NoMatchColumn
+            | RuleFault::TargetInX(_)
+            | RuleFault::WidthMismatch
+            | RuleFault::ConstantOutsideDomain { attr: _, value: _ }
+            | RuleFault::RepeatedConstant { attr: _, value: _ }
+            | RuleFault::DomainMismatch(_)
+            | RuleFault::TooMany(_) => {}
+        }
+    }
 }
 
 /// Why a declaration did not join a book.
