@@ -17,10 +17,20 @@ pub enum Question {
     Implies(CfdDecl),
 }
 
-#[derive(Debug, Drop)]
+#[derive(Debug)]
 pub struct Asked {
     pub line: usize,
     pub question: Question,
+}
+
+// By hand, so that whatever drops what was asked calls this, and isn't proved for each kind of question.
+impl Drop for Asked {
+    fn drop(self) {
+        let Asked {
+            line: _,
+            question: _,
+        } = self;
+    }
 }
 
 #[derive(Debug, Drop)]
@@ -36,11 +46,22 @@ pub struct NodeLine {
 }
 
 /// A tree of cases, which leaves none open, or of which the budget of leaves was spent.
-#[derive(Debug, Drop)]
+#[derive(Debug)]
 pub struct TreeLines {
     pub line: usize,
     pub budget: Option<u64>,
     pub nodes: TreeNodes,
+}
+
+// By hand, as for what was asked.
+impl Drop for TreeLines {
+    fn drop(self) {
+        let TreeLines {
+            line: _,
+            budget: _,
+            nodes: _,
+        } = self;
+    }
 }
 
 #[derive(Debug, Drop)]
@@ -51,10 +72,20 @@ pub enum Answer {
 }
 
 /// What a certificate says.
-#[derive(Debug, Drop)]
+#[derive(Debug)]
 pub struct CertParts {
     pub asked: Asked,
     pub answer: Answer,
+}
+
+// By hand, as for what was asked.
+impl Drop for CertParts {
+    fn drop(self) {
+        let CertParts {
+            asked: _,
+            answer: _,
+        } = self;
+    }
 }
 
 /// A certificate that can be written: the answer is one to the question, its nodes are one tree, and its names are names.

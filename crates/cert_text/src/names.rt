@@ -26,9 +26,18 @@ pub enum ReasonName {
     NoneOf(CellName),
 }
 
-#[derive(Debug, Drop)]
+#[derive(Debug)]
 pub enum NodeName {
     Split(VarName),
     Leaf(ReasonName),
     Open,
+}
+
+// By hand, so that whatever drops a node calls this, and isn't proved for each kind of node.
+impl Drop for NodeName {
+    fn drop(self) {
+        match self {
+            NodeName::Split(_) | NodeName::Leaf(_) | NodeName::Open => {}
+        }
+    }
 }
