@@ -2,7 +2,7 @@
 use row_store::RowId;
 use text_lists::text::{Text, Texts};
 
-#[derive(Debug, Drop)]
+#[derive(Debug)]
 pub enum Edit {
     /// A new row, at the table's next id.
     Insert {
@@ -26,4 +26,28 @@ pub enum Edit {
         row: RowId,
         values: Texts,
     },
+}
+
+// By hand, so that whatever drops an edit calls this, and isn't proved for each kind of edit.
+impl Drop for Edit {
+    fn drop(self) {
+        match self {
+            Edit::Insert {
+                table: _,
+                values: _,
+            }
+            | Edit::Set {
+                table: _,
+                row: _,
+                attr: _,
+                value: _,
+            }
+            | Edit::Delete { table: _, row: _ }
+            | Edit::Fix {
+                table: _,
+                row: _,
+                values: _,
+            } => {}
+        }
+    }
 }
