@@ -4,16 +4,23 @@ use std::alloc::{AllocError, Global};
 
 /// The program with its forms.
 pub fn view_command<'a>(alloc: Global) -> Result<Command<'a>, AllocError> {
-    Command::new(alloc, "cfdview")
+    let command = Command::new(alloc, "cfdview")
         .version("1.0")
         .about("Shows people what a project holds.")
         .arg_required_else_help(true)
-        .subcommand_required(true)
-        .subcommand(list_command(alloc)?)?
-        .subcommand(row_command(alloc)?)?
-        .subcommand(check_command(alloc)?)?
-        .subcommand(schema_command(alloc)?)?
-        .subcommand(page_command(alloc)?)
+        .subcommand_required(true);
+    let command = with_form(command, list_command(alloc))?;
+    let command = with_form(command, row_command(alloc))?;
+    let command = with_form(command, check_command(alloc))?;
+    let command = with_form(command, schema_command(alloc))?;
+    with_form(command, page_command(alloc))
+}
+
+fn with_form<'a>(
+    command: Command<'a>,
+    form: Result<Command<'a>, AllocError>,
+) -> Result<Command<'a>, AllocError> {
+    command.subcommand(form?)
 }
 
 fn list_command<'a>(alloc: Global) -> Result<Command<'a>, AllocError> {
@@ -27,15 +34,11 @@ fn list_command<'a>(alloc: Global) -> Result<Command<'a>, AllocError> {
 }
 
 fn row_command<'a>(alloc: Global) -> Result<Command<'a>, AllocError> {
-    let table = wanted(alloc, "TABLE").help("The table in which it stands");
-    let row = wanted(alloc, "ROW")
-        .help("Its id")
-        .value_parser(value_parser!(u64).range(1..));
     Command::new(alloc, "row")
         .about("One row: its values and what it breaks")
         .arg(project(alloc))?
-        .arg(table)?
-        .arg(row)?
+        .arg(wanted(alloc, "TABLE").help("The table in which it stands"))?
+        .arg(row(alloc))?
         .arg(vouch(alloc))?
         .arg(loaded(alloc))
 }
@@ -71,6 +74,12 @@ fn wanted<'a>(alloc: Global, id: &'a str) -> Arg<'a> {
 
 fn project<'a>(alloc: Global) -> Arg<'a> {
     wanted(alloc, "PROJECT").help("The file that names the tables, the rules and the script")
+}
+
+fn row<'a>(alloc: Global) -> Arg<'a> {
+    wanted(alloc, "ROW")
+        .help("Its id")
+        .value_parser(value_parser!(u64).range(1..))
 }
 
 fn table<'a>(alloc: Global) -> Arg<'a> {

@@ -1,8 +1,8 @@
 //! What is told of help, and of words that ask for nothing that there is.
 use crate::command::view_command;
 use crate::form::{is_form, is_version};
-use clap::Error;
 use clap::error::ErrorKind;
+use clap::{Command, Error};
 use std::alloc::{AllocError, Global};
 use text_lists::Text;
 
@@ -34,6 +34,16 @@ pub fn fault_text(alloc: Global, words: &[Text]) -> Result<String, AllocError> {
 
 fn text_of(alloc: Global, words: &[&str]) -> Result<String, AllocError> {
     let mut command = view_command(alloc)?;
+    let text = text_by(alloc, &mut command, words);
+    drop(command);
+    text
+}
+
+fn text_by<'a>(
+    alloc: Global,
+    command: &mut Command<'a>,
+    words: &'a [&str],
+) -> Result<String, AllocError> {
     let error = match command.try_get_matches_from_mut(words) {
         Ok(_) => command.error(ErrorKind::ValueValidation, NO_FORM)?,
         Err(error) => error,
