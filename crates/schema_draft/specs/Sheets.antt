@@ -24,6 +24,11 @@ abbrev pub texts_fault : Limits → ℕ → ℕ → List (List (List ℕ)) → O
 texts_fault limits width number [] = None
 texts_fault limits width number (fields ∷ rest) = option_or (text_fault limits width number fields) (texts_fault limits width (number + 1) rest)
 
+-- the fault of the first of a file's records, the header
+abbrev pub header_fault : List (List (List ℕ)) → Option TableFault
+header_fault [] = Some fault.NoHeader
+header_fault (header ∷ rest) = unless_texts 0 header
+
 -- the first fault of a file's records, of which the first is the header and has the number 0
 abbrev pub sheet_fault : Limits → List (List (List ℕ)) → Option TableFault
 sheet_fault limits [] = Some fault.NoHeader

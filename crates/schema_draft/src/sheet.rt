@@ -1,13 +1,13 @@
 //! A table file by itself: the table that its header names, and its rows as they stand.
 
-ghost use Rattle.std.specs.Prelude.{◌≡◌, ◌≤◌, IfOk, OnOk, Some, slice_get};
+ghost use Rattle.std.specs.Prelude.{◌≡◌, ◌≤◌, ◌∷◌, IfOk, OnOk, Some, slice_get};
 ghost use Rattle.csv.specs.Records.{fields_of};
 ghost use Rattle.csv_tables.specs.Faults.{IsFirstFault, table_tells};
 ghost use Rattle.csv_tables.specs.Records.{file_records};
 ghost use Rattle.csv_tables.specs.TableFiles.{text_fault};
 ghost use Rattle.line_grammar.specs.Faults.{IsUnlessMemory};
 ghost use Rattle.text_lists.specs.Limits.{AreLimits};
-ghost use Rattle.schema_draft.specs.Sheets.{any_texts, record_count, sheet_of, text_record, texts_fault, unless_texts};
+ghost use Rattle.schema_draft.specs.Sheets.{any_texts, header_fault, record_count, sheet_of, text_record, texts_fault, unless_texts};
 
 use csv::ByteRecord;
 use csv_tables::{FileRecords, TableFault, field_text, has_longer_field};
@@ -33,15 +33,23 @@ pub fn read_sheet(
     ensures exact { IsUnlessMemory table_tells (sheet_of table.now limits.now bytes.now) result }
 {
     let mut records = FileRecords::new(alloc, bytes);
+    let names = header_of(alloc, &mut records)?;
+    let attrs = any_texts(alloc, names.as_slice())?;
+    let rows = read_rows(alloc, limits, names.as_slice().len(), records)?;
+    let table = with_attrs(table, attrs)?;
+    Ok(Sheet { table, rows })
+}
+
+// The texts of the header, which is the first of the records.
+fn header_of(alloc: Global, records: &mut FileRecords) -> Result<Texts, TableFault>
+    ensures fault { IsFirstFault (header_fault records.old) result }
+    ensures header { IfOk result (λ header. records.old ≡ header ∷ records.new) }
+{
     let mut header = ByteRecord::new(alloc);
     if !records.next(&mut header)? {
         return Err(TableFault::NoHeader);
     }
-    let names = texts_of(alloc, 0, &header)?;
-    let attrs = any_texts(alloc, names.as_slice())?;
-    let rows = read_rows(alloc, limits, header.len(), records)?;
-    let table = with_attrs(table, attrs)?;
-    Ok(Sheet { table, rows })
+    texts_of(alloc, 0, &header)
 }
 
 fn with_attrs(table: &Table, attrs: List<Attr>) -> Result<Table, AllocError>
