@@ -15,41 +15,40 @@ use std::alloc::{AllocError, Global};
 use std::collections::BTreeSet;
 
 /// A literal that makes the reason hold as soon as it is true, so that its variable is forced.
-#[derive(Clone, Copy, Debug, PartialEq, Eq)]
+#[derive(Clone, Copy)]
 pub struct Hint {
     pub literal: Literal,
     pub reason: Reason,
 }
 
-#[derive(Clone, Copy, Debug, PartialEq, Eq)]
+#[derive(Clone, Copy)]
 struct Watched {
     one: Literal,
     other: Literal,
 }
 
 // A literal of the path, and how many variables had a hint above it.
-#[derive(Clone, Copy, Debug, PartialEq, Eq)]
+#[derive(Clone, Copy)]
 struct Entered {
     literal: Literal,
     before: usize,
 }
 
 // How many variables of a cell have no value, and how many are true.
-#[derive(Clone, Copy, Debug, PartialEq, Eq)]
+#[derive(Clone, Copy)]
 struct CellState {
     open: usize,
     chosen: usize,
 }
 
 /// The order of the splits on variables that aren't forced: by their places, or the one of the latest conflict first.
-#[derive(Clone, Copy, Debug, PartialEq, Eq)]
+#[derive(Clone, Copy, PartialEq, Eq)]
 pub enum Order {
     ByPlace,
     ByConflicts,
 }
 
 /// The variables that are forced, and the demanded cells with no true variable, at the nearest node that is no leaf.
-#[derive(Debug)]
 pub struct Hints {
     alloc: Global,
     // The clauses that watch each literal.

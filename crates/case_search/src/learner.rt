@@ -16,7 +16,6 @@ const FIRST_RESTART: u64 = 100;
 // How many literals of learned clauses are kept at most, when a restart comes.
 const MOST_LITERALS: usize = 200_000;
 
-#[derive(Debug)]
 struct Learner {
     alloc: Global,
     hints: Hints,

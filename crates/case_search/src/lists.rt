@@ -6,7 +6,7 @@ use std::alloc::{AllocError, Global};
 use std::marker::Model;
 
 /// The places of clauses in a list for each variable.
-#[derive(Debug, Drop)]
+#[derive(Drop)]
 pub struct Lists {
     lists: Vec<Vec<usize>>,
 }

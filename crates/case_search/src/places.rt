@@ -9,7 +9,7 @@ use std::alloc::{AllocError, Global};
 use std::marker::Model;
 
 /// The places of clauses in a list for each variable and sign.
-#[derive(Debug, Drop)]
+#[derive(Drop)]
 pub struct Places {
     positive: Lists,
     negative: Lists,

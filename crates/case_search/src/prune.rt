@@ -6,7 +6,7 @@ use std::alloc::{AllocError, Global};
 use std::collections::BTreeSet;
 
 // The variables that the leaves of a subtree name and that are split on above it, and where its nodes end.
-#[derive(Debug, Drop)]
+#[derive(Drop)]
 struct Subtree {
     needs: BTreeSet<usize>,
     end: usize,

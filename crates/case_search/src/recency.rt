@@ -3,7 +3,7 @@ use case_tree::Clauses;
 use std::alloc::{AllocError, Global};
 
 /// The number of the latest conflict that each variable and each cell was part of, or 0.
-#[derive(Debug, Drop)]
+#[derive(Drop)]
 pub struct Recency {
     conflicts: u64,
     vars: Vec<u64>,

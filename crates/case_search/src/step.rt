@@ -17,7 +17,7 @@ use case_tree::{Clauses, Literal, Reason, Trail, VarCell, holds};
 use std::alloc::AllocError;
 
 /// A leaf, since a reason holds; a split; or the end, since all clauses can be made true.
-#[derive(Clone, Copy, Debug, PartialEq, Eq)]
+#[derive(Clone, Copy)]
 pub enum Step {
     Leaf(Reason),
     Split(usize),
