@@ -11,7 +11,7 @@ pub enum Kind {
 }
 
 /// A tuple that answers the question, a tree that leaves no case open, or one of which the budget of leaves was spent.
-#[derive(Debug, Drop)]
+#[derive(Drop)]
 pub enum AnswerLine {
     Values(Texts),
     Closed,
@@ -19,7 +19,7 @@ pub enum AnswerLine {
 }
 
 /// What was read of a certificate so far.
-#[derive(Debug, Drop)]
+#[derive(Drop)]
 pub enum Draft {
     Nothing,
     Asked(Asked),
