@@ -1,5 +1,5 @@
 -- A declaration in which no fault is found stands for valid rules.
-use Rattle.std.proofs.Common.{◌≡◌, ℕ, zero, suc, ◌+◌, ◌<◌, ◌≤◌, true, not, nat_eq, ◌&&◌, List, [], ◌∷◌, ◌++◌, length, get_or, drop, map, Option, None, All, refl, sym, ap, ◌∙◌, subst, arith}
+use Rattle.std.proofs.Common.{◌≡◌, ℕ, zero, suc, ◌<◌, ◌≤◌, true, not, nat_eq, ◌&&◌, List, [], ◌∷◌, ◌++◌, length, get_or, drop, map, Option, None, All, refl, sym, ap, ◌∙◌, subst, arith}
 use Rattle.std.specs.Prelude.{slice_index}
 use Rattle.std.specs.List.{AllByRecursion, AllZip, zip, list_all}
 use Rattle.std.specs.Option.{option_or}

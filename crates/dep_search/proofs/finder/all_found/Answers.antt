@@ -1,5 +1,4 @@
 use Rattle.std.proofs.Common.{◌≡◌, ◌<◌, All, subst, length, ap, sym, ◌∙◌}
-use Rattle.std.proofs.lemmas.Result.{err_from_is_err_and}
 use Rattle.dep_search.specs.Keys.{IsCandidate}
 use Rattle.dep_search.specs.declared.candidate.Candidate.{Candidate}
 use Rattle.dep_search.proofs.Candidates.{found_attrs, found_candidates}
