@@ -17,7 +17,7 @@ use std::alloc::AllocError;
 use std::sync::ledger::Ledger;
 
 /// Which way a change is gone over.
-#[derive(Clone, Copy, Debug)]
+#[derive(Clone, Copy)]
 pub enum Direction {
     /// It is taken back.
     Back,

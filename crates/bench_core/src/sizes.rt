@@ -10,7 +10,7 @@ use schema_core::Limits;
 use std::alloc::{AllocError, Global};
 
 /// The rows and cells of all tables together, and what each row of a table weighs.
-#[derive(Debug, Drop)]
+#[derive(Drop)]
 pub struct Counts {
     pub weights: Vec<u64>,
     pub rows: u64,

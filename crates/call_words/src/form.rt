@@ -8,7 +8,7 @@ use std::alloc::{AllocError, Global};
 use text_lists::Text;
 
 /// What the words ask for, with the words after the first.
-#[derive(Debug, Drop)]
+#[derive(Drop)]
 pub enum Form {
     /// `run PROJECT`
     Run {

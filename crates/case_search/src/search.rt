@@ -19,7 +19,7 @@ use std::alloc::{AllocError, Global};
 
 /// A model gives each variable a value under which all clauses and cells hold. A refuted clause set comes with the tree
 /// that refutes it, and where the budget is spent with the tree so far.
-#[derive(Debug, Drop)]
+#[derive(Drop)]
 pub enum Found {
     Model(Vec<bool>),
     Refuted(Tree),

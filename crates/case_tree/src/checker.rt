@@ -12,7 +12,7 @@ use std::marker::Model;
 
 /// What a tree shows: every node is right and none is unclosed, or one is unclosed, or the place of the first
 /// node that isn't right. `leaves` counts the leaf nodes.
-#[derive(Clone, Copy, Debug, PartialEq, Eq)]
+#[derive(Clone, Copy, PartialEq, Eq)]
 pub enum Checked {
     Closed { leaves: u64 },
     Partial { leaves: u64 },
@@ -20,7 +20,7 @@ pub enum Checked {
 }
 
 /// Room for the path of a node among `vars` variables, made once and used for any number of trees.
-#[derive(Debug, Drop)]
+#[derive(Drop)]
 pub struct Path {
     trail: Trail,
 }

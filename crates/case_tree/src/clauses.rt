@@ -6,14 +6,14 @@ ghost use Rattle.case_tree.specs.CaseTree.{FollowFrom, IsIn, IsWellFormed, claus
 use std::marker::Model;
 
 /// A variable, or its negation.
-#[derive(Clone, Copy, Debug, PartialEq, Eq)]
+#[derive(Clone, Copy, PartialEq, Eq)]
 pub struct Literal {
     pub var: usize,
     pub positive: bool,
 }
 
 /// The variables `first..first + count`, of which at most one is true, and exactly one where `demanded`.
-#[derive(Clone, Copy, Debug, PartialEq, Eq)]
+#[derive(Clone, Copy, PartialEq, Eq)]
 pub struct VarCell {
     pub first: usize,
     pub count: usize,
@@ -21,7 +21,7 @@ pub struct VarCell {
 }
 
 /// A list of clauses, each a list of literals of which one is to be true.
-#[derive(Debug, Drop)]
+#[derive(Drop)]
 pub struct Clauses {
     cells: Vec<VarCell>,
     clauses: Vec<Vec<Literal>>,

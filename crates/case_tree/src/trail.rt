@@ -9,7 +9,7 @@ use std::marker::Model;
 
 /// The literals that the splits above a node made true, and the value of each variable beside them, so that a
 /// look-up passes over no path. It takes memory when it is made and never again.
-#[derive(Debug, Drop)]
+#[derive(Drop)]
 pub struct Trail {
     values: Vec<Option<bool>>,
     splits: Vec<Literal>,

@@ -6,7 +6,7 @@ use std::marker::Model;
 
 /// Why no assignment goes on from a leaf: a clause that is false, two true variables of one cell, or a demanded
 /// cell none of whose variables is true. Clauses and cells go by their place, variables by their number.
-#[derive(Clone, Copy, Debug, PartialEq, Eq)]
+#[derive(Clone, Copy, PartialEq, Eq)]
 pub enum Reason {
     Clause(usize),
     Two(usize, usize),
@@ -14,7 +14,7 @@ pub enum Reason {
 }
 
 /// A split on a variable, whose two subtrees follow, the true one first; a leaf; or a subtree that isn't there.
-#[derive(Clone, Copy, Debug, PartialEq, Eq)]
+#[derive(Clone, Copy, PartialEq, Eq)]
 pub enum Node {
     Split(usize),
     Leaf(Reason),
@@ -22,7 +22,7 @@ pub enum Node {
 }
 
 /// The nodes of one tree in preorder.
-#[derive(Debug, Drop)]
+#[derive(Drop)]
 pub struct Tree {
     nodes: Vec<Node>,
 }

@@ -4,7 +4,7 @@ use crate::cert::{Asked, CertParts, TreeLines, TupleLine};
 use text_lists::Texts;
 
 /// Whether a question is about one tuple or about two.
-#[derive(Clone, Copy, Debug, PartialEq, Eq)]
+#[derive(Clone, Copy, PartialEq, Eq)]
 pub enum Kind {
     Consistency,
     Implication,

@@ -12,13 +12,13 @@ use std::marker::Model;
 use text_lists::List;
 
 /// The line of a node, and the place of its form.
-#[derive(Clone, Copy, Debug)]
+#[derive(Clone, Copy)]
 pub struct NodePlace {
     pub line: usize,
     pub form: usize,
 }
 
-#[derive(Debug, Drop)]
+#[derive(Drop)]
 pub struct TreeNodes {
     forms: List<NodeName>,
     places: List<NodePlace>,

@@ -15,7 +15,7 @@ use thiserror::Error;
 
 /// A tuple that alone satisfies all dependencies; a tree that refutes the question, and then none does; or the tree so
 /// far, where the budget is spent.
-#[derive(Debug, Drop)]
+#[derive(Drop)]
 pub enum Consistency {
     Witness(Texts),
     Never(Tree),

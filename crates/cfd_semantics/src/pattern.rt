@@ -7,7 +7,7 @@ use std::alloc::{AllocError, Global};
 use text_lists::{List, Text};
 
 /// What a cell asks of a value: nothing, to be the constant, to be in the set, or not to be in it.
-#[derive(Debug, Drop)]
+#[derive(Drop)]
 pub enum Pattern<V> {
     Any,
     Is(V),

@@ -8,7 +8,7 @@ use text_lists::{List, Text};
 
 /// Values, in their order. They lie behind a pointer, since most cells of a tableau are no sets and a cell is as large as
 /// the largest that it can be.
-#[derive(Debug, Drop)]
+#[derive(Drop)]
 pub struct ValueSet<V> {
     list: Box<List<V>>,
 }

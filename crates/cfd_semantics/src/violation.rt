@@ -15,7 +15,7 @@ use std::alloc::{AllocError, Global};
 use text_lists::List;
 
 /// A violation of a tableau row: the row, and its least partner where the two are a pair.
-#[derive(Clone, Copy, PartialEq, Eq, Debug)]
+#[derive(Clone, Copy, PartialEq, Eq)]
 pub struct Violation {
     pub row: u64,
     pub partner: Option<u64>,

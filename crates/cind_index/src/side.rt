@@ -1,7 +1,7 @@
 //! The two sides of an inclusion.
 
 /// The side of the rows that ask for an answer, and the side of the rows that answer.
-#[derive(Debug, Clone, Copy)]
+#[derive(Clone, Copy)]
 pub enum Side {
     Left,
     Right,

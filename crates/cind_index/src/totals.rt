@@ -13,7 +13,7 @@ use value_pool::ValueId;
 const MOST_ROWS: usize = 8;
 
 /// Whether the orphans of a key come in, or go away.
-#[derive(Debug, Clone, Copy)]
+#[derive(Clone, Copy)]
 pub(crate) enum Change {
     Comes,
     Goes,

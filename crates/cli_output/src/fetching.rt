@@ -9,7 +9,7 @@ use shelf_io::{FetchFault, Shelf};
 use std::alloc::{AllocError, AllocFailed};
 
 /// Why files aren't read to the end.
-#[derive(Debug, Drop)]
+#[derive(Drop)]
 pub enum Stop {
     Refused(Refusal),
     ReadFault,

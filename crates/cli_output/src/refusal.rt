@@ -10,7 +10,7 @@ use schema_core::{Limit, SchemaCause, Text, push_number, push_quoted};
 use std::alloc::{AllocError, Global};
 
 /// What is wrong with a line of a file that has no causes of its own: a script, a file of events, or a certificate.
-#[derive(Clone, Copy, Debug, PartialEq, Eq)]
+#[derive(Clone, Copy, PartialEq, Eq)]
 pub enum LineFlaw {
     NotUtf8,
     /// The line is not in the grammar at its place.
@@ -19,7 +19,7 @@ pub enum LineFlaw {
 }
 
 /// Why a file or a word is refused.
-#[derive(Debug, Drop)]
+#[derive(Drop)]
 pub enum Cause {
     Absent,
     TooLarge,
@@ -36,7 +36,6 @@ pub enum Cause {
 }
 
 /// What is refused, the name of a file or a word, and why.
-#[derive(Debug)]
 pub struct Refusal {
     pub what: Text,
     pub cause: Cause,

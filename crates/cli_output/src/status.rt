@@ -1,7 +1,7 @@
 //! How a call ends.
 
 /// How a call ends. The program's exit status is the number.
-#[derive(Clone, Copy, Debug, PartialEq, Eq)]
+#[derive(Clone, Copy, PartialEq, Eq)]
 pub enum Status {
     /// Answered to the end, nothing found.
     Clean,

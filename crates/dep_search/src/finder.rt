@@ -184,7 +184,7 @@ fn push_found_at(
 }
 
 /// Why nothing is given: more were found than asked for, or memory ran out.
-#[derive(Clone, Copy, Debug, PartialEq, Eq)]
+#[derive(Clone, Copy, PartialEq, Eq)]
 pub enum FindFault {
     TooMany,
     Memory,

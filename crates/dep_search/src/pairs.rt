@@ -12,7 +12,7 @@ use std::slice;
 use text_lists::List;
 
 /// Two rows.
-#[derive(Clone, Copy, Debug)]
+#[derive(Clone, Copy)]
 pub struct Pair {
     pub one: usize,
     pub other: usize,

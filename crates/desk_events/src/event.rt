@@ -4,7 +4,7 @@ use line_grammar::LineFault;
 use text_lists::{Limit, Text, Texts};
 
 /// What an editor does. A row's version, as its editor saw it, is `seen`.
-#[derive(Debug, Drop)]
+#[derive(Drop)]
 pub enum Act {
     /// Adds a row.
     Insert {
@@ -37,14 +37,14 @@ pub enum Act {
 }
 
 /// One line of a file of events: what the named editor does.
-#[derive(Debug, Drop)]
+#[derive(Drop)]
 pub struct Event {
     pub editor: Text,
     pub act: Act,
 }
 
 /// What is wrong with a line of a file of events.
-#[derive(Clone, Copy, Debug, PartialEq, Eq)]
+#[derive(Clone, Copy, PartialEq, Eq)]
 pub enum EventCause {
     NotUtf8,
     BadLine,

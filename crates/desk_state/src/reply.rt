@@ -5,7 +5,7 @@ use schema_core::{List, Texts};
 use violation_report::Line;
 
 /// The answer to an event. All but the first are answers that leave the desk as it is.
-#[derive(Debug, Drop)]
+#[derive(Drop)]
 pub enum Reply {
     /// The edit is accepted, and this is its row with its new version.
     Done {

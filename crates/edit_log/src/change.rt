@@ -2,7 +2,6 @@
 use row_store::{RowId, Tuple};
 
 /// The row's tuple before and after. An inserted row has no old one, a deleted row no new one.
-#[derive(Debug)]
 pub struct Change {
     pub table: usize,
     pub row: RowId,

@@ -2,7 +2,6 @@
 use row_store::RowId;
 use text_lists::text::{Text, Texts};
 
-#[derive(Debug)]
 pub enum Edit {
     /// A new row, at the table's next id.
     Insert {

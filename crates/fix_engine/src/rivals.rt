@@ -16,7 +16,7 @@ use std::alloc::{AllocError, Global};
 use value_pool::ValueId;
 
 /// A run that ends in another tuple, and the first attribute at which that differs.
-#[derive(Debug, Drop)]
+#[derive(Drop)]
 pub(crate) struct Rival {
     pub(crate) run: Run,
     pub(crate) attr: usize,

@@ -6,7 +6,7 @@ use value_pool::ValueId;
 
 /// What the fix of a tuple is: the tuple and the validated attributes at which all maximal runs end, with one of
 /// these runs; or two maximal runs, and the first attribute at which their tuples differ.
-#[derive(Debug, Drop)]
+#[derive(Drop)]
 pub enum Verdict {
     Unique {
         tuple: List<ValueId>,

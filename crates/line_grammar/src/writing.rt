@@ -13,7 +13,7 @@ use itoa::Buffer;
 use std::alloc::AllocError;
 
 /// A part of a line: a blank or a token.
-#[derive(Debug, Drop, PartialEq, Eq)]
+#[derive(Drop, PartialEq, Eq)]
 pub enum Part {
     Space,
     Tab,

@@ -3,7 +3,7 @@
 use text_lists::List;
 
 /// Columns of a master table, by which its rows are looked up.
-#[derive(Debug, Drop)]
+#[derive(Drop)]
 pub struct ColumnList {
     pub master: usize,
     pub columns: List<usize>,

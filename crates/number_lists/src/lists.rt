@@ -11,7 +11,7 @@ use std::alloc::Global;
 use text_lists::List;
 
 /// What is wrong with a line. This grammar has no other causes than every grammar has.
-#[derive(Clone, Copy, Debug, PartialEq, Eq)]
+#[derive(Clone, Copy, PartialEq, Eq)]
 pub enum NumberCause {
     NotUtf8,
     BadLine,

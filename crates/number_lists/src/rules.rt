@@ -10,7 +10,7 @@ use std::alloc::Global;
 use text_lists::{List, Text};
 
 /// A line of the file.
-#[derive(Debug, Drop)]
+#[derive(Drop)]
 pub struct NumberList {
     pub name: Text,
     pub numbers: List<u64>,

@@ -17,7 +17,7 @@ use text_lists::{List, Text};
 use violation_groups::Findings;
 
 /// How many of each kind are shown, and whether the tables are shown as they were read.
-#[derive(Clone, Copy, Debug, PartialEq, Eq)]
+#[derive(Clone, Copy, PartialEq, Eq)]
 pub struct Options {
     pub first: usize,
     pub loaded: bool,

@@ -10,14 +10,14 @@ use std::alloc::AllocError;
 use text_lists::List;
 
 /// How many of each kind are shown of a table, and how many rows of it were read.
-#[derive(Clone, Copy, Debug, PartialEq, Eq)]
+#[derive(Clone, Copy, PartialEq, Eq)]
 pub struct Shown {
     pub first: usize,
     pub read: u64,
 }
 
 /// How many rows were read of each table, and how many it has now.
-#[derive(Debug, Drop)]
+#[derive(Drop)]
 pub struct RowCounts {
     pub read: List<u64>,
     pub present: List<u64>,

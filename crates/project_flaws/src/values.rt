@@ -17,7 +17,7 @@ use schema_core::{Attr, Domain, List, Table, Text, push_quoted};
 use std::alloc::{AllocError, Global};
 
 /// Whether a value can stand in a row that satisfies the dependencies of its table.
-#[derive(Clone, Copy, Debug, PartialEq, Eq)]
+#[derive(Clone, Copy, PartialEq, Eq)]
 pub enum MayStand {
     Yes,
     Never,
@@ -26,7 +26,7 @@ pub enum MayStand {
 }
 
 /// What is known of a value of the domain of an attribute.
-#[derive(Debug, Drop)]
+#[derive(Drop)]
 pub struct ValueVerdict {
     pub attr: usize,
     pub value: Text,

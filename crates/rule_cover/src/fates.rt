@@ -9,7 +9,7 @@ use std::alloc::AllocError;
 use thiserror::Error;
 
 /// A dependency by its number, and one of its tableau rows. Both are numbered from 0.
-#[derive(Clone, Copy, Debug, PartialEq, Eq)]
+#[derive(Clone, Copy, PartialEq, Eq)]
 pub struct Piece {
     pub dep: usize,
     pub row: usize,
@@ -17,7 +17,7 @@ pub struct Piece {
 
 /// A tree shows that the others imply the piece; or two tuples that satisfy the others and not the piece show that they
 /// don't; or the budget is spent, and the piece stays too.
-#[derive(Debug, Drop)]
+#[derive(Drop)]
 pub enum Fate {
     Dropped(Tree),
     Kept(Texts, Texts),
@@ -49,7 +49,7 @@ impl Fate {
 }
 
 /// The pieces of a table in their order, each with its fate.
-#[derive(Debug, Drop)]
+#[derive(Drop)]
 pub struct PieceFates {
     pub fates: List<(Piece, Fate)>,
 }

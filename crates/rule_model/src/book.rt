@@ -23,7 +23,6 @@ use std::alloc::{AllocError, Global};
 use std::marker::Model;
 
 /// Declarations without fault over a schema, and the rules that they stand for.
-#[derive(Debug)]
 pub struct RuleBook {
     alloc: Global,
     schema: Schema,

@@ -9,7 +9,7 @@ use crate::decl::Decl;
 use crate::fault::{AddFault, RuleFault};
 use schema_core::{Limit, Limits};
 
-#[derive(Clone, Copy, Debug, PartialEq, Eq)]
+#[derive(Clone, Copy, PartialEq, Eq)]
 pub struct Counts {
     pub deps: u64,
     pub cinds: u64,

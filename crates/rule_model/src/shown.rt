@@ -16,7 +16,7 @@ use schema_core::{Attr, List, Schema};
 use std::alloc::{AllocError, Global};
 
 /// Which tests have found a fault in a row.
-#[derive(Clone, Copy, Debug, PartialEq, Eq)]
+#[derive(Clone, Copy, PartialEq, Eq)]
 pub struct Shown {
     pub width: bool,
     pub outside: bool,

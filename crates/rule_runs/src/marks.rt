@@ -4,7 +4,7 @@ ghost use Rattle.std.specs.Prelude.{◌≡◌, ◌<◌, ◌^◌, ℕ, false};
 ghost use Rattle.rule_runs.specs.Marks.{marked, with_attr};
 
 /// A set of attributes. A table has at most 64, and each is a bit.
-#[derive(Clone, Copy, Debug, PartialEq, Eq)]
+#[derive(Clone, Copy, PartialEq, Eq)]
 pub struct Marks(u64);
 
 impl Marks {

@@ -7,7 +7,7 @@ use rule_model::RuleBook;
 use value_pool::Pool;
 
 /// An editing rule, by its number in the rule book, and a row of its master table.
-#[derive(Clone, Copy, Debug, PartialEq, Eq)]
+#[derive(Clone, Copy, PartialEq, Eq)]
 pub struct Move {
     pub rule: usize,
     pub master: RowId,

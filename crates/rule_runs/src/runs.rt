@@ -14,7 +14,7 @@ use std::alloc::{AllocError, Global};
 use value_pool::ValueId;
 
 /// Moves, with the tuple and the validated attributes to which they lead.
-#[derive(Debug, Drop)]
+#[derive(Drop)]
 pub struct Run {
     pub moves: List<Move>,
     pub tuple: List<ValueId>,
@@ -23,7 +23,7 @@ pub struct Run {
 
 /// What a list of moves is: a run at whose end no move applies, one at whose end a move applies, or no run,
 /// with the place of the first move that doesn't apply.
-#[derive(Clone, Copy, Debug, PartialEq, Eq)]
+#[derive(Clone, Copy, PartialEq, Eq)]
 pub enum RunCheck {
     Maximal,
     NotMaximal,

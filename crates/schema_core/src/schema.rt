@@ -9,19 +9,19 @@ use line_grammar::LineFault;
 use text_lists::{Limit, List, Text, Texts};
 
 /// The texts that an attribute may have.
-#[derive(Debug, Drop, PartialEq, Eq)]
+#[derive(Drop, PartialEq, Eq)]
 pub enum Domain {
     AnyText,
     Finite(Texts),
 }
 
-#[derive(Debug, Drop, PartialEq, Eq)]
+#[derive(Drop, PartialEq, Eq)]
 pub struct Attr {
     pub name: Text,
     pub domain: Domain,
 }
 
-#[derive(Debug, Drop, PartialEq, Eq)]
+#[derive(Drop, PartialEq, Eq)]
 pub struct Table {
     pub name: Text,
     pub file: Text,
@@ -30,7 +30,7 @@ pub struct Table {
     pub attrs: List<Attr>,
 }
 
-#[derive(Debug, Drop, PartialEq, Eq)]
+#[derive(Drop, PartialEq, Eq)]
 pub struct Schema {
     pub tables: List<Table>,
     /// The file of the rules, and that of the script.

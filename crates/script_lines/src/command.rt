@@ -5,7 +5,7 @@ use row_store::RowId;
 use schema_core::{Limit, LineFault, Text, Texts};
 
 /// One line of a script.
-#[derive(Debug, Drop)]
+#[derive(Drop)]
 pub enum Command {
     Edit(Edit),
     /// Corrects a row by the editing rules, where the named attributes are vouched for.
@@ -34,7 +34,7 @@ pub enum Command {
 }
 
 /// What is wrong with a line of a script.
-#[derive(Clone, Copy, Debug, PartialEq, Eq)]
+#[derive(Clone, Copy, PartialEq, Eq)]
 pub enum ScriptCause {
     NotUtf8,
     BadLine,

@@ -5,7 +5,7 @@ ghost use Rattle.shelf_io.specs.Rising.{raised};
 use crate::FetchFault;
 
 /// How many fetches were made, and how many of them failed or found no file.
-#[derive(Clone, Copy, Debug, PartialEq, Eq)]
+#[derive(Clone, Copy, PartialEq, Eq)]
 pub struct FetchCounts {
     pub calls: u64,
     pub faults: u64,

@@ -17,7 +17,7 @@ use std::{fs, io};
 const CHUNK: usize = 65_536;
 
 /// A file that couldn't be read, and what the system says of it.
-#[derive(Debug, Drop)]
+#[derive(Drop)]
 pub struct Unread {
     pub name: String,
     pub error: io::Error,

@@ -12,7 +12,7 @@ use schema_draft::column_of;
 use std::alloc::{AllocError, Global};
 
 /// What is odd, and where. Rows are numbered from 1, and attributes, as everywhere, from 0.
-#[derive(Clone, Copy, Debug, PartialEq, Eq)]
+#[derive(Clone, Copy, PartialEq, Eq)]
 pub enum Flaw {
     /// The value runs over more than ten lines.
     Long { attr: usize, row: usize },

@@ -4,7 +4,7 @@ ghost use Rattle.std.specs.Prelude.{◌≡◌};
 ghost use Rattle.text_lists.specs.Limits.{standard, AreLimits};
 
 /// The most that a call accepts of each kind.
-#[derive(Clone, Copy, Debug, PartialEq, Eq)]
+#[derive(Clone, Copy, PartialEq, Eq)]
 pub struct Limits {
     /// Tables of a schema, master tables included.
     pub tables: u64,

@@ -3,7 +3,7 @@
 use text_lists::{Text, Texts};
 
 /// `list PROJECT [--table T] [--rule R] [--first N] [--loaded]`: the violations of a project, in groups.
-#[derive(Debug, Drop)]
+#[derive(Drop)]
 pub struct ListOptions {
     pub project: Text,
     /// only violations of that table
@@ -17,7 +17,7 @@ pub struct ListOptions {
 }
 
 /// `row PROJECT TABLE ROW [--vouch A,B,..] [--loaded]`: one row of a table, and what is wrong with it.
-#[derive(Debug, Drop)]
+#[derive(Drop)]
 pub struct RowOptions {
     pub project: Text,
     pub table: Text,
@@ -29,7 +29,7 @@ pub struct RowOptions {
 }
 
 /// `page PROJECT [--first N] [--loaded]`: a project's page.
-#[derive(Debug, Drop)]
+#[derive(Drop)]
 pub struct PageOptions {
     pub project: Text,
     pub first: Option<u64>,

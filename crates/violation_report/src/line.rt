@@ -12,7 +12,7 @@ use rule_model::RuleBook;
 use std::alloc::{AllocError, Global};
 
 /// A line of the list. Rules of a kind and their tableau rows are numbered from 0.
-#[derive(Clone, Copy, PartialEq, Eq, Debug)]
+#[derive(Clone, Copy, PartialEq, Eq)]
 pub enum Line {
     /// The row matches the tableau row on the left side, and doesn't on the right side.
     Single {
