@@ -31,6 +31,7 @@ use Rattle.group_index.specs.Leads.{AddsListed, AddsMatching, AreCollected, list
 use Rattle.group_index.proofs.GroupFacts.{same_key, same_ids, clash, isnt, key_at}
 use Rattle.group_index.proofs.PartnerFacts.{entry_in, entry_of_pair, pair_of_entry}
 use Rattle.group_index.proofs.ListedFacts.{listed_so, listed_where}
+use Rattle.group_index.proofs.TurnFacts.{settled_steady}
 use Rattle.group_index.proofs.DirtyPlaces.{place_from_dirty}
 
 -- ---- numbers that are all different
@@ -115,10 +116,10 @@ module _ (groups : KeyedGroups) (t : TableauRow ℕ) where
 abbrev pub DirtyStandBelow : List (TableauRow ℕ) → KeyedGroups → ℕ → Type 0
 DirtyStandBelow rows groups count = (place : ℕ) (at : KeyedGroup) → slice_get groups.pairs place ≡ Some at → is_dirty_at rows at ≡ true → place < count
 
-pub marked_stand_below : (rows : List (TableauRow ℕ)) (groups : KeyedGroups) → AreMarked rows groups → DirtyStandBelow rows groups groups.marked
-marked_stand_below rows groups are place at stands dirty = elim (cases_lt place groups.marked) [
+pub marked_stand_below : (rows : List (TableauRow ℕ)) (groups : KeyedGroups) → HasOneARow (λ (e : Entry ℕ). e.row) (is_in groups.pairs) → AreMarked rows groups → DirtyStandBelow rows groups groups.marked
+marked_stand_below rows groups settled are place at stands dirty = elim (cases_lt place groups.marked) [
   | inl below ↦ below
-  | inr past ↦ absurd (clash (is_dirty_at rows at) dirty (are.unmarked place at past stands))
+  | inr past ↦ absurd (clash (is_dirty_at rows at) dirty (are.unmarked place at past stands (settled_steady groups settled place at stands)))
 ]
 
 module _ (groups : KeyedGroups) (distinct : HaveDistinctKeys same_key groups) (t : TableauRow ℕ) (settled : HasOneARow (λ (e : Entry ℕ). e.row) (is_in groups.pairs)) where

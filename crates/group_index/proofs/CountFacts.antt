@@ -23,7 +23,7 @@ use Rattle.cfd_semantics.proofs.InclusionLaw.{found_by_any, any_from_found}
 use Rattle.cfd_semantics.proofs.SetFacts.{violations_of_set, violating_rise}
 use Rattle.group_index.specs.declared.group.Group.{Group}
 use Rattle.group_index.specs.declared.spread.Spread.{Spread}
-use Rattle.group_index.specs.declared.spread.Spread.TheVariants.{Nothing, Alike, Mixed}
+use Rattle.group_index.specs.declared.spread.Spread.TheVariants.{Nothing, Alike, Both, Mixed}
 use Rattle.group_index.specs.Pairs.{Pair, pairs_of, is_mixed, IsSpread}
 use Rattle.group_index.specs.Groups.{KeyedGroups, is_in}
 use Rattle.group_index.specs.Leads.{AreLeads, IsAmong, IsLeastOther, CountsListed, CountsMatching, AreSoMany, listed_by, partner_by}
@@ -171,6 +171,9 @@ several_mixed spread is pairs told = two (subst (IsSpread pairs) is told)
 
     two : IsSpread pairs Mixed → is_mixed pairs ≡ true
     two (p, q, has_p, has_q, apart) = two_differ pairs p q has_p has_q (differ p.0 q.0 apart (nat_eq p.0 q.0) refl)
+
+pub both_mixed : (spread : Spread) → spread ≡ Both → (pairs : List Pair) → IsSpread pairs spread → is_mixed pairs ≡ true
+both_mixed spread is pairs told = several_mixed Mixed refl pairs (subst (IsSpread pairs) is told)
 
 -- Where the cell is `_`: all, or none.
 pub counts_mixed : (cell : Pattern ℕ) (pairs : List Pair) (count : ℕ) → cell ≡ Any → count ≡ cond (is_mixed pairs) (length pairs) 0 → CountsListed cell pairs count

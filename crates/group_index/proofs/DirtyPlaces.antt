@@ -11,6 +11,8 @@ use Rattle.cfd_semantics.specs.declared.dependency.TableauRow.{TableauRow}
 use Rattle.cfd_semantics.specs.declared.dependency.Dependency.{Dependency}
 use Rattle.cfd_semantics.specs.Pattern.{matches, all_match}
 use Rattle.cfd_semantics.specs.Tuple.{same_values}
+use Rattle.cfd_semantics.specs.Violation.{Entry}
+use Rattle.cfd_semantics.specs.EntrySets.{HasOneARow}
 use Rattle.cfd_semantics.specs.Dirty.{IsDirtyGroup, IsDirtyByValues, Disagrees}
 use Rattle.cfd_semantics.specs.Dirty.Disagrees.{outside, two}
 use Rattle.cfd_semantics.proofs.DirtyFacts.{dirty_by_values}
@@ -23,6 +25,7 @@ use Rattle.group_index.specs.Groups.{KeyedGroup, KeyedGroups, set_of, is_in, is_
 use Rattle.group_index.proofs.PairFacts.{member_from}
 use Rattle.group_index.proofs.GroupFacts.{same_key, equal_ids, same_ids, both_true, both_so, one_true, left_so, right_so, clash, isnt, not_true, found_in, key_at}
 use Rattle.group_index.proofs.PartnerFacts.{entry_in, entry_of_pair, pair_of_entry}
+use Rattle.group_index.proofs.TurnFacts.{settled_steady}
 
 module _ (d : Dependency ℕ) (groups : KeyedGroups) where
   -- the group is dirty by its A values
@@ -155,20 +158,20 @@ once (suc m) (g ∷ gs) distinct = (
   once m gs (λ i j h k one other same. let is : suc i ≡ suc j = distinct (suc i) (suc j) h k one other same in omega (arith, is)),
 )
 
--- so many groups are dirty as are marked
-pub dirty_are_marked : (made : GroupsMade) (groups : KeyedGroups) (s : GroupSet) (count : ℕ) → set_of made groups ≡ s → HaveDistinctKeys same_key groups → AreMarked made.dependency.rows groups → groups.marked ≤ length groups.pairs → count ≡ groups.marked → AreDirty s count
-dirty_are_marked made groups s count view distinct are fits is = subst (λ (r : GroupSet). AreDirty r count) view (record {
+-- so many groups are dirty as are marked, where no row has two entries
+pub dirty_are_marked : (made : GroupsMade) (groups : KeyedGroups) (s : GroupSet) (count : ℕ) → set_of made groups ≡ s → HaveDistinctKeys same_key groups → HasOneARow (λ (e : Entry ℕ). e.row) (is_in groups.pairs) → AreMarked made.dependency.rows groups → groups.marked ≤ length groups.pairs → count ≡ groups.marked → AreDirty s count
+dirty_are_marked made groups s count view distinct settled are fits is = subst (λ (r : GroupSet). AreDirty r count) view (record {
   groups = firsts groups.marked groups.pairs;
   once = once groups.marked groups.pairs (λ i j g h one other same. distinct i j g.0 h.0 (key_at groups.pairs i g one) (key_at groups.pairs j h other) same);
   exactly = λ x. (
     (λ inside.
         let it = among_firsts groups.marked groups.pairs x inside in
-        subst (IsDirtyGroup nat_eq (is_in groups.pairs) made.dependency) it.key (dirty_from_place made.dependency groups it.place it.group it.at (are.marked it.place it.group it.below it.at))),
+        subst (IsDirtyGroup nat_eq (is_in groups.pairs) made.dependency) it.key (dirty_from_place made.dependency groups it.place it.group it.at (are.marked it.place it.group it.below it.at (settled_steady groups settled it.place it.group it.at)))),
     (λ dirty.
         let it = place_from_dirty made.dependency groups distinct x dirty in
         elim (cases_lt it.place groups.marked) [
           | inl below ↦ subst (Contains (firsts groups.marked groups.pairs)) it.key (in_firsts groups.marked groups.pairs it.place it.group below it.at)
-          | inr past ↦ absurd (clash (is_dirty_at made.dependency.rows it.group) it.dirty (are.unmarked it.place it.group past it.at))
+          | inr past ↦ absurd (clash (is_dirty_at made.dependency.rows it.group) it.dirty (are.unmarked it.place it.group past it.at (settled_steady groups settled it.place it.group it.at)))
         ]),
   );
   as_many = as_many groups.marked groups.pairs fits ∙ sym is;

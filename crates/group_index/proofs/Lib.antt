@@ -10,6 +10,7 @@ pub mod WatchFacts
 pub mod LeadFacts
 pub mod PartnerFacts
 pub mod ListedFacts
+pub mod TurnFacts
 pub mod DirtyPlaces
 pub mod CollectFacts
 pub mod CountFacts

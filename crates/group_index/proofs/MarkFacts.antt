@@ -22,27 +22,27 @@ module _ (rows : List (TableauRow ℕ)) where
     pub marked_where_dirty : is_dirty_at rows group ≡ true → (place < old.marked → new ≡ old) → (old.marked ≤ place → new ≡ with_mark old place) → AreMarked rows new
     marked_where_dirty dirty already marks = elim (cases_lt place old.marked) [
       | inl low ↦ subst (AreMarked rows) (sym (already low)) (record {
-        marked = λ i g below stands. elim (cases_eq i place) [
+        marked = λ i g below stands steady. elim (cases_eq i place) [
           | inl same ↦ ap (is_dirty_at rows) (same_Some g group (sym stands ∙ ap (slice_get old.pairs) same ∙ at)) ∙ dirty
-          | inr apart ↦ others.0 i g apart below stands
+          | inr apart ↦ others.0 i g apart below stands steady
         ];
-        unmarked = λ i g past stands. others.1 i g (λ same. absurd (omega (arith, same, past, low))) past stands;
+        unmarked = λ i g past stands steady. others.1 i g (λ same. absurd (omega (arith, same, past, low))) past stands steady;
       })
       | inr high ↦ subst (AreMarked rows) (sym (marks high)) (record {
-        marked = λ i g below stands. elim (cases_eq i old.marked) [
+        marked = λ i g below stands steady. elim (cases_eq i old.marked) [
           | inl same ↦ ap (is_dirty_at rows) (same_Some g group (sym stands ∙ ap (slice_get (swap old.pairs place old.marked)) same ∙ slice_get-swap_to old.pairs place old.marked within (omega (arith, within, high)) ∙ at)) ∙ dirty
           | inr apart ↦
               let low : i < old.marked = omega (arith, apart, below) in
               let not_place : i ≢ place = λ same. absurd (omega (arith, same, low, high)) in
-              others.0 i g not_place low (sym (slice_get-swap_else old.pairs place old.marked i within (omega (arith, within, high)) not_place apart) ∙ stands)
+              others.0 i g not_place low (sym (slice_get-swap_else old.pairs place old.marked i within (omega (arith, within, high)) not_place apart) ∙ stands) steady
         ];
-        unmarked = λ i g past stands. elim (cases_eq i place) [
+        unmarked = λ i g past stands steady. elim (cases_eq i place) [
           | inl same ↦
               others.1 old.marked g (λ equal. absurd (omega (arith, same, equal, past))) (omega arith)
-              (sym (slice_get-swap_from old.pairs place old.marked within (omega (arith, within, high))) ∙ ap (slice_get (swap old.pairs place old.marked)) (sym same) ∙ stands)
+              (sym (slice_get-swap_from old.pairs place old.marked within (omega (arith, within, high))) ∙ ap (slice_get (swap old.pairs place old.marked)) (sym same) ∙ stands) steady
           | inr apart ↦
               others.1 i g apart (omega (arith, past))
-              (sym (slice_get-swap_else old.pairs place old.marked i within (omega (arith, within, high)) apart (λ same. absurd (omega (arith, same, past)))) ∙ stands)
+              (sym (slice_get-swap_else old.pairs place old.marked i within (omega (arith, within, high)) apart (λ same. absurd (omega (arith, same, past)))) ∙ stands) steady
         ];
       })
     ]
@@ -50,29 +50,29 @@ module _ (rows : List (TableauRow ℕ)) where
     pub unmarked_where_clean : is_dirty_at rows group ≡ false → (old.marked ≤ place → new ≡ old) → (place < old.marked → new ≡ without_mark old place) → (place < old.marked → old.marked ≤ length old.pairs) → AreMarked rows new
     unmarked_where_clean clean already unmarks fits = elim (cases_lt place old.marked) [
       | inr high ↦ subst (AreMarked rows) (sym (already high)) (record {
-        marked = λ i g below stands. others.0 i g (λ same. absurd (omega (arith, same, below, high))) below stands;
-        unmarked = λ i g past stands. elim (cases_eq i place) [
+        marked = λ i g below stands steady. others.0 i g (λ same. absurd (omega (arith, same, below, high))) below stands steady;
+        unmarked = λ i g past stands steady. elim (cases_eq i place) [
           | inl same ↦ ap (is_dirty_at rows) (same_Some g group (sym stands ∙ ap (slice_get old.pairs) same ∙ at)) ∙ clean
-          | inr apart ↦ others.1 i g apart past stands
+          | inr apart ↦ others.1 i g apart past stands steady
         ];
       })
       | inl low ↦
           let last : old.marked - 1 < length old.pairs = omega (arith, low, fits low) in
           subst (AreMarked rows) (sym (unmarks low)) (record {
-            marked = λ i g below stands. elim (cases_eq i place) [
+            marked = λ i g below stands steady. elim (cases_eq i place) [
               | inl same ↦
                   others.0 (old.marked - 1) g (λ equal. absurd (omega (arith, same, equal, below))) (omega (arith, low))
-                  (sym (slice_get-swap_from old.pairs place (old.marked - 1) within last) ∙ ap (slice_get (swap old.pairs place (old.marked - 1))) (sym same) ∙ stands)
+                  (sym (slice_get-swap_from old.pairs place (old.marked - 1) within last) ∙ ap (slice_get (swap old.pairs place (old.marked - 1))) (sym same) ∙ stands) steady
               | inr apart ↦
                   others.0 i g apart (omega (arith, below))
-                  (sym (slice_get-swap_else old.pairs place (old.marked - 1) i within last apart (λ same. absurd (omega (arith, same, below)))) ∙ stands)
+                  (sym (slice_get-swap_else old.pairs place (old.marked - 1) i within last apart (λ same. absurd (omega (arith, same, below)))) ∙ stands) steady
             ];
-            unmarked = λ i g past stands. elim (cases_eq i (old.marked - 1)) [
+            unmarked = λ i g past stands steady. elim (cases_eq i (old.marked - 1)) [
               | inl same ↦ ap (is_dirty_at rows) (same_Some g group (sym stands ∙ ap (slice_get (swap old.pairs place (old.marked - 1))) same ∙ slice_get-swap_to old.pairs place (old.marked - 1) within last ∙ at)) ∙ clean
               | inr apart ↦
                   let high : old.marked ≤ i = omega (arith, apart, past) in
                   let not_place : i ≢ place = λ same. absurd (omega (arith, same, low, high)) in
-                  others.1 i g not_place high (sym (slice_get-swap_else old.pairs place (old.marked - 1) i within last not_place apart) ∙ stands)
+                  others.1 i g not_place high (sym (slice_get-swap_else old.pairs place (old.marked - 1) i within last not_place apart) ∙ stands) steady
             ];
           })
     ]
@@ -81,8 +81,8 @@ module _ (rows : List (TableauRow ℕ)) where
 
   pub marked_but_written : (old : KeyedGroups) (place : ℕ) (w : Group) → AreMarked rows old → AreMarkedBut rows (record { pairs = set_value_at old.pairs place w; marked = old.marked }) place
   marked_but_written old place w are = (
-    (λ i g apart below stands. are.marked i g below (sym (set_elsewhere old.pairs place i w apart) ∙ stands)),
-    (λ i g apart past stands. are.unmarked i g past (sym (set_elsewhere old.pairs place i w apart) ∙ stands)),
+    (λ i g apart below stands steady. are.marked i g below (sym (set_elsewhere old.pairs place i w apart) ∙ stands) steady),
+    (λ i g apart past stands steady. are.unmarked i g past (sym (set_elsewhere old.pairs place i w apart) ∙ stands) steady),
   )
 
 -- ---- the entries stay where a mark moves groups

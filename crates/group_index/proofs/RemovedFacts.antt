@@ -46,8 +46,8 @@ module _ (old new : KeyedGroups) (place : ℕ) (key : SmallVec ℕ) (v w : Group
 
   pub marked_removed : (rows : List (TableauRow ℕ)) → AreMarked rows old → AreMarked rows new
   marked_removed rows are = record {
-    marked = λ i g below stands. let was = (others.marked g (left_is_other i g stands)).1 (i, below, stands) in are.marked was.0 g was.1 (was_there i was.0 g stands was.2);
-    unmarked = λ i g past stands. let was = (others.unmarked g (left_is_other i g stands)).1 (i, past, stands) in are.unmarked was.0 g was.1 (was_there i was.0 g stands was.2);
+    marked = λ i g below stands steady. let was = (others.marked g (left_is_other i g stands)).1 (i, below, stands) in are.marked was.0 g was.1 (was_there i was.0 g stands was.2) steady;
+    unmarked = λ i g past stands steady. let was = (others.unmarked g (left_is_other i g stands)).1 (i, past, stands) in are.unmarked was.0 g was.1 (was_there i was.0 g stands was.2) steady;
   }
 
   -- where a group that is left stood

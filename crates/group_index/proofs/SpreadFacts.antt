@@ -14,10 +14,10 @@ use Rattle.cfd_semantics.proofs.InclusionLaw.{found_by_any, any_from_found}
 use Rattle.group_index.specs.declared.group.Group.{Group}
 use Rattle.group_index.specs.contracts.spread.SpreadPartialEq.TheImpl.{ghosts}
 use Rattle.group_index.specs.declared.spread.Spread.{Spread}
-use Rattle.group_index.specs.declared.spread.Spread.TheVariants.{Nothing, Alike, Mixed}
-use Rattle.group_index.specs.Pairs.{Pair, pairs_of, IsSpread, is_mixed, disagree, is_dirty}
+use Rattle.group_index.specs.declared.spread.Spread.TheVariants.{Nothing, Alike, Both, Mixed}
+use Rattle.group_index.specs.Pairs.{Pair, pairs_of, IsSpread, is_mixed, is_turning, is_both, disagree, is_dirty}
 use Rattle.group_index.specs.Groups.{KeyedGroup, KeyedGroups, is_dirty_at, AreMarked, AreMarkedBut, IsMarkedBy}
-use Rattle.group_index.proofs.GroupFacts.{set_value_at, set_here}
+use Rattle.group_index.proofs.GroupFacts.{set_value_at, set_here, clash}
 use Rattle.group_index.proofs.PairFacts.{pair_cmp, set_has, has_from, member_from, any_same, none_pass}
 
 -- ---- equal spreads are one
@@ -29,12 +29,19 @@ unflip false is = absurd (cc)
 pub same_spread : (one other : Spread) → ghosts.eq one other ≡ true → one ≡ other
 same_spread Nothing Nothing is = refl
 same_spread Nothing (Alike b) is = absurd (cc)
+same_spread Nothing Both is = absurd (cc)
 same_spread Nothing Mixed is = absurd (cc)
 same_spread (Alike a) Nothing is = absurd (cc)
 same_spread (Alike a) (Alike b) is = let same : a ≡ b = grind (arith, nat_tests, is) in ap Alike same
+same_spread (Alike a) Both is = absurd (cc)
 same_spread (Alike a) Mixed is = absurd (cc)
+same_spread Both Nothing is = absurd (cc)
+same_spread Both (Alike b) is = absurd (cc)
+same_spread Both Both is = refl
+same_spread Both Mixed is = absurd (cc)
 same_spread Mixed Nothing is = absurd (cc)
 same_spread Mixed (Alike b) is = absurd (cc)
+same_spread Mixed Both is = absurd (cc)
 same_spread Mixed Mixed is = refl
 
 -- ---- the least and the greatest pair of a set
@@ -97,6 +104,7 @@ module _ (pairs : List Pair) (first : Pair) (here : Contains pairs first) where
 abbrev told_by : List (TableauRow ℕ) → List ℕ → Spread → Bool
 told_by rows x Nothing = false
 told_by rows x (Alike a) = list_any (λ t. all_match nat_eq t.x x && not (matches nat_eq t.a a)) rows
+told_by rows x Both = list_any (λ t. all_match nat_eq t.x x) rows
 told_by rows x Mixed = list_any (λ t. all_match nat_eq t.x x) rows
 
 never : (b : Bool) → (b && false) ≡ false
@@ -108,6 +116,22 @@ unmixed pairs a same =
     none_pass (λ p. list_any (λ q. not (nat_eq p.0 q.0)) pairs) pairs (λ p inside. none_pass (λ q. not (nat_eq p.0 q.0)) pairs (λ q beside. let one = same p inside in let other = same q beside in grind (arith, nat_tests)))
 
 module _ (rows : List (TableauRow ℕ)) (x : List ℕ) (pairs : List Pair) where
+  -- two A ids differ
+  dirty_by_two : (p q : Pair) → Contains pairs p → Contains pairs q → p.0 ≢ q.0 → is_dirty rows x pairs ≡ list_any (λ t. all_match nat_eq t.x x) rows
+  dirty_by_two p q has_p has_q apart =
+      any_same (λ t. all_match nat_eq t.x x && disagree t.a pairs) (λ t. all_match nat_eq t.x x) (λ t. ap (λ b. all_match nat_eq t.x x && b) (differs t.a) ∙ always (all_match nat_eq t.x x)) rows
+    where
+      always : (b : Bool) → (b && true) ≡ b
+      always true = refl
+      always false = refl
+
+      differ : not (nat_eq p.0 q.0) ≡ true
+      differ = grind (arith, nat_tests, apart)
+
+      differs : (cell : Pattern ℕ) → disagree cell pairs ≡ true
+      differs cell =
+          ap (λ b. b || list_any (λ r. not (matches nat_eq cell r.0)) pairs) (any_from_found (λ r. list_any (λ o. not (nat_eq r.0 o.0)) pairs) pairs p has_p (any_from_found (λ o. not (nat_eq p.0 o.0)) pairs q has_q differ))
+
   pub dirty_by_spread : (spread : Spread) → IsSpread pairs spread → is_dirty rows x pairs ≡ told_by rows x spread
   dirty_by_spread Nothing none =
       none_pass (λ t. all_match nat_eq t.x x && disagree t.a pairs) rows (λ t inside. ap (λ b. all_match nat_eq t.x x && b) (agrees t.a) ∙ never (all_match nat_eq t.x x))
@@ -124,19 +148,8 @@ module _ (rows : List (TableauRow ℕ)) (x : List ℕ) (pairs : List Pair) where
 
       differs : (cell : Pattern ℕ) → disagree cell pairs ≡ not (matches nat_eq cell a)
       differs cell = ap (λ b. b || list_any (λ p. not (matches nat_eq cell p.0)) pairs) (unmixed pairs a same) ∙ by cell (matches nat_eq cell a) refl
-  dirty_by_spread Mixed (p, q, has_p, has_q, apart) =
-      any_same (λ t. all_match nat_eq t.x x && disagree t.a pairs) (λ t. all_match nat_eq t.x x) (λ t. ap (λ b. all_match nat_eq t.x x && b) (differs t.a) ∙ always (all_match nat_eq t.x x)) rows
-    where
-      always : (b : Bool) → (b && true) ≡ b
-      always true = refl
-      always false = refl
-
-      differ : not (nat_eq p.0 q.0) ≡ true
-      differ = grind (arith, nat_tests, apart)
-
-      differs : (cell : Pattern ℕ) → disagree cell pairs ≡ true
-      differs cell =
-          ap (λ b. b || list_any (λ r. not (matches nat_eq cell r.0)) pairs) (any_from_found (λ r. list_any (λ o. not (nat_eq r.0 o.0)) pairs) pairs p has_p (any_from_found (λ o. not (nat_eq p.0 o.0)) pairs q has_q differ))
+  dirty_by_spread Both (p, q, has_p, has_q, apart) = dirty_by_two p q has_p has_q apart
+  dirty_by_spread Mixed (p, q, has_p, has_q, apart) = dirty_by_two p q has_p has_q apart
 
 -- groups with one key whose A ids spread alike are dirty alike
 pub dirty_alike : (rows : List (TableauRow ℕ)) (x : List ℕ) (pairs others : List Pair) (spread : Spread) → IsSpread pairs spread → IsSpread others spread → is_dirty rows x pairs ≡ is_dirty rows x others
@@ -145,26 +158,42 @@ dirty_alike rows x pairs others spread is also = dirty_by_spread rows x pairs sp
 -- ---- marks
 
 -- a mark that is right for how A ids are spread
-pub marked_by_spread : (rows : List (TableauRow ℕ)) (groups : KeyedGroups) (place : ℕ) (at : KeyedGroup) (spread : Spread) → slice_get groups.pairs place ≡ Some at → IsSpread (pairs_of at.1) spread → IsMarkedBy rows groups place spread
+pub marked_by_spread : (rows : List (TableauRow ℕ)) (groups : KeyedGroups) (place : ℕ) (at : KeyedGroup) (spread : Spread) → slice_get groups.pairs place ≡ Some at → IsSpread (pairs_of at.1) spread → is_both spread ≡ false → IsMarkedBy rows groups place spread
     → AreMarkedBut rows groups place → AreMarked rows groups
-marked_by_spread rows groups place at spread there is by others = record {
-  marked = λ i g below stands. elim (cases_eq i place) [
-    | inl same ↦ ap (is_dirty_at rows) (sym (own i g same stands)) ∙ (by at (pairs_of at.1) there is).0 (subst (λ n. n < groups.marked) same below)
-    | inr apart ↦ others.0 i g apart below stands
+marked_by_spread rows groups place at spread there is one by others = record {
+  marked = λ i g below stands steady. elim (cases_eq i place) [
+    | inl same ↦ ap (is_dirty_at rows) (sym (own i g same stands)) ∙ (by at (pairs_of at.1) there is one).0 (subst (λ n. n < groups.marked) same below)
+    | inr apart ↦ others.0 i g apart below stands steady
   ];
-  unmarked = λ i g past stands. elim (cases_eq i place) [
-    | inl same ↦ ap (is_dirty_at rows) (sym (own i g same stands)) ∙ (by at (pairs_of at.1) there is).1 (subst (λ n. groups.marked ≤ n) same past)
-    | inr apart ↦ others.1 i g apart past stands
+  unmarked = λ i g past stands steady. elim (cases_eq i place) [
+    | inl same ↦ ap (is_dirty_at rows) (sym (own i g same stands)) ∙ (by at (pairs_of at.1) there is one).1 (subst (λ n. groups.marked ≤ n) same past)
+    | inr apart ↦ others.1 i g apart past stands steady
   ];
 }
   where
     own : (i : ℕ) (g : KeyedGroup) → i ≡ place → slice_get groups.pairs i ≡ Some g → at ≡ g
     own i g same stands = same_Some at g (sym there ∙ ap (slice_get groups.pairs) (sym same) ∙ stands)
 
+-- any mark is right of a group that is turning
+pub marked_while_turning : (rows : List (TableauRow ℕ)) (groups : KeyedGroups) (place : ℕ) (at : KeyedGroup) → slice_get groups.pairs place ≡ Some at → is_turning at.1 ≡ true → AreMarkedBut rows groups place → AreMarked rows groups
+marked_while_turning rows groups place at there turning others = record {
+  marked = λ i g below stands steady. elim (cases_eq i place) [
+    | inl same ↦ absurd (own i g same stands steady)
+    | inr apart ↦ others.0 i g apart below stands steady
+  ];
+  unmarked = λ i g past stands steady. elim (cases_eq i place) [
+    | inl same ↦ absurd (own i g same stands steady)
+    | inr apart ↦ others.1 i g apart past stands steady
+  ];
+}
+  where
+    own : (i : ℕ) (g : KeyedGroup) → i ≡ place → slice_get groups.pairs i ≡ Some g → is_turning g.1 ≡ false → ⊥
+    own i g same stands steady = clash (is_turning g.1) (ap (λ (h : KeyedGroup). is_turning h.1) (sym (same_Some at g (sym there ∙ ap (slice_get groups.pairs) (sym same) ∙ stands))) ∙ turning) steady
+
 -- a mark that was right stays right for how A ids were spread, whatever group stands there now
-pub marked_as_before : (rows : List (TableauRow ℕ)) (groups : KeyedGroups) (place : ℕ) (at : KeyedGroup) (w : Group) (spread : Spread) → slice_get groups.pairs place ≡ Some at → IsSpread (pairs_of at.1) spread → AreMarked rows groups
+pub marked_as_before : (rows : List (TableauRow ℕ)) (groups : KeyedGroups) (place : ℕ) (at : KeyedGroup) (w : Group) (spread : Spread) → slice_get groups.pairs place ≡ Some at → IsSpread (pairs_of at.1) spread × (is_both spread ≡ is_turning at.1) → AreMarked rows groups
     → IsMarkedBy rows (record { pairs = set_value_at groups.pairs place w; marked = groups.marked }) place spread
-marked_as_before rows groups place at w spread there is are now pairs stands spreads =
+marked_as_before rows groups place at w spread there (is, turning) are now pairs stands spreads one =
     let own : ◌≡◌ {A = KeyedGroup} (at.0, w) now = same_Some (at.0, w) now (sym (set_here groups.pairs place at.0 at.1 w there) ∙ stands) in
     let was : is_dirty rows now.0.items pairs ≡ is_dirty_at rows at = ap (λ (g : KeyedGroup). is_dirty rows g.0.items pairs) (sym own) ∙ dirty_alike rows at.0.items pairs (pairs_of at.1) spread spreads is in
-    ((λ below. was ∙ are.marked place at below there), (λ past. was ∙ are.unmarked place at past there))
+    ((λ below. was ∙ are.marked place at below there (sym turning ∙ one)), (λ past. was ∙ are.unmarked place at past there (sym turning ∙ one)))

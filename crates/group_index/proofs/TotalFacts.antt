@@ -224,7 +224,7 @@ followed_new rows change row old mid key stored place (inr (absent, _, is)) last
     let stands : slice_get mid.pairs place ≡ Some group = (λ i. slice_get (pairs i) (last i)) ∙ last_stands old.pairs group in
     let same : key ≡ stored = same_Some key stored (sym (key_at mid.pairs place group stands) ∙ at) in
     subst (λ groups. AreTotals rows groups after) (sym pairs)
-    (followed_entered rows change old.pairs key (One change.a row) x (ap (λ (k : SmallVec ℕ). k.items) same ∙ sym own) (record { before = is_old; after = is_new group stands; differ = (row, lone_differs (change.a, row)) }) before after changed was)
+    (followed_entered rows change old.pairs key (One change.a row) x (ap (λ (k : SmallVec ℕ). k.items) same ∙ sym own) (record { before = is_old; after = (is_new group stands).0; differ = (row, lone_differs (change.a, row)) }) before after changed was)
   where
     last_stands : (gs : List KeyedGroup) (g : KeyedGroup) → slice_get (gs ++ g ∷ []) (length gs) ≡ Some g
     last_stands [] g = refl

@@ -1,4 +1,5 @@
--- How an index keeps its groups: a map from the ids on X to a group, in which the dirty groups are marked.
+-- How an index keeps its groups: a map from the ids on X to a group, in which the dirty groups are marked, but for those of a
+-- row that is turning.
 use Rattle.std.specs.Prelude.{◌≡◌, ◌≢◌, ℕ, ◌<◌, ◌≤◌, Bool, false, ◌&&◌, ◌||◌, not, List, map, length, Option, Some, slice_get, IsTrue, IsSomeAnd}
 use Rattle.std.specs.List.{flat_map, list_any}
 use Rattle.smallvec.specs.SmallVec.{SmallVec}
@@ -10,7 +11,7 @@ use Rattle.group_index.specs.declared.spread.Spread.{Spread}
 use Rattle.group_index.specs.declared.totals.Totals.{Totals}
 use Rattle.group_index.specs.GroupSet.{GroupsMade, GroupSet, is_entry}
 use Rattle.group_index.specs.Answers.{IsPartnerOf}
-use Rattle.group_index.specs.Pairs.{Pair, pairs_of, is_dirty, IsSpread}
+use Rattle.group_index.specs.Pairs.{Pair, pairs_of, is_dirty, IsSpread, is_turning, is_both}
 use Rattle.group_index.specs.Totals.{AreTotals}
 
 -- a key with its group, and all of them
@@ -47,10 +48,10 @@ HoldTheSame old new = (e : Entry ℕ) → is_in new.pairs e ≡ is_in old.pairs 
 abbrev pub is_dirty_at : List (TableauRow ℕ) → KeyedGroup → Bool
 is_dirty_at rows at = is_dirty rows at.0.items (pairs_of at.1)
 
--- the marked groups are the dirty ones
+-- the marked groups are the dirty ones, but for one that is turning
 pub record AreMarked (rows : List (TableauRow ℕ)) (groups : KeyedGroups) : Type 0 where
-  pub marked : (place : ℕ) (at : KeyedGroup) → place < groups.marked → slice_get groups.pairs place ≡ Some at → IsTrue (is_dirty_at rows at)
-  pub unmarked : (place : ℕ) (at : KeyedGroup) → groups.marked ≤ place → slice_get groups.pairs place ≡ Some at → is_dirty_at rows at ≡ false
+  pub marked : (place : ℕ) (at : KeyedGroup) → place < groups.marked → slice_get groups.pairs place ≡ Some at → is_turning at.1 ≡ false → IsTrue (is_dirty_at rows at)
+  pub unmarked : (place : ℕ) (at : KeyedGroup) → groups.marked ≤ place → slice_get groups.pairs place ≡ Some at → is_turning at.1 ≡ false → is_dirty_at rows at ≡ false
 
 -- what an index keeps true of its parts: its marks, its totals, and that it has room for a key once there are groups
 pub record IsGroupIndex (rows : List (TableauRow ℕ)) (x : List ℕ) (groups : KeyedGroups) (kept : Totals) (key : SmallVec ℕ) : Type 0 where
@@ -61,12 +62,12 @@ pub record IsGroupIndex (rows : List (TableauRow ℕ)) (x : List ℕ) (groups : 
 -- the same of all groups but the one at a place
 abbrev pub AreMarkedBut : List (TableauRow ℕ) → KeyedGroups → ℕ → Type 0
 AreMarkedBut rows groups but =
-    ((place : ℕ) (at : KeyedGroup) → place ≢ but → place < groups.marked → slice_get groups.pairs place ≡ Some at → IsTrue (is_dirty_at rows at))
-    × ((place : ℕ) (at : KeyedGroup) → place ≢ but → groups.marked ≤ place → slice_get groups.pairs place ≡ Some at → is_dirty_at rows at ≡ false)
+    ((place : ℕ) (at : KeyedGroup) → place ≢ but → place < groups.marked → slice_get groups.pairs place ≡ Some at → is_turning at.1 ≡ false → IsTrue (is_dirty_at rows at))
+    × ((place : ℕ) (at : KeyedGroup) → place ≢ but → groups.marked ≤ place → slice_get groups.pairs place ≡ Some at → is_turning at.1 ≡ false → is_dirty_at rows at ≡ false)
 
--- the group at a place is marked where one with its key and A ids that spread so is dirty
+-- the group at a place is marked where one with its key and A ids that spread so is dirty, or a row is turning
 abbrev pub IsMarkedBy : List (TableauRow ℕ) → KeyedGroups → ℕ → Spread → Type 0
-IsMarkedBy rows groups place spread = (at : KeyedGroup) (pairs : List Pair) → slice_get groups.pairs place ≡ Some at → IsSpread pairs spread
+IsMarkedBy rows groups place spread = (at : KeyedGroup) (pairs : List Pair) → slice_get groups.pairs place ≡ Some at → IsSpread pairs spread → is_both spread ≡ false
     → (place < groups.marked → IsTrue (is_dirty rows at.0.items pairs)) × (groups.marked ≤ place → is_dirty rows at.0.items pairs ≡ false)
 
 -- the key stands at the place

@@ -1,5 +1,6 @@
 pub mod GroupSet
 pub mod Answers
+pub mod Turn
 pub mod Pairs
 pub mod Keys
 pub mod Totals

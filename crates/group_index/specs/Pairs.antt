@@ -1,13 +1,14 @@
 -- What a group holds: A ids, each with a row. When such a group is dirty, and what comes next in it.
-use Rattle.std.specs.Prelude.{◌≡◌, ◌≢◌, ℕ, ◌<◌, ◌≤◌, ◌⊎◌, Bool, false, ◌==◌, ◌&&◌, ◌||◌, not, nat_eq, List, [], ◌∷◌, Contains, Option, Some, None}
+use Rattle.std.specs.Prelude.{◌≡◌, ◌≢◌, ℕ, ◌<◌, ◌≤◌, ◌⊎◌, Bool, true, false, ◌==◌, ◌&&◌, ◌||◌, not, nat_eq, List, [], ◌∷◌, Contains, Option, Some, None}
 use Rattle.std.specs.List.{list_any}
 use Rattle.cfd_semantics.specs.declared.pattern.Pattern.{Pattern}
 use Rattle.cfd_semantics.specs.declared.dependency.TableauRow.{TableauRow}
 use Rattle.cfd_semantics.specs.Pattern.{matches, all_match}
 use Rattle.group_index.specs.declared.group.Group.{Group}
-use Rattle.group_index.specs.declared.group.Group.TheVariants.{One, Few, Many}
+use Rattle.group_index.specs.declared.group.Group.TheVariants.{One, Turning, Few, Many}
 use Rattle.group_index.specs.declared.spread.Spread.{Spread}
-use Rattle.group_index.specs.declared.spread.Spread.TheVariants.{Nothing, Alike, Mixed}
+use Rattle.group_index.specs.declared.spread.Spread.TheVariants.{Nothing, Alike, Both, Mixed}
+use Rattle.group_index.specs.Turn.{both_of}
 
 -- an A id with a row
 abbrev pub Pair : Type 0
@@ -16,6 +17,7 @@ Pair = ℕ × ℕ
 -- those of a group
 abbrev pub pairs_of : Group → List Pair
 pairs_of (One a row) = (a, row) ∷ []
+pairs_of (Turning turn) = both_of turn
 pairs_of (Few pairs) = pairs
 pairs_of (Many pairs) = pairs.keys
 
@@ -77,8 +79,25 @@ is_dirty rows x pairs = list_any (λ t. all_match nat_eq t.x x && disagree t.a p
 
 -- ---- how A ids spread
 
--- no A id at all, one that all rows have, or several
+-- no A id at all, one that all rows have, both of a row that is turning, or several
 abbrev pub IsSpread : List Pair → Spread → Type 0
 IsSpread pairs Nothing = (q : Pair) → Contains pairs q → ⊥
 IsSpread pairs (Alike a) = ((row : ℕ) × Contains pairs (a, row)) × ((q : Pair) → Contains pairs q → q.0 ≡ a)
+IsSpread pairs Both = (p : Pair) × (q : Pair) × Contains pairs p × Contains pairs q × (p.0 ≢ q.0)
 IsSpread pairs Mixed = (p : Pair) × (q : Pair) × Contains pairs p × Contains pairs q × (p.0 ≢ q.0)
+
+-- ---- a row that is turning
+
+-- the group is a lone row with two A ids, on its way from one to the other
+abbrev pub is_turning : Group → Bool
+is_turning (One a row) = false
+is_turning (Turning turn) = not (nat_eq turn.one turn.other)
+is_turning (Few pairs) = false
+is_turning (Many pairs) = false
+
+-- the spread says so
+abbrev pub is_both : Spread → Bool
+is_both Nothing = false
+is_both (Alike a) = false
+is_both Both = true
+is_both Mixed = false

@@ -9,7 +9,7 @@ use Rattle.cfd_semantics.specs.Pattern.{all_match, is_set}
 use Rattle.group_index.specs.declared.group.Group.{Group}
 use Rattle.group_index.specs.declared.totals.Extent.{Extent}
 use Rattle.group_index.specs.declared.totals.Change.{Change}
-use Rattle.group_index.specs.Pairs.{Pair, pairs_of, is_mixed, IsSpread, DifferAtMostBy}
+use Rattle.group_index.specs.Pairs.{Pair, pairs_of, is_mixed, IsSpread, is_turning, is_both, DifferAtMostBy}
 
 -- How many pairs of a group are listed: for `_` all where two A ids stand there, for a constant those with another one.
 abbrev pub listed_among : Pattern ℕ → List Pair → ℕ
@@ -53,9 +53,9 @@ pub record IsExtent (pairs : List Pair) (extent : Extent) : Type 0 where
   pub spread : IsSpread pairs extent.spread
   pub once : AllPairs (λ p q. p ≢ q) pairs
 
--- those of the group at a place
+-- those of the group at a place, and the spread says whether it is turning
 abbrev pub HasExtentAt : List (SmallVec ℕ × Group) → ℕ → Extent → Type 0
-HasExtentAt groups place extent = (at : SmallVec ℕ × Group) → slice_get groups place ≡ Some at → IsExtent (pairs_of at.1) extent
+HasExtentAt groups place extent = (at : SmallVec ℕ × Group) → slice_get groups place ≡ Some at → IsExtent (pairs_of at.1) extent × (is_both extent.spread ≡ is_turning at.1)
 
 -- the group went from the pairs old to the pairs new: at most one came or went, and that has the A id
 pub record IsChange (change : Change) (old new : List Pair) : Type 0 where

@@ -103,6 +103,7 @@ fn count_each(cell: &IdCell, group: &Group) -> usize
                 0
             }
         }
+        Group::Turning(turning) => count_each_among(cell, &leads, &turning.pairs()),
         Group::Few(few) => count_each_among(cell, &leads, few.as_slice()),
         Group::Many(pairs) => count_each_of(cell, &leads, pairs),
     }

@@ -1,10 +1,11 @@
-//! One group: the A ids of its rows. A lone row takes no memory beyond the group's key, and a few rows are a plain list; more
-//! are an ordered set, in which a row is put, found and taken in logarithmic time.
-ghost use Rattle.std.specs.Prelude.{◌≡◌, ◌≢◌, ◌^◌, ◌<◌, ◌≤◌, ◌++◌, [], ◌∷◌, false, List, not, nat_eq, nat_lt, length, count_by, AllPairs, IfSome, OnOk, OnErr, IsTrue};
+//! One group: the A ids of its rows. A lone row takes no memory beyond the group's key, not even while it changes its A id, and
+//! a few rows are a plain list; more are an ordered set, in which a row is put, found and taken in logarithmic time.
+ghost use Rattle.std.specs.Prelude.{◌≡◌, ◌≢◌, ◌^◌, ◌<◌, ◌≤◌, ◌++◌, [], ◌∷◌, false, List, not, nat_eq, nat_lt, length, count_by, AllPairs, IfOk, IfSome, OnOk, OnErr, IsTrue};
 ghost use Rattle.std.specs.Bool.{OnFalse};
 ghost use Rattle.group_index.specs.Pairs.{Pair, pairs_of, has_pair, IsPut, IsTaken, IsAlone, HaveTheSame, IsNextHead};
 
 use crate::few::{Few, MOST};
+use crate::turning::Turning;
 use row_store::RowId;
 use std::alloc::{AllocError, Global};
 use std::collections::BTreeSet;
@@ -12,11 +13,20 @@ use std::ops::Bound;
 use value_pool::ValueId;
 
 /// The rows of a group with their A ids.
-#[derive(Drop)]
 pub(crate) enum Group {
     One(ValueId, RowId),
+    Turning(Turning),
     Few(Few),
     Many(BTreeSet<(ValueId, RowId)>),
+}
+
+// By hand, so that whatever drops a group calls this, and isn't proved for each kind of group.
+impl Drop for Group {
+    fn drop(self) {
+        match self {
+            Group::One(_, _) | Group::Turning(_) | Group::Few(_) | Group::Many(_) => {}
+        }
+    }
 }
 
 impl Group {
@@ -40,15 +50,38 @@ impl Group {
                     *self = Group::Many(pairs);
                 }
             }
+            Group::Turning(turning) => {
+                if !turning.has(a, row) {
+                    let few = turning.grown(alloc, a, row)?;
+                    *self = Group::Few(few);
+                }
+            }
             Group::One(own, only) => {
                 if (*own, *only) != (a, row) {
-                    let mut few = Few::of(alloc, *own, *only)?;
-                    few.put(a, row)?;
-                    *self = Group::Few(few);
+                    *self = Group::of_two(alloc, *own, *only, a, row)?;
                 }
             }
         }
         Ok(())
+    }
+
+    // Two pairs that differ. A row that stands in both is turning.
+    fn of_two(
+        alloc: Global,
+        own: ValueId,
+        only: RowId,
+        a: ValueId,
+        row: RowId,
+    ) -> Result<Group, AllocError>
+        requires { only ≡ row → own ≢ a }
+        ensures { IfOk result (λ group. IsPut ((own, only) ∷ []) (pairs_of group) (a, row)) }
+    {
+        if only == row {
+            return Ok(Group::Turning(Turning::of(own, a, row)));
+        }
+        let mut few = Few::of(alloc, own, only)?;
+        few.put(a, row)?;
+        Ok(Group::Few(few))
     }
 
     /// Takes a row with its A id away, and tells whether nothing else was there. A group of one row keeps it then, for
@@ -59,6 +92,12 @@ impl Group {
     {
         match self {
             Group::One(own, only) => (*own, *only) == (a, row),
+            Group::Turning(turning) => {
+                if let Some((own, only)) = turning.without(a, row) {
+                    *self = Group::One(own, only);
+                }
+                false
+            }
             Group::Few(few) => {
                 let taken = few.take(a, row);
                 let Some((own, only)) = few.lone() else {
@@ -85,6 +124,7 @@ impl Group {
     {
         match self {
             Group::One(_, _) => 1,
+            Group::Turning(turning) => turning.pairs().len(),
             Group::Few(few) => few.as_slice().len(),
             Group::Many(pairs) => pairs.len(),
         }
@@ -96,6 +136,7 @@ impl Group {
     {
         match self {
             Group::One(own, _) => { if a == *own { 0 } else { 1 } }
+            Group::Turning(turning) => count_others_among(&turning.pairs(), a),
             Group::Few(few) => count_others_among(few.as_slice(), a),
             Group::Many(pairs) => count_before(pairs, a) + count_behind(pairs, a),
         }
@@ -107,6 +148,7 @@ impl Group {
     {
         match self {
             Group::One(own, only) => { after.is_none_or(|low| low < *own).then_some((*own, *only)) }
+            Group::Turning(turning) => head_among(&turning.pairs(), after),
             Group::Few(few) => head_among(few.as_slice(), after),
             Group::Many(pairs) => head_after(pairs, after),
         }

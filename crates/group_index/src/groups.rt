@@ -1,4 +1,5 @@
-//! The groups by their keys, with the dirty ones marked.
+//! The groups by their keys, with the dirty ones marked. While a lone row is turning from one A id to another, no mark is put or
+//! taken, since it tells only once the row has one again.
 ghost use Rattle.std.specs.Prelude.{◌≡◌, ◌+◌, ◌<◌, ◌≤◌, ℕ, List, length, OnOk, OnErr};
 ghost use Rattle.std.specs.List.Sorted.{IsPermutation};
 ghost use Rattle.group_index.specs.Totals.{AreTotals, HasExtentAt};
@@ -163,7 +164,7 @@ fn settle(groups: &mut Groups, rows: &Tableau, place: usize)
 }
 
 // The same for a group that was marked rightly as long as its A ids were spread like that: no tableau row is looked at where
-// they still are.
+// they still are, nor while a row is turning.
 fn settle_again(groups: &mut Groups, rows: &Tableau, place: usize, before: Extent, after: Extent)
     requires within { place < length groups.old.pairs }
     requires others { AreMarkedBut rows.now groups.old place }
@@ -173,6 +174,9 @@ fn settle_again(groups: &mut Groups, rows: &Tableau, place: usize, before: Exten
     ensures same { HoldTheSame groups.old groups.new }
     ensures moved { IsPermutation groups.old.pairs groups.new.pairs }
 {
+    if after.spread.is_both() {
+        return;
+    }
     if after.spread != before.spread {
         settle(groups, rows, place);
     }

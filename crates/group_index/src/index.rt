@@ -86,10 +86,10 @@ impl GroupIndex {
         self.tableau.as_slice().len()
     }
 
-    /// How many groups are dirty.
+    /// How many groups are dirty, while no row has two entries.
     pub fn dirty(&self) -> usize
         ensures count { result ≡ self.now.dirty }
-        ensures groups { AreDirty self.now result }
+        ensures groups { IsSettled self.now → AreDirty self.now result }
     {
         // The length is what says that the keys are distinct.
         let _len = self.groups.len();

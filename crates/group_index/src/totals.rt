@@ -4,7 +4,7 @@
 //! other rows of the group aren't gone over. That is so where the right cell is `_` or a constant; for a set nothing is kept.
 ghost use Rattle.std.specs.Prelude.{◌≡◌, ◌+◌, List, [], IfSome};
 ghost use Rattle.cfd_semantics.specs.declared.pattern.Pattern.TheVariants.{Any};
-ghost use Rattle.group_index.specs.Pairs.{Pair, pairs_of};
+ghost use Rattle.group_index.specs.Pairs.{Pair, pairs_of, is_turning, is_both};
 ghost use Rattle.group_index.specs.Totals.{AreChanged, AreChangedOrGone, AreTotals, Follows, IsChange, IsExtent, IsKeptFor, listed_among};
 
 use crate::group::Group;
@@ -36,7 +36,8 @@ impl Extent {
 
     /// That of a group.
     pub(crate) fn of(group: &Group) -> Extent
-        ensures { IsExtent (pairs_of group.now) result }
+        ensures extent { IsExtent (pairs_of group.now) result }
+        ensures turning { is_both result.spread ≡ is_turning group.now }
     {
         Extent {
             rows: group.len(),

@@ -72,6 +72,7 @@ fn push_violations(
     let leads = Leads::of(group, cell);
     match group {
         Group::One(a, row) => push_listed(found, cell, &leads, *a, *row),
+        Group::Turning(turning) => push_among(found, cell, &leads, &turning.pairs()),
         Group::Few(few) => push_among(found, cell, &leads, few.as_slice()),
         Group::Many(pairs) => {
             // The length is what says that the pairs stand in order.

@@ -30,4 +30,4 @@ returns-clause-count g c t is =
     let last : c.loop-place.place ≡ c.args.groups.now.marked = omega (arith, c.loop-place-test.false, c.loop-place.auto.place-end, c.marked-place-end.ensures.marked) in
     let all : CountedSoFar c.args.groups.now t c.args.groups.now.marked c.loop-place.count =
     subst (λ (r : TableauRow _). CountedSoFar c.args.groups.now r c.args.groups.now.marked c.loop-place.count) same (subst (λ n. CountedSoFar c.args.groups.now row n c.loop-place.count) last c.loop-place.invariant.counted) in
-    counted c.args.groups.now c.len-len.ensures.distinct t c.requires.settled c.args.rows.now c.args.groups.now.marked c.loop-place.count (c.args.k, c.requires.row, own) (marked_stand_below c.args.rows.now c.args.groups.now c.requires.marks) all
+    counted c.args.groups.now c.len-len.ensures.distinct t c.requires.settled c.args.rows.now c.args.groups.now.marked c.loop-place.count (c.args.k, c.requires.row, own) (marked_stand_below c.args.rows.now c.args.groups.now c.requires.settled c.requires.marks) all

@@ -26,7 +26,7 @@ settle_again-requires-clause-others c = marked_but_written c.args.rows.now c.arg
 pub settle_again-requires-clause-mark : goal.settle_again-requires-clause-mark
 settle_again-requires-clause-mark c =
     let at = value_stands c.args.groups.now.pairs c.args.place c.value_at_mut.result.now c.value_at_mut.ensures.value in
-    marked_as_before c.args.rows.now c.args.groups.now c.args.place (at.0, c.value_at_mut.result.now) c.put-put.new.self c.extent_at-before.result.spread at.1 (c.extent_at-before.ensures (at.0, c.value_at_mut.result.now) at.1).spread c.requires.marks
+    marked_as_before c.args.rows.now c.args.groups.now c.args.place (at.0, c.value_at_mut.result.now) c.put-put.new.self c.extent_at-before.result.spread at.1 (let extent = c.extent_at-before.ensures (at.0, c.value_at_mut.result.now) at.1 in (extent.0.spread, extent.1)) c.requires.marks
 
 pub returns-clause-totals : goal.returns-clause-totals
 returns-clause-totals c =
@@ -37,8 +37,8 @@ returns-clause-totals c =
     let own = ap (λ (k : SmallVec _). k.items) key ∙ sym c.as_slice-2.ensures in
     let change : Change = record { a = c.args.a; before = c.extent_at-before.result; after = c.extent_at-after.result } in
     let is : IsChange change (pairs_of c.value_at_mut.result.now) (pairs_of c.put-put.new.self) = record {
-      before = c.extent_at-before.ensures (at.0, c.value_at_mut.result.now) at.1;
-      after = c.extent_at-after.ensures (at.0, c.put-put.new.self) now;
+      before = (c.extent_at-before.ensures (at.0, c.value_at_mut.result.now) at.1).0;
+      after = (c.extent_at-after.ensures (at.0, c.put-put.new.self) now).0;
       differ = (c.args.row, put_differs c.put-put.result (c.args.a, c.args.row) (pairs_of c.value_at_mut.result.now) (pairs_of c.put-put.new.self) c.put-put.ensures.ok c.put-put.ensures.err);
     } in
     let changed = subst (λ rows. AreChangedOrGone rows c.as_slice-2.result.now change c.args.totals.now.counts c.follow.new.self.counts) c.as_slice.ensures c.follow.ensures in

@@ -9,7 +9,7 @@ returns-then-is_dirty-clause-marks c =
     let at = pair_at c.args.groups.now.pairs c.args.place c.key_at.result.now c.value_at.result.now c.key_at.ensures c.value_at.ensures in
     let e = c.mark_at.ensures in
     marked_where_dirty c.args.rows.now c.args.groups.now c.mark_at.new.self c.args.place (c.key_at.result.now, c.value_at.result.now) c.requires.others at
-    (ap (λ x. is_dirty c.args.rows.now x (pairs_of c.value_at.result.now)) (sym c.as_slice.ensures) ∙ sym (c.is_dirty.ensures (pairs_of c.value_at.result.now) c.of-spread.ensures) ∙ c.if-is_dirty.true)
+    (ap (λ x. is_dirty c.args.rows.now x (pairs_of c.value_at.result.now)) (sym c.as_slice.ensures) ∙ sym (c.is_dirty.ensures (pairs_of c.value_at.result.now) c.of-spread.ensures.spread) ∙ c.if-is_dirty.true)
     (λ low. (e.already low).1) (λ high. (e.marks high).1)
 
 pub returns-then-is_dirty-clause-same : goal.returns-then-is_dirty-clause-same
@@ -22,7 +22,7 @@ returns-else-is_dirty-clause-marks c =
     let at = pair_at c.args.groups.now.pairs c.args.place c.key_at.result.now c.value_at.result.now c.key_at.ensures c.value_at.ensures in
     let e = c.unmark_at.ensures in
     unmarked_where_clean c.args.rows.now c.args.groups.now c.unmark_at.new.self c.args.place (c.key_at.result.now, c.value_at.result.now) c.requires.others at
-    (ap (λ x. is_dirty c.args.rows.now x (pairs_of c.value_at.result.now)) (sym c.as_slice.ensures) ∙ sym (c.is_dirty.ensures (pairs_of c.value_at.result.now) c.of-spread.ensures) ∙ c.if-is_dirty.false)
+    (ap (λ x. is_dirty c.args.rows.now x (pairs_of c.value_at.result.now)) (sym c.as_slice.ensures) ∙ sym (c.is_dirty.ensures (pairs_of c.value_at.result.now) c.of-spread.ensures.spread) ∙ c.if-is_dirty.false)
     (λ high. (e.already high).1) (λ low. (e.unmarks low).1) (λ low. omega (arith, (e.unmarks low).0, e.within, e.len))
 
 pub returns-else-is_dirty-clause-same : goal.returns-else-is_dirty-clause-same

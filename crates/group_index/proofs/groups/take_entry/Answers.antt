@@ -30,7 +30,7 @@ settle_again-requires-clause-mark g c =
     let has = c.in-Some.ensures.found in
     let v = c.value_at_mut.result.now in
     let at = pair_at c.args.groups.now.pairs c.in-Some.place has.0 v has.1 c.value_at_mut.ensures.value in
-    marked_as_before c.args.rows.now c.args.groups.now c.in-Some.place (has.0, v) c.take.new.self c.extent_at-before.result.spread at (c.extent_at-before.ensures (has.0, v) at).spread c.requires.marks
+    marked_as_before c.args.rows.now c.args.groups.now c.in-Some.place (has.0, v) c.take.new.self c.extent_at-before.result.spread at (let extent = c.extent_at-before.ensures (has.0, v) at in (extent.0.spread, extent.1)) c.requires.marks
 
 pub returns-then-take-clause-marks : goal.returns-then-take-clause-marks
 returns-then-take-clause-marks g c =
@@ -51,7 +51,7 @@ returns-then-take-clause-totals g c =
     let change : Change = record { a = c.args.a; before = c.extent_at-before.result; after = c.nothing-after.result } in
     let x = c.as_slice-then-take.result.now in
     let is : IsChange change (pairs_of v) [] = record {
-      before = c.extent_at-before.ensures (has.0, v) at;
+      before = (c.extent_at-before.ensures (has.0, v) at).0;
       after = c.nothing-after.ensures;
       differ = (c.args.row, alone_differs (c.args.a, c.args.row) (pairs_of v) (c.take.ensures.last c.if-take.true));
     } in
@@ -82,8 +82,8 @@ returns-else-take-clause-totals g c =
     let change : Change = record { a = c.args.a; before = c.extent_at-before.result; after = c.extent_at-after.result } in
     let x = c.as_slice-else-take-2.result.now in
     let is : IsChange change (pairs_of v) (pairs_of w) = record {
-      before = c.extent_at-before.ensures (has.0, v) at;
-      after = c.extent_at-after.ensures (has.0, w) (set_here pairs place has.0 v w at);
+      before = (c.extent_at-before.ensures (has.0, v) at).0;
+      after = (c.extent_at-after.ensures (has.0, w) (set_here pairs place has.0 v w at)).0;
       differ = (c.args.row, taken_differs (c.args.a, c.args.row) (pairs_of v) (pairs_of w) (kept_answer c.take.result (IsTaken (pairs_of v) (pairs_of w) (c.args.a, c.args.row)) c.take.ensures.left c.if-take.false));
     } in
     let changed = subst (λ rows. AreChangedOrGone rows x change c.args.totals.now.counts c.follow-else-take.new.self.counts) c.as_slice-else-take.ensures c.follow-else-take.ensures in

@@ -28,4 +28,4 @@ returns-clause-exactly g c t is =
     let last : c.loop-place.place ≡ c.args.groups.now.marked = omega (arith, c.loop-place-test.false, c.loop-place.auto.place-end, c.marked-place-end.ensures.marked) in
     let all : ListedSoFar c.args.groups.now t c.args.groups.now.marked c.loop-place.found.items =
     subst (λ (r : TableauRow _). ListedSoFar c.args.groups.now r c.args.groups.now.marked c.loop-place.found.items) same (subst (λ n. ListedSoFar c.args.groups.now row n c.loop-place.found.items) last c.loop-place.invariant.listed) in
-    collected c.args.groups.now c.len-len.ensures.distinct t c.requires.settled c.args.rows.now c.args.groups.now.marked c.loop-place.found.items (c.args.k, c.requires.row, own) (marked_stand_below c.args.rows.now c.args.groups.now c.requires.marks) all
+    collected c.args.groups.now c.len-len.ensures.distinct t c.requires.settled c.args.rows.now c.args.groups.now.marked c.loop-place.found.items (c.args.k, c.requires.row, own) (marked_stand_below c.args.rows.now c.args.groups.now c.requires.settled c.requires.marks) all

@@ -3,10 +3,10 @@ use Rattle.group_index.specs.Pairs.{Pair}
 use Rattle.group_index.proofs.PairFacts.{taken_from_remove, alone_from_remove, set_has, taken_when, no_pairs, one_left}
 use Rattle.group_index.proofs.group.Group.take.Goals as goal
 
-pub returns-in-Some-lone-clause-left : goal.returns-in-Some-lone-clause-left
-returns-in-Some-lone-clause-left c =
+pub returns-in-Some-lone-2-clause-left : goal.returns-in-Some-lone-2-clause-left
+returns-in-Some-lone-2-clause-left c =
     let p : Pair = (c.args.a, c.args.row) in
-    rw c.in-Many.is (one_left c.in-Many.pairs.keys c.remove-taken.new.self.keys p (c.in-Some-lone.own, c.in-Some-lone.only) (taken_from_remove c.in-Many.pairs c.remove-taken.new.self p c.remove-taken.ensures.updates.0) c.in-Some-lone.ensures)
+    rw c.in-Many.is (one_left c.in-Many.pairs.keys c.remove-taken.new.self.keys p (c.in-Some-lone-2.own, c.in-Some-lone-2.only) (taken_from_remove c.in-Many.pairs c.remove-taken.new.self p c.remove-taken.ensures.updates.0) c.in-Some-lone-2.ensures)
 
 pub returns-then-taken-2-clause-last : goal.returns-then-taken-2-clause-last
 returns-then-taken-2-clause-last c empty =
