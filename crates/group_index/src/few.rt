@@ -12,6 +12,10 @@ use value_pool::ValueId;
 /// How many pairs are still few.
 pub(crate) const MOST: usize = 8;
 
+// How many pairs the first list has room for. A change of a row puts one pair more for a moment, so a list that is full
+// would grow then.
+const FIRST_ROOM: usize = 4;
+
 /// The pairs in any order, and none of them twice.
 #[derive(Drop)]
 pub(crate) struct Few {
@@ -33,7 +37,7 @@ impl Few {
     pub(crate) fn of(alloc: Global, a: ValueId, row: RowId) -> Result<Few, AllocError>
         ensures { IfOk result (λ few. few ≡ (a, row) ∷ []) }
     {
-        let mut pairs = Vec::with_capacity(alloc, 2)?;
+        let mut pairs = Vec::with_capacity(alloc, FIRST_ROOM)?;
         pairs.push((a, row))?;
         Ok(Few { pairs })
     }
