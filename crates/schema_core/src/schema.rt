@@ -9,19 +9,26 @@ use line_grammar::LineFault;
 use text_lists::{Limit, List, Text, Texts};
 
 /// The texts that an attribute may have.
-#[derive(Debug, Drop, PartialEq, Eq)]
+#[derive(Drop, PartialEq, Eq)]
 pub enum Domain {
     AnyText,
     Finite(Texts),
 }
 
-#[derive(Debug, Drop, PartialEq, Eq)]
+#[derive(PartialEq, Eq)]
 pub struct Attr {
     pub name: Text,
     pub domain: Domain,
 }
 
-#[derive(Debug, Drop, PartialEq, Eq)]
+// By hand, so that whatever drops an attribute calls this, and isn't proved for each of its parts.
+impl Drop for Attr {
+    fn drop(self) {
+        let Attr { name: _, domain: _ } = self;
+    }
+}
+
+#[derive(PartialEq, Eq)]
 pub struct Table {
     pub name: Text,
     pub file: Text,
@@ -30,7 +37,19 @@ pub struct Table {
     pub attrs: List<Attr>,
 }
 
-#[derive(Debug, Drop, PartialEq, Eq)]
+// By hand, as for an attribute.
+impl Drop for Table {
+    fn drop(self) {
+        let Table {
+            name: _,
+            file: _,
+            master: _,
+            attrs: _,
+        } = self;
+    }
+}
+
+#[derive(Drop, PartialEq, Eq)]
 pub struct Schema {
     pub tables: List<Table>,
     /// The file of the rules, and that of the script.

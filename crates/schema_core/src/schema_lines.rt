@@ -11,7 +11,7 @@ use std::alloc::Global;
 use text_lists::Text;
 
 /// The line that a group of a schema file begins with.
-#[derive(Debug, Drop)]
+#[derive(Drop)]
 pub enum SchemaHead {
     Table {
         master: bool,
