@@ -3,7 +3,7 @@
 use text_lists::{List, Text};
 
 /// A mark between names, numbers and texts.
-#[derive(Clone, Copy, Debug, PartialEq, Eq)]
+#[derive(Clone, Copy, PartialEq, Eq)]
 pub enum Mark {
     Colon,
     Comma,
@@ -21,7 +21,7 @@ pub enum Mark {
 }
 
 /// A token. `Quoted` holds the text that is meant, not its spelling.
-#[derive(Debug, Drop, PartialEq, Eq)]
+#[derive(Drop)]
 pub enum Token {
     Name(Text),
     Number(u64),
@@ -30,7 +30,7 @@ pub enum Token {
 }
 
 /// What a line is.
-#[derive(Debug, Drop, PartialEq, Eq)]
+#[derive(Drop)]
 pub enum LineTokens {
     /// It is blank, or a comment.
     Passed,

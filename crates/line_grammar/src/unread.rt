@@ -5,7 +5,7 @@ ghost use Rattle.line_grammar.specs.declared.unread.Unread.TheVariants.{Memory};
 
 use std::alloc::AllocError;
 
-#[derive(Debug, Drop)]
+#[derive(Drop)]
 pub enum Unread {
     /// No such part stands there.
     Absent,
