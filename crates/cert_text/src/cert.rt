@@ -11,13 +11,12 @@ use text_lists::{Text, Texts};
 
 /// Whether the rules of a table are consistent, or imply a dependency. It is a declaration without a name, of one attribute
 /// on the right and one tableau row.
-#[derive(Debug, Drop)]
+#[derive(Drop)]
 pub enum Question {
     Consistent(Text),
     Implies(CfdDecl),
 }
 
-#[derive(Debug)]
 pub struct Asked {
     pub line: usize,
     pub question: Question,
@@ -33,20 +32,19 @@ impl Drop for Asked {
     }
 }
 
-#[derive(Debug, Drop)]
+#[derive(Drop)]
 pub struct TupleLine {
     pub line: usize,
     pub values: Texts,
 }
 
-#[derive(Debug, Drop)]
+#[derive(Drop)]
 pub struct NodeLine {
     pub line: usize,
     pub node: NodeName,
 }
 
 /// A tree of cases, which leaves none open, or of which the budget of leaves was spent.
-#[derive(Debug)]
 pub struct TreeLines {
     pub line: usize,
     pub budget: Option<u64>,
@@ -64,7 +62,7 @@ impl Drop for TreeLines {
     }
 }
 
-#[derive(Debug, Drop)]
+#[derive(Drop)]
 pub enum Answer {
     Witness(TupleLine),
     Counter(TupleLine, TupleLine),
@@ -72,7 +70,6 @@ pub enum Answer {
 }
 
 /// What a certificate says.
-#[derive(Debug)]
 pub struct CertParts {
     pub asked: Asked,
     pub answer: Answer,
@@ -89,7 +86,7 @@ impl Drop for CertParts {
 }
 
 /// A certificate that can be written: the answer is one to the question, its nodes are one tree, and its names are names.
-#[derive(Debug, Drop)]
+#[derive(Drop)]
 pub struct Cert {
     parts: CertParts,
 }

@@ -4,13 +4,13 @@ use cell_values::Which;
 use text_lists::Text;
 
 /// The values of an attribute in a tuple.
-#[derive(Debug, Drop)]
+#[derive(Drop)]
 pub struct CellName {
     pub tuple: Which,
     pub attr: Text,
 }
 
-#[derive(Debug, Drop)]
+#[derive(Drop)]
 pub enum VarName {
     /// The tuple has the value there.
     Value(CellName, Text),
@@ -19,14 +19,13 @@ pub enum VarName {
 }
 
 /// Why no assignment goes on from a leaf. Clauses are numbered from 1.
-#[derive(Debug, Drop)]
+#[derive(Drop)]
 pub enum ReasonName {
     Clause(u64),
     Two(VarName, VarName),
     NoneOf(CellName),
 }
 
-#[derive(Debug)]
 pub enum NodeName {
     Split(VarName),
     Leaf(ReasonName),

@@ -18,7 +18,7 @@ pub struct NodePlace {
     pub form: usize,
 }
 
-#[derive(Debug, Drop)]
+#[derive(Drop)]
 pub struct TreeNodes {
     forms: List<NodeName>,
     places: List<NodePlace>,

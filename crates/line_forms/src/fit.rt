@@ -15,7 +15,7 @@ use line_grammar::{LineTokens, Token, read_tokens};
 use std::alloc::{AllocError, Global};
 
 /// How a line stands to the forms of its place.
-#[derive(Clone, Copy, Debug, PartialEq, Eq)]
+#[derive(Clone, Copy, PartialEq, Eq)]
 pub enum Fit {
     /// No form there has its first word.
     Nowhere,

@@ -12,7 +12,7 @@ use std::alloc::AllocError;
 use text_lists::Text;
 
 /// A form, by the first word of its lines.
-#[derive(Clone, Copy, Debug, PartialEq, Eq)]
+#[derive(Clone, Copy, PartialEq, Eq)]
 pub enum Form {
     Table,
     Master,

@@ -13,7 +13,7 @@ use std::alloc::{AllocError, Global};
 use text_lists::List;
 
 /// How many tokens went along, and the pieces from there on.
-#[derive(Debug, Drop)]
+#[derive(Drop)]
 pub struct Gone {
     pub passed: usize,
     pub left: List<Piece>,

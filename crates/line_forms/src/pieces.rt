@@ -6,7 +6,7 @@ ghost use Rattle.line_forms.specs.Pieces.{may_lack, word_text};
 use line_grammar::Mark;
 
 /// What may stand once, or in a list.
-#[derive(Clone, Copy, Debug, PartialEq, Eq)]
+#[derive(Clone, Copy, PartialEq, Eq)]
 pub enum Item {
     Name,
     /// A text of at most 1,024 bytes.
@@ -34,7 +34,7 @@ pub enum Item {
 }
 
 /// A word that has to stand at its place.
-#[derive(Clone, Copy, Debug, PartialEq, Eq)]
+#[derive(Clone, Copy, PartialEq, Eq)]
 pub enum Word {
     In,
     Using,
@@ -42,7 +42,7 @@ pub enum Word {
 }
 
 /// A part of a line.
-#[derive(Clone, Copy, Debug, PartialEq, Eq)]
+#[derive(Clone, Copy, PartialEq, Eq)]
 pub enum Piece {
     Sign(Mark),
     Word(Word),
