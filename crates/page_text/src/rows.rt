@@ -17,7 +17,7 @@ pub struct Shown {
 }
 
 /// How many rows were read of each table, and how many it has now.
-#[derive(Debug, Drop)]
+#[derive(Drop)]
 pub struct RowCounts {
     pub read: List<u64>,
     pub present: List<u64>,

@@ -13,7 +13,7 @@ use schema_core::{List, Text};
 use std::alloc::{AllocError, Global};
 
 /// A tableau row of a rule, counted from 1.
-#[derive(Debug, Drop)]
+#[derive(Drop)]
 pub struct RowName {
     pub rule: Text,
     pub row: usize,

@@ -9,7 +9,7 @@ use schema_core::{List, Texts};
 use std::alloc::{AllocError, Global};
 
 /// The rows of a table: their ids, and their texts in the same order.
-#[derive(Debug, Drop)]
+#[derive(Drop)]
 pub struct TableRows {
     pub ids: List<RowId>,
     pub texts: List<Texts>,

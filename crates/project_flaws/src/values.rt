@@ -26,7 +26,7 @@ pub enum MayStand {
 }
 
 /// What is known of a value of the domain of an attribute.
-#[derive(Debug, Drop)]
+#[derive(Drop)]
 pub struct ValueVerdict {
     pub attr: usize,
     pub value: Text,

@@ -21,7 +21,7 @@ use std::alloc::{AllocError, Global};
 pub const BUDGET: u64 = 100_000;
 
 /// What is known of the dependencies of a table.
-#[derive(Debug, Drop)]
+#[derive(Drop)]
 pub enum Verdict {
     /// Some row, alone, satisfies them; and what is known of the values of the domains.
     Holds(List<ValueVerdict>),

@@ -12,7 +12,7 @@ use schema_core::{List, SchemaCause};
 use std::alloc::{AllocError, Global};
 
 /// A line by its number, and the place of the first line of its file.
-#[derive(Clone, Copy, Debug)]
+#[derive(Clone, Copy)]
 pub struct Misfit {
     pub line: usize,
     pub start: Place,

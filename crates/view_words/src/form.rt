@@ -17,7 +17,7 @@ const MOST_FIRST: u64 = 500_000;
 const LAST_ROW: u64 = u64::MAX;
 
 /// A form that words have, with what they give it.
-#[derive(Debug, Drop)]
+#[derive(Drop)]
 pub enum Form {
     /// `list PROJECT [--table T] [--rule R] [--first N] [--loaded]`
     List(ListOptions),
@@ -32,7 +32,7 @@ pub enum Form {
 }
 
 /// What words ask for.
-#[derive(Debug, Drop)]
+#[derive(Drop)]
 pub enum Asked {
     Form(Form),
     /// Help or the version, of which `help_text` has the text.

@@ -9,7 +9,7 @@ use std::alloc::{AllocError, Global};
 use text_lists::{List, Text, Texts};
 
 /// What words give that were told apart.
-#[derive(Debug, Drop)]
+#[derive(Drop)]
 pub struct Given {
     /// The words that are neither options nor values, in their order.
     pub left: Texts,
