@@ -12,7 +12,7 @@ use schema_core::{List, ListItem, Mark, Name, Phrase, Text, Texts, Tokens, Unrea
 use std::alloc::{AllocError, Global};
 
 /// One side of an inclusion: a table, the attributes whose values are included, and those that have constants.
-#[derive(Debug, Drop)]
+#[derive(Drop)]
 pub struct Side {
     pub table: Text,
     pub key: Texts,
