@@ -10,7 +10,7 @@ use std::alloc::{AllocError, Global};
 use text_lists::Text;
 
 /// Where a line stands.
-#[derive(Clone, Copy, Debug, PartialEq, Eq)]
+#[derive(Clone, Copy, PartialEq, Eq)]
 pub enum Place {
     /// In a schema, and not among the lines of a table.
     Schema,

@@ -7,7 +7,7 @@ use std::fmt::Debug;
 use thiserror::Error;
 
 /// The first faulty line of a file with its first cause, or want of memory.
-#[derive(Debug, Drop, Error, PartialEq, Eq)]
+#[derive(Debug, Drop, Error)]
 #[error_bound(C: Debug)]
 pub enum LineFault<C> {
     #[error("line {line}: {cause:?}")]

@@ -21,7 +21,7 @@ pub enum Mark {
 }
 
 /// A token. `Quoted` holds the text that is meant, not its spelling.
-#[derive(Drop, PartialEq, Eq)]
+#[derive(Drop)]
 pub enum Token {
     Name(Text),
     Number(u64),
@@ -30,7 +30,7 @@ pub enum Token {
 }
 
 /// What a line is.
-#[derive(Drop, PartialEq, Eq)]
+#[derive(Drop)]
 pub enum LineTokens {
     /// It is blank, or a comment.
     Passed,

@@ -2,9 +2,10 @@
 //! After a refusal the buffer holds what it held, and a front of what was to be appended.
 
 ghost use Rattle.std.specs.Prelude.{◌≡◌, ◌++◌, OnOk, OnErr, decimal};
+ghost use Rattle.std.specs.List.{flat_map};
 ghost use Rattle.line_grammar.specs.Tokens.{line_tokens};
 ghost use Rattle.line_grammar.specs.declared.tokens.LineTokens.TheVariants.{Tokens};
-ghost use Rattle.line_grammar.specs.Spelling.{mark_text, spelling, part_text, line_text, tokens_in, IsReadable, comma_separated, spaced_list};
+ghost use Rattle.line_grammar.specs.Spelling.{mark_text, spelling, part_text, line_text, tokens_in, IsReadable, after_comma, comma_separated, spaced_list};
 ghost use Rattle.line_grammar.specs.Appending.{AppendsPart};
 
 use crate::quoting::push_quoted;
@@ -13,7 +14,7 @@ use itoa::Buffer;
 use std::alloc::AllocError;
 
 /// A part of a line: a blank or a token.
-#[derive(Drop, PartialEq, Eq)]
+#[derive(Drop)]
 pub enum Part {
     Space,
     Tab,
@@ -112,6 +113,13 @@ pub fn push_list<W: Writes<T>, T>(out: &mut Vec<u8>, items: &[T]) -> Result<(), 
         return Ok(());
     };
     W::push(out, first)?;
+    push_others::<W, T>(out, others)
+}
+
+/// Appends the other items of a list, each behind a comma and a space.
+fn push_others<W: Writes<T>, T>(out: &mut Vec<u8>, others: &[T]) -> Result<(), AllocError>
+    ensures { OnOk result (out.new.items ≡ out.old.items ++ line_text (flat_map (after_comma W.written) others.now)) }
+{
     for item in others {
         out.extend_from_slice(b", ")?;
         W::push(out, item)?;

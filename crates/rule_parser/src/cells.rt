@@ -31,17 +31,24 @@ fn set_at(alloc: Global, tokens: &mut Tokens<'_>) -> Result<Texts, Unread>
     Ok(values)
 }
 
+/// The members of a set in braces, as a cell holds them.
+fn members_at(alloc: Global, tokens: &mut Tokens<'_>) -> Result<ValueSet<Text>, Unread>
+    ensures exact { Reads set_at tokens.old tokens.new result }
+    ensures written { IfOk result IsWrittenSet }
+{
+    let values = set_at(alloc, tokens)?;
+    Ok(ValueSet::new(alloc, values)?)
+}
+
 /// What stands behind the first word of a cell.
 fn set_cell(alloc: Global, word: &Text, tokens: &mut Tokens<'_>) -> Result<Cell, Unread>
     ensures exact { Reads (set_cell word.now) tokens.old tokens.new result }
     ensures written { IfOk result IsWrittenCell }
 {
     if word.is("in") {
-        let members = ValueSet::new(alloc, set_at(alloc, tokens)?)?;
-        Ok(Pattern::In(members))
+        Ok(Pattern::In(members_at(alloc, tokens)?))
     } else if word.is("not") {
-        let members = ValueSet::new(alloc, set_at(alloc, tokens)?)?;
-        Ok(Pattern::NotIn(members))
+        Ok(Pattern::NotIn(members_at(alloc, tokens)?))
     } else {
         Err(Unread::Absent)
     }

@@ -1,6 +1,6 @@
 //! The canonical text of rules.
 
-ghost use Rattle.std.specs.Prelude.{◌≡◌, ◌<◌, ◌++◌, [], length, map, OnOk, IfOk, Ok};
+ghost use Rattle.std.specs.Prelude.{◌≡◌, ◌<◌, ◌++◌, [], ◌∷◌, length, map, OnOk, IfOk, Ok};
 ghost use Rattle.std.specs.List.{flat_map, zip};
 ghost use Rattle.line_grammar.specs.Spelling.{line_text, file_text, after_comma, spaced_list};
 ghost use Rattle.rule_parser.specs.RuleText.{attr_parts, value_parts, attrs_parts, members_parts, cell_parts, row_line, pair_parts, pattern_parts, cfd_parts, cfd_line, side_parts, cind_line, when_parts, gives_parts, edit_names, edit_line, cfd_row_line, cind_row_line, decl_lines, canonical, table_name, attr_name, dep_row, dep_line};
@@ -47,8 +47,7 @@ fn push_attrs(out: &mut Vec<u8>, attrs: &[Text]) -> Result<(), AllocError>
 {
     out.push(b'[')?;
     push_list::<Attrs, Text>(out, attrs)?;
-    out.push(b']')?;
-    Ok(())
+    out.extend_from_slice(b"]")
 }
 
 fn push_members(out: &mut Vec<u8>, members: &[Text]) -> Result<(), AllocError>
@@ -56,8 +55,7 @@ fn push_members(out: &mut Vec<u8>, members: &[Text]) -> Result<(), AllocError>
 {
     out.push(b'{')?;
     push_list::<Values, Text>(out, members)?;
-    out.push(b'}')?;
-    Ok(())
+    out.extend_from_slice(b"}")
 }
 
 /// Cells of a tableau, as lists of them are written.
@@ -68,10 +66,7 @@ impl Writes<Cell> for Cells {
 
     fn push(out: &mut Vec<u8>, cell: &Cell) -> Result<(), AllocError> {
         match cell {
-            Pattern::Any => {
-                out.push(b'_')?;
-                Ok(())
-            }
+            Pattern::Any => out.extend_from_slice(b"_"),
             Pattern::Is(value) => push_quoted(out, value.as_str()),
             Pattern::In(members) => {
                 out.extend_from_slice(b"in ")?;
@@ -159,12 +154,19 @@ pub fn push_sides(
     push_attrs(out, right)
 }
 
+/// The word that a declaration begins with, with its space, and the name and a space.
+fn push_front(out: &mut Vec<u8>, word: &[u8], name: &Text) -> Result<(), AllocError>
+    ensures { OnOk result (out.new.items ≡ out.old.items ++ (word.now ++ (name.now ++ 32 ∷ []))) }
+{
+    out.extend_from_slice(word)?;
+    out.extend_from_slice(name.as_str().as_bytes())?;
+    out.extend_from_slice(b" ")
+}
+
 fn push_cfd(out: &mut Vec<u8>, cfd: &CfdDecl) -> Result<(), AllocError>
     ensures { OnOk result (out.new.items ≡ out.old.items ++ line_text (cfd_line cfd.now)) }
 {
-    out.extend_from_slice(b"cfd ")?;
-    out.extend_from_slice(cfd.name.as_str().as_bytes())?;
-    out.push(b' ')?;
+    push_front(out, b"cfd ", &cfd.name)?;
     push_sides(out, &cfd.table, cfd.x.as_slice(), cfd.y.as_slice())
 }
 
@@ -182,16 +184,13 @@ fn push_side(
     push_list::<Attrs, Text>(out, key)?;
     out.extend_from_slice(b"; ")?;
     push_list::<Attrs, Text>(out, pattern)?;
-    out.push(b']')?;
-    Ok(())
+    out.extend_from_slice(b"]")
 }
 
 fn push_cind(out: &mut Vec<u8>, cind: &CindDecl) -> Result<(), AllocError>
     ensures { OnOk result (out.new.items ≡ out.old.items ++ line_text (cind_line cind.now)) }
 {
-    out.extend_from_slice(b"cind ")?;
-    out.extend_from_slice(cind.name.as_str().as_bytes())?;
-    out.push(b' ')?;
+    push_front(out, b"cind ", &cind.name)?;
     push_side(out, &cind.left, cind.x.as_slice(), cind.xp.as_slice())?;
     out.extend_from_slice(b" in ")?;
     push_side(out, &cind.right, cind.y.as_slice(), cind.yp.as_slice())
@@ -218,14 +217,11 @@ fn push_gives(out: &mut Vec<u8>, edit: &EditDecl) -> Result<(), AllocError>
 fn push_edit_names(out: &mut Vec<u8>, edit: &EditDecl) -> Result<(), AllocError>
     ensures { OnOk result (out.new.items ≡ out.old.items ++ line_text (edit_names edit.now)) }
 {
-    out.extend_from_slice(b"edit ")?;
-    out.extend_from_slice(edit.name.as_str().as_bytes())?;
-    out.push(b' ')?;
+    push_front(out, b"edit ", &edit.name)?;
     out.extend_from_slice(edit.table.as_str().as_bytes())?;
     out.extend_from_slice(b" using ")?;
     out.extend_from_slice(edit.master.as_str().as_bytes())?;
-    out.push(b':')?;
-    Ok(())
+    out.extend_from_slice(b":")
 }
 
 fn push_edit(out: &mut Vec<u8>, edit: &EditDecl) -> Result<(), AllocError>
@@ -288,8 +284,7 @@ fn push_decl(out: &mut Vec<u8>, decl: &Decl) -> Result<(), AllocError>
         }
         Decl::Edit(edit) => {
             push_edit(out, edit)?;
-            out.push(b'\n')?;
-            Ok(())
+            out.extend_from_slice(b"\n")
         }
     }
 }

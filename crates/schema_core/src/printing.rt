@@ -1,10 +1,10 @@
 //! The canonical text of a schema.
 
-ghost use Rattle.std.specs.Prelude.{◌≡◌, ◌∷◌, [], ◌++◌, IfOk, OnOk, Ok, codes};
+ghost use Rattle.std.specs.Prelude.{◌≡◌, ◌∷◌, [], ◌++◌, IfOk, OnOk, Ok};
 ghost use Rattle.text_lists.specs.Limits.{standard};
 ghost use Rattle.schema_core.specs.Schemas.{IsValidSchema};
 ghost use Rattle.line_grammar.specs.Spelling.{line_text, file_text};
-ghost use Rattle.schema_core.specs.SchemaText.{value_parts, domain_parts, attr_line, head_line, table_lines, file_lines, canonical};
+ghost use Rattle.schema_core.specs.SchemaText.{value_parts, domain_parts, attr_line, table_word, head_line, table_lines, file_lines, canonical};
 ghost use Rattle.schema_core.specs.SchemaFiles.{reads};
 
 use crate::schema::{Attr, Domain, Schema, Table};
@@ -41,23 +41,25 @@ fn push_attr(out: &mut Vec<u8>, attr: &Attr) -> Result<(), AllocError>
     out.extend_from_slice(b"attr ")?;
     out.extend_from_slice(attr.name.as_str().as_bytes())?;
     push_domain(out, &attr.domain)?;
-    out.push(b'\n')?;
-    Ok(())
+    out.extend_from_slice(b"\n")
+}
+
+/// The word that the line of a table begins with.
+fn table_word(master: bool) -> &'static str
+    ensures { result.now ≡ table_word master }
+{
+    if master { "master" } else { "table" }
 }
 
 fn push_head(out: &mut Vec<u8>, table: &Table) -> Result<(), AllocError>
     ensures { OnOk result (out.new.items ≡ out.old.items ++ (line_text (head_line table.now) ++ 10 ∷ [])) }
 {
-    if table.master {
-        out.extend_from_slice(b"master ")?;
-    } else {
-        out.extend_from_slice(b"table ")?;
-    }
+    out.extend_from_slice(table_word(table.master).as_bytes())?;
+    out.extend_from_slice(b" ")?;
     out.extend_from_slice(table.name.as_str().as_bytes())?;
-    out.push(b' ')?;
+    out.extend_from_slice(b" ")?;
     push_quoted(out, table.file.as_str())?;
-    out.push(b'\n')?;
-    Ok(())
+    out.extend_from_slice(b"\n")
 }
 
 fn push_table(out: &mut Vec<u8>, table: &Table) -> Result<(), AllocError>
@@ -70,26 +72,17 @@ fn push_table(out: &mut Vec<u8>, table: &Table) -> Result<(), AllocError>
     Ok(())
 }
 
-fn push_rules(out: &mut Vec<u8>, file: &Option<Text>) -> Result<(), AllocError>
-    ensures { OnOk result (out.new.items ≡ out.old.items ++ file_text (file_lines (codes "rules") file.now)) }
+/// The line of a file, where there is one.
+fn push_file(out: &mut Vec<u8>, word: &str, file: &Option<Text>) -> Result<(), AllocError>
+    ensures { OnOk result (out.new.items ≡ out.old.items ++ file_text (file_lines word.now file.now)) }
 {
-    if let Some(file) = file {
-        out.extend_from_slice(b"rules ")?;
-        push_quoted(out, file.as_str())?;
-        out.push(b'\n')?;
-    }
-    Ok(())
-}
-
-fn push_script(out: &mut Vec<u8>, file: &Option<Text>) -> Result<(), AllocError>
-    ensures { OnOk result (out.new.items ≡ out.old.items ++ file_text (file_lines (codes "script") file.now)) }
-{
-    if let Some(file) = file {
-        out.extend_from_slice(b"script ")?;
-        push_quoted(out, file.as_str())?;
-        out.push(b'\n')?;
-    }
-    Ok(())
+    let Some(file) = file else {
+        return Ok(());
+    };
+    out.extend_from_slice(word.as_bytes())?;
+    out.extend_from_slice(b" ")?;
+    push_quoted(out, file.as_str())?;
+    out.extend_from_slice(b"\n")
 }
 
 /// The canonical text of the schema.
@@ -102,7 +95,7 @@ pub fn print_schema(alloc: Global, schema: &Schema) -> Result<Vec<u8>, AllocErro
     for table in schema.tables.as_slice() {
         push_table(&mut out, table)?;
     }
-    push_rules(&mut out, &schema.rules)?;
-    push_script(&mut out, &schema.script)?;
+    push_file(&mut out, "rules", &schema.rules)?;
+    push_file(&mut out, "script", &schema.script)?;
     Ok(out)
 }

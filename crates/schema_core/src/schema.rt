@@ -15,19 +15,38 @@ pub enum Domain {
     Finite(Texts),
 }
 
-#[derive(Drop, PartialEq, Eq)]
+#[derive(PartialEq, Eq)]
 pub struct Attr {
     pub name: Text,
     pub domain: Domain,
 }
 
-#[derive(Drop, PartialEq, Eq)]
+// By hand, so that whatever drops an attribute calls this, and isn't proved for each of its parts.
+impl Drop for Attr {
+    fn drop(self) {
+        let Attr { name: _, domain: _ } = self;
+    }
+}
+
+#[derive(PartialEq, Eq)]
 pub struct Table {
     pub name: Text,
     pub file: Text,
     /// Whether its rows are master data, from which others are corrected.
     pub master: bool,
     pub attrs: List<Attr>,
+}
+
+// By hand, as for an attribute.
+impl Drop for Table {
+    fn drop(self) {
+        let Table {
+            name: _,
+            file: _,
+            master: _,
+            attrs: _,
+        } = self;
+    }
 }
 
 #[derive(Drop, PartialEq, Eq)]

@@ -2,6 +2,7 @@
 
 ghost use Rattle.std.specs.Prelude.{◌≡◌, IfOk, OnOk, Some};
 ghost use Rattle.line_grammar.specs.Faults.{IsUnlessMemory, GivesUnlessMemory, line_tells};
+ghost use Rattle.line_grammar.specs.Groups.{in_turn};
 ghost use Rattle.text_lists.specs.Names.{IsFileName};
 ghost use Rattle.schema_core.specs.ReadSchemas.{IsTableSoFar, IsSchemaSoFar};
 ghost use Rattle.schema_core.specs.SchemaFiles.{schema_causes, has_table, has_attr, has_no_value, has_value_twice, has_too_many_values, table_fault, attr_fault, unless, add_attr, add_table, add_file, add_group};
@@ -153,6 +154,22 @@ impl<'a> Gather<Line<'a>> for TableLines {
     }
 }
 
+/// The table with the attributes of its members.
+fn with_members(
+    alloc: Global,
+    limits: Limits,
+    table: Table,
+    members: List<Line<'_>>,
+) -> Result<Table, SchemaFault>
+    requires { IsTableSoFar limits table }
+    ensures exact { IsUnlessMemory line_tells (in_turn (add_attr limits) table members.entry) result }
+    ensures fit { IfOk result (IsTableSoFar limits) }
+{
+    let mut lines = TableLines { limits, table };
+    gather_all(alloc, &mut lines, members)?;
+    Ok(lines.table)
+}
+
 /// A schema that groups add to.
 #[derive(Drop)]
 pub struct SchemaGroups {
@@ -181,12 +198,8 @@ impl SchemaGroups {
             members.as_slice(),
         );
         unless(fault, number)?;
-        let mut lines = TableLines {
-            limits: self.limits,
-            table,
-        };
-        gather_all(alloc, &mut lines, members)?;
-        self.schema.tables.push(lines.table)?;
+        let whole = with_members(alloc, self.limits, table, members)?;
+        self.schema.tables.push(whole)?;
         Ok(())
     }
 
