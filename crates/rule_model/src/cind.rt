@@ -8,7 +8,7 @@ pub type CindRow = InclusionRow<Text>;
 
 /// An inclusion dependency of a left table in a right one. Tables and attributes are numbered from 0, in
 /// the order of the schema.
-#[derive(Debug, Drop)]
+#[derive(Drop)]
 pub struct Cind {
     pub name: Text,
     pub left: usize,

@@ -12,7 +12,7 @@ use schema_core::{List, Text, Texts};
 pub type Cell = Pattern<Text>;
 
 /// A tableau row: a cell for each attribute of the left list and of the right one.
-#[derive(Debug, Drop)]
+#[derive(Drop)]
 pub struct CfdRow {
     pub x: List<Cell>,
     pub y: List<Cell>,
@@ -20,7 +20,6 @@ pub struct CfdRow {
 
 /// A conditional functional dependency. Rows that agree on the attributes of the left list and match a
 /// tableau row there agree on those of the right list and match it there.
-#[derive(Debug)]
 pub struct CfdDecl {
     pub name: Text,
     pub table: Text,
@@ -44,7 +43,6 @@ impl Drop for CfdDecl {
 
 /// A conditional inclusion dependency. For each row of the left table that has the constants of a tableau
 /// row, the right table has a row with the same values and with the constants of the other side.
-#[derive(Debug)]
 pub struct CindDecl {
     pub name: Text,
     pub left: Text,
@@ -74,7 +72,6 @@ impl Drop for CindDecl {
 
 /// An editing rule. A row that agrees with a row of the master table and matches the pattern takes the
 /// value of the target from there.
-#[derive(Debug)]
 pub struct EditDecl {
     pub name: Text,
     pub table: Text,
@@ -102,7 +99,7 @@ impl Drop for EditDecl {
     }
 }
 
-#[derive(Debug, Drop)]
+#[derive(Drop)]
 pub enum Decl {
     Cfd(CfdDecl),
     Cind(CindDecl),

@@ -7,7 +7,6 @@ use schema_core::Text;
 pub type DepRow = TableauRow<Text>;
 
 /// A dependency of a table. Tables and attributes are numbered from 0, in the order of the schema.
-#[derive(Debug)]
 pub struct Dep {
     pub name: Text,
     pub table: usize,

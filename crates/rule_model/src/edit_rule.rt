@@ -3,7 +3,7 @@
 use schema_core::{List, Text};
 
 /// What a cell of an editing rule asks of a value: nothing, to be the constant, or not to be it.
-#[derive(Debug, Drop)]
+#[derive(Drop)]
 pub enum EditCell {
     Any,
     Is(Text),
@@ -12,7 +12,7 @@ pub enum EditCell {
 
 /// An editing rule of a table, with a master table. Tables and attributes are numbered from 0, in the order
 /// of the schema; `xm` and `source` are attributes of the master table.
-#[derive(Debug, Drop)]
+#[derive(Drop)]
 pub struct EditRule {
     pub name: Text,
     pub table: usize,

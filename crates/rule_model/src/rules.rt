@@ -8,7 +8,7 @@ use crate::edit_rule::EditRule;
 use schema_core::List;
 use std::alloc::Global;
 
-#[derive(Debug, Drop)]
+#[derive(Drop)]
 pub struct Rules {
     pub deps: List<Dep>,
     pub cinds: List<Cind>,
