@@ -5,6 +5,7 @@ ghost use Rattle.text_lists.specs.Limits.{AreLimits};
 ghost use Rattle.schema_core.specs.Schemas.{IsValidSchema};
 ghost use Rattle.rule_model.specs.Declarations.{IsWritten};
 ghost use Rattle.rule_model.specs.Rules.{with_rules_of};
+ghost use Rattle.rule_model.specs.Counts.{counts_of};
 ghost use Rattle.rule_model.specs.Faults.{Finds};
 ghost use Rattle.rule_model.specs.Books.{IsBook, book_deps, book_cinds, book_edits, book_has_set, book_fault, with_decl};
 
@@ -82,16 +83,7 @@ impl RuleBook {
         ensures err { OnErr result (self.new ≡ self.old) }
     {
         let counts = self.counts.with(&self.limits, &decl);
-        let earlier = self.decls.as_slice();
-        let checked = check(
-            self.alloc,
-            &self.schema,
-            &self.limits,
-            earlier,
-            &counts,
-            &decl,
-        );
-        if let Err(fault) = checked {
+        if let Err(fault) = self.test(&counts, &decl) {
             drop(decl);
             return Err(fault);
         }
@@ -104,6 +96,22 @@ impl RuleBook {
         )?;
         self.counts = counts;
         Ok(())
+    }
+
+    /// The tests of a declaration over the book.
+    #[tactic(auto, unfolding(crate::specs::Books::book_fault))]
+    fn test(&self, counts: &Counts, decl: &Decl) -> Result<(), AddFault>
+        requires { counts.now ≡ counts_of (self.now.decls ++ decl.now ∷ []) }
+        ensures { Finds result (book_fault self.now decl.now) }
+    {
+        check(
+            self.alloc,
+            &self.schema,
+            &self.limits,
+            self.decls.as_slice(),
+            counts,
+            decl,
+        )
     }
 
     pub fn schema(&self) -> &Schema

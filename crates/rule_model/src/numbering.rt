@@ -1,6 +1,6 @@
 //! The rules that a declaration stands for, with numbers in place of names.
 
-ghost use Rattle.std.specs.Prelude.{◌≡◌, ◌<◌, length, map, take, slice_index_or, IfOk, OnOk, ◌++◌};
+ghost use Rattle.std.specs.Prelude.{◌≡◌, ◌<◌, length, map, take, slice_index_or, [], ◌∷◌, ◌++◌, IfOk, OnOk, OnErr};
 ghost use Rattle.rule_model.specs.Rules.{row_at, dep_at, cind_of, numbered_pattern, edit_of, deps_of, with_rules_of};
 
 use crate::cind::{Cind, CindRow};
@@ -94,22 +94,29 @@ fn copy_rows(alloc: Global, rows: &[CindRow]) -> Result<List<CindRow>, AllocErro
     Ok(copy)
 }
 
-fn cind(alloc: Global, schema: &Schema, decl: &CindDecl) -> Result<Cind, AllocError>
-    ensures { IfOk result (λ cind. cind ≡ cind_of schema.now decl.now) }
+fn inclusion(alloc: Global, schema: &Schema, decl: &CindDecl) -> Result<Inclusion<Text>, AllocError>
+    ensures { IfOk result (λ rule. rule ≡ (cind_of schema.now decl.now).rule) }
 {
     let lefts = attrs_of(schema, &decl.left);
     let rights = attrs_of(schema, &decl.right);
+    Ok(Inclusion {
+        x: attr_numbers(alloc, lefts, decl.x.as_slice())?,
+        xp: attr_numbers(alloc, lefts, decl.xp.as_slice())?,
+        y: attr_numbers(alloc, rights, decl.y.as_slice())?,
+        yp: attr_numbers(alloc, rights, decl.yp.as_slice())?,
+        rows: copy_rows(alloc, decl.rows.as_slice())?,
+    })
+}
+
+fn cind(alloc: Global, schema: &Schema, decl: &CindDecl) -> Result<Cind, AllocError>
+    ensures { IfOk result (λ cind. cind ≡ cind_of schema.now decl.now) }
+{
+    let rule = inclusion(alloc, schema, decl)?;
     Ok(Cind {
         name: decl.name.clone()?,
         left: table_number(schema, &decl.left),
         right: table_number(schema, &decl.right),
-        rule: Inclusion {
-            x: attr_numbers(alloc, lefts, decl.x.as_slice())?,
-            xp: attr_numbers(alloc, lefts, decl.xp.as_slice())?,
-            y: attr_numbers(alloc, rights, decl.y.as_slice())?,
-            yp: attr_numbers(alloc, rights, decl.yp.as_slice())?,
-            rows: copy_rows(alloc, decl.rows.as_slice())?,
-        },
+        rule,
     })
 }
 
@@ -154,6 +161,32 @@ fn edit_rule(alloc: Global, schema: &Schema, decl: &EditDecl) -> Result<EditRule
     })
 }
 
+/// Appends the inclusion dependency.
+fn append_cind(
+    alloc: Global,
+    schema: &Schema,
+    decl: &CindDecl,
+    cinds: &mut List<Cind>,
+) -> Result<(), AllocError>
+    ensures ok { OnOk result (cinds.new ≡ cinds.old ++ cind_of schema.now decl.now ∷ []) }
+    ensures err { OnErr result (cinds.new ≡ cinds.old) }
+{
+    cinds.push(cind(alloc, schema, decl)?)
+}
+
+/// Appends the editing rule.
+fn append_edit(
+    alloc: Global,
+    schema: &Schema,
+    decl: &EditDecl,
+    edits: &mut List<EditRule>,
+) -> Result<(), AllocError>
+    ensures ok { OnOk result (edits.new ≡ edits.old ++ edit_of schema.now decl.now ∷ []) }
+    ensures err { OnErr result (edits.new ≡ edits.old) }
+{
+    edits.push(edit_rule(alloc, schema, decl)?)
+}
+
 /// Appends the rules that a declaration stands for. After a refusal some of them may stand at the end.
 #[tactic(auto, unfolding(crate::specs::Rules::deps_of, crate::specs::Rules::cinds_of, crate::specs::Rules::edits_of))]
 pub fn append_rules(
@@ -169,7 +202,7 @@ pub fn append_rules(
 {
     match decl {
         Decl::Cfd(cfd) => append_deps(alloc, schema, cfd, &mut rules.deps),
-        Decl::Cind(decl) => rules.cinds.push(cind(alloc, schema, decl)?),
-        Decl::Edit(decl) => rules.edits.push(edit_rule(alloc, schema, decl)?),
+        Decl::Cind(decl) => append_cind(alloc, schema, decl, &mut rules.cinds),
+        Decl::Edit(decl) => append_edit(alloc, schema, decl, &mut rules.edits),
     }
 }
