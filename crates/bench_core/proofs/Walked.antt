@@ -5,7 +5,7 @@ use Rattle.std.specs.List.{AllZip}
 use Rattle.std.specs.Option.{ForSome, option_map_or}
 use Rattle.std.specs.Str.{bytes_eq}
 use Rattle.std.proofs.lemmas.List.Elements.{All-cons, All-nil}
-use Rattle.std.proofs.lemmas.Option.{slice_get_within}
+use Rattle.std.proofs.lemmas.Option.{get_or_from_slice_get, slice_get_within}
 use Rattle.std.proofs.lemmas.Slice.Zip.{AllZip-long}
 use Rattle.value_pool.specs.Pool.{HasId, HaveOneId}
 use Rattle.cfd_semantics.specs.declared.inclusion.InclusionRow.{InclusionRow}
@@ -15,7 +15,7 @@ use Rattle.cfd_semantics.specs.Orphan.{left_entries, right_entries}
 use Rattle.rule_model.specs.declared.dep.Dep.{Dep}
 use Rattle.rule_model.specs.declared.cind.Cind.{Cind}
 use Rattle.rule_model.specs.Books.{Book, book_cinds, book_deps}
-use Rattle.group_index.specs.Answers.{AreDirty}
+use Rattle.group_index.specs.Answers.{AreDirty, IsSettled}
 use Rattle.group_index.specs.GroupSet.{GroupSet}
 use Rattle.cind_index.specs.KeysHeld.{lefts, rights}
 use Rattle.cind_index.specs.Orphans.{IsDirtyCount}
@@ -29,7 +29,7 @@ use Rattle.bench_core.specs.DirtyCounts.{cind_dirty, cind_rows, cind_walk, cind_
 use Rattle.bench_core.specs.Indexed.{IsIndexed, tuples_of}
 use Rattle.bench_core.specs.State.{State, rows_at}
 use Rattle.bench_core.specs.Stored.{RowsHaveTexts, Stored, state_of, text_of}
-use Rattle.bench_core.proofs.Answering.{item-there, renamed-is, rows-in-texts, stored_rows, zip-at}
+use Rattle.bench_core.proofs.Answering.{item-there, renamed-is, rows-in-texts, settled, stored_rows, zip-at}
 use Rattle.bench_core.proofs.DirtyByIds.{groups_counted, keys_counted}
 use Rattle.bench_core.proofs.DirtyRenamed.{dirty_groups-renamed, dirty_keys-renamed}
 
@@ -52,6 +52,11 @@ module _ (rules : Book) (texts : List (List ℕ)) (tables : List Stored) (index 
 
   rows : (n : ℕ) → AreRowsInTexts texts (tuples_of tables n) (stored_rows tables n)
   rows n = rows-in-texts texts tables n named
+
+  -- no row has two entries in an index
+  settled-at : (s : GroupSet) → slice_get index.index.groups.items number ≡ Some s → IsSettled s
+  settled-at s here =
+      subst IsSettled (get_or_from_slice_get index.index.groups.items number s s here) ((settled rules texts tables index named indexed).each number s (slice_get_within index.index.groups.items number s here))
 
   -- ---- by dirty groups and keys
 
@@ -96,10 +101,10 @@ module _ (rules : Book) (texts : List (List ℕ)) (tables : List Stored) (index 
         λ i. long i * among i
 
     -- how many are dirty, by the number of the rule
-    pub groups-dirty : (s : GroupSet) (count : ℕ) → number < length (book_deps rules) → slice_get index.index.groups.items number ≡ Some s → AreDirty s count → count ≡ dirty_groups_at rules state number
+    pub groups-dirty : (s : GroupSet) (count : ℕ) → number < length (book_deps rules) → slice_get index.index.groups.items number ≡ Some s → (IsSettled s → AreDirty s count) → count ≡ dirty_groups_at rules state number
     groups-dirty s count within here dirty =
         let (dep, at) = item-there (book_deps rules) number within in
-        groups-among dep s count at here dirty ∙ sym (ap (λ o. option_map_or (dep_dirty state) o 0) at)
+        groups-among dep s count at here (dirty (settled-at s here)) ∙ sym (ap (λ o. option_map_or (dep_dirty state) o 0) at)
 
     pub keys-dirty : (s : CindIndex) (count : ℕ) → number < length (book_cinds rules) → slice_get index.index.cinds.items number ≡ Some s → IsDirtyCount s.rule (lefts s.keys) (rights s.keys) count → count ≡ dirty_keys_at rules state number
     keys-dirty s count within here dirty =
@@ -107,11 +112,11 @@ module _ (rules : Book) (texts : List (List ℕ)) (tables : List Stored) (index 
         keys-among cind s count at here dirty ∙ sym (ap (λ o. option_map_or (cind_dirty state) o 0) at)
 
     -- a walk over the dirty groups for each tableau row, and over the dirty keys
-    pub groups-walked : (s : GroupSet) (count before after : ℕ) → number < length (book_deps rules) → slice_get index.index.groups.items number ≡ Some s → AreDirty s count → count ≡ s.dirty
+    pub groups-walked : (s : GroupSet) (count before after : ℕ) → number < length (book_deps rules) → slice_get index.index.groups.items number ≡ Some s → (IsSettled s → AreDirty s count) → count ≡ s.dirty
         → ForSome (slice_get index.index.groups.items number) (λ s. after ≤ before + length s.made.dependency.rows * s.dirty) → after ≤ before + dep_walk_at rules state number
     groups-walked s count before after within here dirty is few =
         let (dep, at) = item-there (book_deps rules) number within in
-        let walk = ap (λ n. length s.made.dependency.rows * n) (sym is) ∙ groups-are dep s count at here dirty ∙ sym (ap (λ o. option_map_or (dep_walk state) o 0) at) in
+        let walk = ap (λ n. length s.made.dependency.rows * n) (sym is) ∙ groups-are dep s count at here (dirty (settled-at s here)) ∙ sym (ap (λ o. option_map_or (dep_walk state) o 0) at) in
         subst (λ n. after ≤ before + n) walk (few s here)
 
     pub keys-walked : (s : CindIndex) (count before after : ℕ) → number < length (book_cinds rules) → slice_get index.index.cinds.items number ≡ Some s → IsDirtyCount s.rule (lefts s.keys) (rights s.keys) count → count ≡ s.keys.marked

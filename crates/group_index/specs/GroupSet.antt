@@ -11,7 +11,7 @@ pub record GroupsMade : Type 0 where
   pub table : ℕ
   pub dependency : Dependency ℕ
 
--- its entries, in an order of its own, and how many of its groups are dirty while no row has two entries
+-- its entries, in an order of its own, and how many of its groups are dirty, which is right while no row has two entries
 pub record GroupSet : Type 0 where
   pub made : GroupsMade
   pub entries : List (Entry ℕ)

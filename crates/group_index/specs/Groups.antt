@@ -65,7 +65,7 @@ AreMarkedBut rows groups but =
     ((place : ℕ) (at : KeyedGroup) → place ≢ but → place < groups.marked → slice_get groups.pairs place ≡ Some at → is_turning at.1 ≡ false → IsTrue (is_dirty_at rows at))
     × ((place : ℕ) (at : KeyedGroup) → place ≢ but → groups.marked ≤ place → slice_get groups.pairs place ≡ Some at → is_turning at.1 ≡ false → is_dirty_at rows at ≡ false)
 
--- the group at a place is marked where one with its key and A ids that spread so is dirty, or a row is turning
+-- the group at a place is marked where one with its key and A ids that spread so is dirty, unless a row is turning
 abbrev pub IsMarkedBy : List (TableauRow ℕ) → KeyedGroups → ℕ → Spread → Type 0
 IsMarkedBy rows groups place spread = (at : KeyedGroup) (pairs : List Pair) → slice_get groups.pairs place ≡ Some at → IsSpread pairs spread → is_both spread ≡ false
     → (place < groups.marked → IsTrue (is_dirty rows at.0.items pairs)) × (groups.marked ≤ place → is_dirty rows at.0.items pairs ≡ false)
