@@ -94,29 +94,22 @@ fn copy_rows(alloc: Global, rows: &[CindRow]) -> Result<List<CindRow>, AllocErro
     Ok(copy)
 }
 
-fn inclusion(alloc: Global, schema: &Schema, decl: &CindDecl) -> Result<Inclusion<Text>, AllocError>
-    ensures { IfOk result (λ rule. rule ≡ (cind_of schema.now decl.now).rule) }
-{
-    let lefts = attrs_of(schema, &decl.left);
-    let rights = attrs_of(schema, &decl.right);
-    Ok(Inclusion {
-        x: attr_numbers(alloc, lefts, decl.x.as_slice())?,
-        xp: attr_numbers(alloc, lefts, decl.xp.as_slice())?,
-        y: attr_numbers(alloc, rights, decl.y.as_slice())?,
-        yp: attr_numbers(alloc, rights, decl.yp.as_slice())?,
-        rows: copy_rows(alloc, decl.rows.as_slice())?,
-    })
-}
-
 fn cind(alloc: Global, schema: &Schema, decl: &CindDecl) -> Result<Cind, AllocError>
     ensures { IfOk result (λ cind. cind ≡ cind_of schema.now decl.now) }
 {
-    let rule = inclusion(alloc, schema, decl)?;
+    let lefts = attrs_of(schema, &decl.left);
+    let rights = attrs_of(schema, &decl.right);
     Ok(Cind {
         name: decl.name.clone()?,
         left: table_number(schema, &decl.left),
         right: table_number(schema, &decl.right),
-        rule,
+        rule: Inclusion {
+            x: attr_numbers(alloc, lefts, decl.x.as_slice())?,
+            xp: attr_numbers(alloc, lefts, decl.xp.as_slice())?,
+            y: attr_numbers(alloc, rights, decl.y.as_slice())?,
+            yp: attr_numbers(alloc, rights, decl.yp.as_slice())?,
+            rows: copy_rows(alloc, decl.rows.as_slice())?,
+        },
     })
 }
 
