@@ -15,10 +15,19 @@ use std::alloc::{AllocError, Global};
 use value_pool::Pool;
 
 /// An index for each dependency and one for each inclusion, in the order of the rules.
-#[derive(Drop)]
 pub struct BenchIndex {
     pub groups: Vec<GroupIndex>,
     pub cinds: Vec<CindIndex>,
+}
+
+// By hand, so that whatever drops the indexes calls this, and isn't proved for each kind of them.
+impl Drop for BenchIndex {
+    fn drop(self) {
+        let BenchIndex {
+            groups: _,
+            cinds: _,
+        } = self;
+    }
 }
 
 fn indexes_of_deps(
