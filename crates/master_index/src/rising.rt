@@ -10,10 +10,18 @@ use std::alloc::{AllocError, Global};
 use std::slice;
 
 /// The rows under a key.
-#[derive(Drop)]
 pub(crate) enum RowIds {
     One(RowId),
     Several(Box<Group>),
+}
+
+// By hand, so that whatever drops the rows under a key calls this, and isn't proved for each way that they stand.
+impl Drop for RowIds {
+    fn drop(self) {
+        match self {
+            RowIds::One(_) | RowIds::Several(_) => {}
+        }
+    }
 }
 
 /// Rows of which more than one were there at once, and the columns in which two of them were ever seen to

@@ -8,10 +8,16 @@ use row_store::{RowId, RowStore, Tuple};
 use std::alloc::{AllocError, Global};
 
 /// A store of rows for each table up to the last that was asked for.
-#[derive(Drop)]
 pub(crate) struct Tables {
     // The store of a table stands at the place of the table's number.
     stores: Vec<RowStore>,
+}
+
+// By hand, so that whatever drops the tables calls this, and isn't proved for each table.
+impl Drop for Tables {
+    fn drop(self) {
+        let Tables { stores: _ } = self;
+    }
 }
 
 impl Tables {
