@@ -8,10 +8,19 @@ use row_store::RowId;
 use std::alloc::{AllocError, Global};
 use value_pool::ValueId;
 
-#[derive(Drop)]
 pub(crate) struct BothSides {
     pub(crate) lefts: SideRows,
     pub(crate) rights: SideRows,
+}
+
+// By hand, so that whatever drops both sides calls this, and isn't proved for each of them.
+impl Drop for BothSides {
+    fn drop(self) {
+        let BothSides {
+            lefts: _,
+            rights: _,
+        } = self;
+    }
 }
 
 impl BothSides {

@@ -9,15 +9,24 @@ use crate::row_set::RowSet;
 use row_store::RowId;
 use std::alloc::{AllocError, Global};
 use std::collections::BTreeMap;
+use std::mem;
 use value_pool::ValueId;
 
 pub(crate) type Patterns = BTreeMap<Vec<ValueId>, RowSet>;
 
-#[derive(Drop)]
 pub(crate) enum PatternRows {
     Nothing,
     Single(Vec<ValueId>, RowSet),
     Several(Patterns),
+}
+
+// By hand, so that whatever drops the rows calls this, and isn't proved for each way that they stand.
+impl Drop for PatternRows {
+    fn drop(self) {
+        match self {
+            PatternRows::Nothing | PatternRows::Single(_, _) | PatternRows::Several(_) => {}
+        }
+    }
 }
 
 impl PatternRows {
@@ -77,26 +86,19 @@ impl PatternRows {
         ensures new { IfOk result (λ added. added ≡ not (has_by self.old pattern.now row)) }
         ensures err { OnErr result (IsSame (has_by self.old) (has_by self.new)) }
     {
-        match std::mem::replace(self, PatternRows::Nothing) {
+        match self {
             PatternRows::Nothing => {
                 *self = PatternRows::Single(Vec::from_slice(alloc, pattern)?, RowSet::One(row));
                 Ok(true)
             }
-            PatternRows::Single(held, mut rows) => {
+            PatternRows::Single(held, rows) => {
                 if held.as_slice() == pattern {
-                    let added = rows.put(alloc, row);
-                    *self = PatternRows::Single(held, rows);
-                    return added;
+                    return rows.put(alloc, row);
                 }
-                let (rows, added) = put_beside(alloc, held, rows, pattern, row);
-                *self = rows;
-                added
+                *self = PatternRows::Several(map_beside(alloc, held, rows, pattern, row)?);
+                Ok(true)
             }
-            PatternRows::Several(mut patterns) => {
-                let added = put_in_map(&mut patterns, alloc, pattern, row);
-                *self = PatternRows::Several(patterns);
-                added
-            }
+            PatternRows::Several(patterns) => put_in_map(patterns, alloc, pattern, row),
         }
     }
 
@@ -167,28 +169,29 @@ fn only_entry(patterns: &Patterns) -> Option<(&[ValueId], &RowSet)>
     Some((held.as_slice(), rows))
 }
 
-// Rows that stand in place, and one with other pattern values: both in a map, or after a refusal what there was.
-fn put_beside(
+// Moves rows that stood in place into a map, beside one with other pattern values. After a refusal they stand as before.
+fn map_beside(
     alloc: Global,
-    held: Vec<ValueId>,
-    rows: RowSet,
+    held: &mut Vec<ValueId>,
+    rows: &mut RowSet,
     pattern: &[ValueId],
     row: RowId,
-) -> (PatternRows, Result<bool, AllocError>)
-    requires { bytes_eq pattern.now held.items ≡ false }
-    ensures ok { OnOk result.1 (IsMore pattern.now row (has_by (PatternRows.Single held rows)) (has_by result.0)) }
-    ensures new { IfOk result.1 (λ added. added ≡ true) }
-    ensures err { OnErr result.1 (result.0 ≡ PatternRows.Single held rows) }
+) -> Result<Patterns, AllocError>
+    requires { bytes_eq pattern.now held.old.items ≡ false }
+    ensures ok { IfOk result (λ patterns. IsMore pattern.now row (has_by (PatternRows.Single held.old rows.old)) (in_map patterns)) }
+    ensures err { OnErr result ((held.new ≡ held.old) × (rows.new ≡ rows.old)) }
 {
     let mut patterns = BTreeMap::new(alloc);
-    if put_in_map(&mut patterns, alloc, pattern, row).is_err() {
-        return (PatternRows::Single(held, rows), Err(AllocError));
-    }
-    match patterns.insert(held, rows) {
-        Ok(_) => (PatternRows::Several(patterns), Ok(true)),
+    put_in_map(&mut patterns, alloc, pattern, row)?;
+    let own = mem::replace(held, Vec::new(alloc));
+    let own_rows = mem::replace(rows, RowSet::One(row));
+    match patterns.insert(own, own_rows) {
+        Ok(_) => Ok(patterns),
         Err(refused) => {
-            let (held, rows) = refused.value;
-            (PatternRows::Single(held, rows), Err(AllocError))
+            let (own, own_rows) = refused.value;
+            *held = own;
+            *rows = own_rows;
+            Err(AllocError)
         }
     }
 }

@@ -6,10 +6,18 @@ use row_store::RowId;
 use std::alloc::{AllocError, Global};
 use std::collections::BTreeSet;
 
-#[derive(Drop)]
 pub(crate) enum RowSet {
     One(RowId),
     More(BTreeSet<RowId>),
+}
+
+// By hand, so that whatever drops a set calls this, and isn't proved for each way that it stands.
+impl Drop for RowSet {
+    fn drop(self) {
+        match self {
+            RowSet::One(_) | RowSet::More(_) => {}
+        }
+    }
 }
 
 impl RowSet {

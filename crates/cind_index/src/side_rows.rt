@@ -10,12 +10,20 @@ use row_store::RowId;
 use std::alloc::{AllocError, Global};
 use value_pool::ValueId;
 
-#[derive(Drop)]
 pub(crate) enum SideRows {
     Empty,
     Lone(RowId),
     LoneWith(ValueId, RowId),
     Rows(Box<PatternRows>),
+}
+
+// By hand, so that whatever drops the rows of a side calls this, and isn't proved for each way that they stand.
+impl Drop for SideRows {
+    fn drop(self) {
+        match self {
+            SideRows::Empty | SideRows::Lone(_) | SideRows::LoneWith(_, _) | SideRows::Rows(_) => {}
+        }
+    }
 }
 
 impl SideRows {

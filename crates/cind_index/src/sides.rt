@@ -51,6 +51,24 @@ fn agree_on(rule: &Inclusion<ValueId>, side: Side, one: &Tuple, other: &Tuple) -
     agree(one, other, key_on(rule, side)) && agree(one, other, pattern_on(rule, side))
 }
 
+// Writes the key and the pattern values that a tuple has on a side into lists that have the room.
+fn write_entry(
+    key: &mut Key,
+    pattern: &mut Key,
+    rule: &Inclusion<ValueId>,
+    side: Side,
+    tuple: &Tuple,
+)
+    requires room { HaveRoom rule.now key.old pattern.old }
+    requires wide { IsWide (key_on rule.now side ++ pattern_on rule.now side) (ids_of tuple.now) }
+    ensures key { key.new.items ≡ ids_at (ids_of tuple.now) (key_on rule.now side) }
+    ensures pattern { pattern.new.items ≡ ids_at (ids_of tuple.now) (pattern_on rule.now side) }
+    ensures room { HaveRoom rule.now key.new pattern.new }
+{
+    write_key(key, tuple, key_on(rule, side));
+    write_key(pattern, tuple, pattern_on(rule, side));
+}
+
 impl CindIndex {
     fn table_on(&self, side: Side) -> usize
         ensures { result ≡ table_on (made_of self.now) side }
@@ -119,8 +137,7 @@ impl CindIndex {
         if !self.differs_on(side, table, old, new) {
             return Ok(None);
         }
-        write_key(&mut self.key, new, key_on(&self.rule, side));
-        write_key(&mut self.pattern, new, pattern_on(&self.rule, side));
+        write_entry(&mut self.key, &mut self.pattern, &self.rule, side, new);
         let key = Key::from_slice(*self.key.allocator(), self.key.as_slice())?;
         let tableau = self.rule.rows.as_slice();
         let pattern = self.pattern.as_slice();
@@ -182,8 +199,7 @@ impl CindIndex {
         if !self.differs_on(side, table, new, old) {
             return;
         }
-        write_key(&mut self.key, old, key_on(&self.rule, side));
-        write_key(&mut self.pattern, old, pattern_on(&self.rule, side));
+        write_entry(&mut self.key, &mut self.pattern, &self.rule, side, old);
         let tableau = self.rule.rows.as_slice();
         let pattern = self.pattern.as_slice();
         take_entry(
