@@ -1,20 +1,25 @@
 -- The text of a report, piece by piece.
-use Rattle.std.proofs.Common.{◌≡◌, ℕ, false, List, [], ◌∷◌, ◌++◌, Some, map, length, refl, ap, ◌∙◌, sym, codes}
+use Rattle.std.proofs.Common.{◌≡◌, ℕ, true, false, List, [], ◌∷◌, ◌++◌, Option, None, Some, map, length, refl, ap, ◌∙◌, sym, subst, codes}
 use Rattle.std.specs.Prelude.{decimal}
 use Rattle.std.specs.List.{concat}
 use Rattle.std.proofs.lemmas.List.{append_assoc, append-nil}
+use Rattle.std.proofs.lemmas.Option.{none-some, same_Some}
 use Rattle.serde_json.specs.Data.{string}
 use Rattle.serde_json.specs.View.{items_of}
-use Rattle.serde_json.specs.Written.{compact_text, items_text}
+use Rattle.serde_json.specs.Written.{comma_if, compact_text, items_text}
 use Rattle.serde_json.proofs.OnLiterals.{serde_json_on_literals}
 use Rattle.rule_model.specs.Books.{Book}
+use Rattle.violation_report.specs.Frames.{IsFrameOf, IsRight, back_text, framed_text, front_text, rule_of}
 use Rattle.violation_report.specs.Report.{line_data, report_text}
+use Rattle.violation_report.specs.Taking.{Takes}
 use Rattle.violation_report.specs.Text.{Told, dep_attr, told_of}
 use Rattle.violation_report.specs.Told.{attr_piece, partner_piece}
-use Rattle.violation_report.specs.Written.{AreWritten}
+use Rattle.violation_report.specs.Written.{AreAppended, AreWritten}
+use Rattle.violation_report.specs.declared.frame.Frame.{Frame}
 use Rattle.violation_report.specs.declared.json.Objects.{Objects}
 use Rattle.violation_report.specs.declared.line.Line.{Line}
 use Rattle.violation_report.specs.declared.line.Line.TheVariants.{Single, Pair, Orphan}
+use Rattle.violation_report.specs.declared.rules.Rule.{Rule}
 
 -- the object of what a line tells from its kind on, piece by piece
 abbrev from_kind : Told → List ℕ
@@ -32,34 +37,47 @@ object_pieces rules (Single dep k row) = with_attr (dep_attr rules dep) (told_of
 object_pieces rules (Pair dep k row partner) = with_attr (dep_attr rules dep) (told_of rules (Pair dep k row partner))
 object_pieces rules (Orphan cind k row) = refl
 
--- what was written, and what before it
-behind : (old mid new front back : List ℕ) → mid ≡ old ++ front → new ≡ mid ++ back → new ≡ old ++ (front ++ back)
-behind old mid new front back before last = last ∙ ap (λ text. text ++ back) before ∙ append_assoc old front back
+-- ---- an object in its frame
 
--- the same of an object, piece by piece, where the code says what its line tells
-pub object_told : (rules : Book) (line : Line) (told : Told) (kind old brace attr to_kind partner row rule table number new : List ℕ)
-    → told ≡ told_of rules line → kind ≡ told.kind
-    → brace ≡ old ++ codes "{"
-    → attr ≡ brace ++ attr_piece told.attr
-    → to_kind ≡ attr ++ concat (codes "\"kind\":\"" ∷ kind ∷ codes "\"" ∷ [])
-    → partner ≡ to_kind ++ partner_piece told.partner
-    → row ≡ partner ++ (codes ",\"row\":" ++ decimal told.row)
-    → rule ≡ row ++ (codes ",\"rule\":" ++ compact_text (string told.rule))
-    → table ≡ rule ++ (codes ",\"table\":" ++ compact_text (string told.table))
-    → number ≡ table ++ (codes ",\"tableau\":" ++ decimal told.number)
-    → new ≡ number ++ codes "}"
-    → new ≡ old ++ compact_text (line_data rules line)
-object_told rules line told kind old brace attr to_kind partner row rule table number new is is_kind e1 e2 e3 e4 e5 e6 e7 e8 e9 =
-    let with_kind = e3 ∙ ap (λ k. attr ++ concat (codes "\"kind\":\"" ∷ k ∷ codes "\"" ∷ [])) is_kind in
-    let b8 = behind table number new (codes ",\"tableau\":" ++ decimal told.number) (codes "}") e8 e9 in
-    let b7 = behind rule table new (codes ",\"table\":" ++ compact_text (string told.table)) _ e7 b8 in
-    let b6 = behind row rule new (codes ",\"rule\":" ++ compact_text (string told.rule)) _ e6 b7 in
-    let b5 = behind partner row new (codes ",\"row\":" ++ decimal told.row) _ e5 b6 in
-    let b4 = behind to_kind partner new (partner_piece told.partner) _ e4 b5 in
-    let b3 = behind attr to_kind new (concat (codes "\"kind\":\"" ∷ told.kind ∷ codes "\"" ∷ [])) _ with_kind b4 in
-    let b2 = behind brace attr new (attr_piece told.attr) (from_kind told) e2 b3 in
-    behind old brace new (codes "{") (attr_piece told.attr ++ from_kind told) e1 b2
-    ∙ ap (λ (t : Told). old ++ (codes "{" ++ (attr_piece t.attr ++ from_kind t))) is ∙ ap (λ text. old ++ text) (sym (object_pieces rules line))
+regroup : (brace attr kind_key kind quote partner row_key row rule_key rule table_key table number_key number close : List ℕ)
+    → (brace ++ (attr ++ (kind_key ++ []))) ++ ((kind ++ (quote ++ (partner ++ (row_key ++ (row ++ []))))) ++ ((rule_key ++ (rule ++ (table_key ++ (table ++ (number_key ++ []))))) ++ (number ++ (close ++ []))))
+    ≡ brace ++ (attr ++ ((kind_key ++ (kind ++ (quote ++ []))) ++ (partner ++ ((row_key ++ row) ++ ((rule_key ++ rule) ++ ((table_key ++ table) ++ ((number_key ++ number) ++ close)))))))
+regroup brace attr kind_key kind quote partner row_key row rule_key rule table_key table number_key number close = simp (append_assoc, append-nil)
+
+told_pieces : (told : Told) (front back : List ℕ) → front ≡ front_text told → back ≡ back_text told → framed_text front back told ≡ codes "{" ++ (attr_piece told.attr ++ from_kind told)
+told_pieces told front back is_front is_back =
+    (λ i. framed_text (is_front i) (is_back i) told)
+    ∙ regroup (codes "{") (attr_piece told.attr) (codes "\"kind\":\"") told.kind (codes "\"") (partner_piece told.partner) (codes ",\"row\":") (decimal told.row) (codes ",\"rule\":") (compact_text (string told.rule))
+    (codes ",\"table\":") (compact_text (string told.table)) (codes ",\"tableau\":") (decimal told.number) (codes "}")
+
+framed_object : (rules : Book) (line : Line) (frame : Frame) → IsFrameOf rules (rule_of line) frame
+    → framed_text frame.front.items frame.back.items (told_of rules line) ≡ compact_text (line_data rules line)
+framed_object rules line frame is = told_pieces (told_of rules line) frame.front.items frame.back.items (is.front line refl) (is.back line refl) ∙ sym (object_pieces rules line)
+
+-- ---- objects, one after the other
+
+-- a frame of a rule has the pieces of the rule that it names
+frame_is_right : (rules : Book) (rule : Rule) (frame : Frame) → IsFrameOf rules rule frame → IsRight rules frame
+frame_is_right rules rule frame is other named = subst (λ of. IsFrameOf rules of frame) (same_Some rule other (sym is.named ∙ named)) is
+
+frame_of_none_is_right : (rules : Book) (frame : Frame) → frame.rule ≡ None → IsRight rules frame
+frame_of_none_is_right rules frame none rule named = absurd (none-some rule (sym none ∙ named))
+
+-- one object more
+pub objects-more : (rules : Book) (line : Line) (start old new : Objects) (before : List Line)
+    → AreAppended rules start before old → IsFrameOf rules (rule_of line) new.frame → new.later ≡ true
+    → new.text.items ≡ old.text.items ++ (comma_if old.later ++ framed_text new.frame.front.items new.frame.back.items (told_of rules line))
+    → AreAppended rules start (before ++ line ∷ []) new
+objects-more rules line start old new before was fitted later text = record {
+  objects = λ rest.
+      let object = line_data rules in
+      (λ i. (text ∙ ap (λ object. old.text.items ++ (comma_if old.later ++ object)) (framed_object rules line new.frame fitted)) i ++ items_text (later i) (items_of (map object rest)))
+      ∙ append_assoc old.text.items (comma_if old.later ++ compact_text (object line)) (items_text true (items_of (map object rest)))
+      ∙ ap (λ t. old.text.items ++ t) (append_assoc (comma_if old.later) (compact_text (object line)) (items_text true (items_of (map object rest))))
+      ∙ was.objects (line ∷ rest)
+      ∙ ap (λ lines. start.text.items ++ items_text start.later (items_of (map object lines))) (sym (append_assoc before (line ∷ []) rest));
+  frame = frame_is_right rules (rule_of line) new.frame fitted;
+}
 
 -- the front of a report, the objects with their closing bracket, and its end
 pub report_pieces : (rules : Book) (lines : List Line) (front out report : List ℕ)
@@ -80,10 +98,11 @@ report_pieces rules lines front out report is then last =
 
 -- the front of a report, the objects, and its end
 pub report_written : (rules : Book) (lines : List Line) (start end : Objects) (report : List ℕ)
-    → start.text.items ≡ concat (codes "{\"count\":" ∷ decimal (length lines) ∷ codes ",\"lines\":[" ∷ []) → start.later ≡ false
-    → AreWritten rules start lines end
+    → start.text.items ≡ concat (codes "{\"count\":" ∷ decimal (length lines) ∷ codes ",\"lines\":[" ∷ []) → start.later ≡ false → start.frame.rule ≡ None
+    → Takes (AreWritten rules) start lines end
     → report ≡ end.text.items ++ codes "]}\n"
     → report ≡ report_text rules lines
-report_written rules lines start end report is first written last =
-    let all = written [] ∙ (λ i. start.text.items ++ items_text (first i) (items_of (map (line_data rules) (append-nil lines i)))) in
+report_written rules lines start end report is first fresh takes last =
+    let begun = takes start [] (λ right. record { objects = λ rest. refl; frame = right }) (frame_of_none_is_right rules start.frame fresh) in
+    let all = begun.objects [] ∙ (λ i. start.text.items ++ items_text (first i) (items_of (map (line_data rules) (append-nil lines i)))) in
     report_pieces rules lines start.text.items (end.text.items ++ codes "]") report is all (last ∙ sym (append_assoc end.text.items (codes "]") (codes "}\n")))

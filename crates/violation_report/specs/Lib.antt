@@ -3,6 +3,7 @@ pub mod Text
 pub mod Told
 pub mod Taking
 pub mod Explained
+pub mod Frames
 pub mod Report
 pub mod Written
 pub mod Probes

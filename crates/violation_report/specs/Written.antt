@@ -4,6 +4,7 @@ use Rattle.std.specs.List.{flat_map}
 use Rattle.serde_json.specs.View.{items_of}
 use Rattle.serde_json.specs.Written.{items_text}
 use Rattle.rule_model.specs.Books.{Book}
+use Rattle.violation_report.specs.Frames.{IsRight}
 use Rattle.violation_report.specs.Report.{line_data}
 use Rattle.violation_report.specs.Text.{line_text}
 use Rattle.violation_report.specs.declared.json.Objects.{Objects}
@@ -16,7 +17,13 @@ pub record AreTold (rules : Book) (start : Texts) (lines : List Line) (end : Tex
   pub text : end.out.now.items ≡ start.out.now.items ++ flat_map (line_text rules) lines
   pub count : end.lines ≡ start.lines + length lines
 
--- their objects: with those of whatever lines are left, there are those of all of them
+-- their objects: with those of whatever lines are left, there are those of all of them; and the frame still has the pieces of
+-- the rule that it names
+pub record AreAppended (rules : Book) (start : Objects) (lines : List Line) (end : Objects) : Type 0 where
+  pub objects : (rest : List Line)
+      → end.text.items ++ items_text end.later (items_of (map (line_data rules) rest)) ≡ start.text.items ++ items_text start.later (items_of (map (line_data rules) (lines ++ rest)))
+  pub frame : IsRight rules end.frame
+
+-- the same, where the frame had them at the start
 abbrev pub AreWritten : Book → Objects → List Line → Objects → Type 0
-AreWritten rules start lines end = (rest : List Line)
-    → end.text.items ++ items_text end.later (items_of (map (line_data rules) rest)) ≡ start.text.items ++ items_text start.later (items_of (map (line_data rules) (lines ++ rest)))
+AreWritten rules start lines end = IsRight rules start.frame → AreAppended rules start lines end

@@ -1,29 +1,30 @@
 //! The JSON report of a list.
 //!
 //! The text is that of one `serde_json` value, but no such value of all lines is built: it would hold each line once more,
-//! with its members in memory. Each line is written by itself, and names are quoted by `serde_json`.
+//! with its members in memory. Each line is written by itself, in the frame of its rule.
 
-ghost use Rattle.std.specs.Prelude.{◌≡◌, ◌++◌, ◌+◌, ◌*◌, ◌≤◌, [], ◌∷◌, codes, decimal, option_map, IfOk, OnOk};
+ghost use Rattle.std.specs.Prelude.{◌≡◌, ◌++◌, ◌+◌, ◌*◌, ◌≤◌, [], ◌∷◌, codes, decimal, IfOk, OnOk};
 ghost use Rattle.std.specs.List.{concat};
-ghost use Rattle.serde_json.specs.Data.{string};
-ghost use Rattle.serde_json.specs.Written.{comma_if, compact_text};
+ghost use Rattle.serde_json.specs.Written.{comma_if};
+ghost use Rattle.violation_report.specs.Frames.{framed_text, middle_text};
 ghost use Rattle.violation_report.specs.Listing.{listing};
 ghost use Rattle.bench_core.specs.DirtyCounts.{list_probes};
-ghost use Rattle.violation_report.specs.Report.{line_data, report_text};
-ghost use Rattle.violation_report.specs.Text.{IsLineOf};
-ghost use Rattle.violation_report.specs.Told.{attr_piece, partner_piece};
+ghost use Rattle.violation_report.specs.Report.{report_text};
+ghost use Rattle.violation_report.specs.Text.{IsLineOf, told_of};
+ghost use Rattle.violation_report.specs.Told.{as_told, partner_piece};
 
 use crate::counting::count;
+use crate::frame::Frame;
 use crate::line::{Line, push_all};
 use crate::taker::Taker;
 use crate::told::Told;
 use crate::walking::walk;
 use bench_core::BenchQueries;
 use itoa::Buffer;
+use line_grammar::push_number;
 use probe_steps::Steps;
 use row_store::RowId;
 use rule_model::RuleBook;
-use serde_json::json;
 use std::alloc::{AllocError, Global};
 use std::sync::ledger::Ledger;
 
@@ -39,7 +40,11 @@ pub fn json_report<L: Ledger>(
 {
     let lines = count(bench, steps)?;
     let text = report_head(alloc, lines)?;
-    let mut objects = Objects { text, later: false };
+    let mut objects = Objects {
+        text,
+        later: false,
+        frame: Frame::new(alloc),
+    };
     walk(bench, &mut objects, steps)?;
     let mut report = objects.text;
     report.extend_from_slice(b"]}\n")?;
@@ -68,6 +73,8 @@ pub(crate) struct Objects {
     pub text: Vec<u8>,
     /// whether a line was put before
     pub later: bool,
+    /// of the rule of the last line
+    pub frame: Frame,
 }
 
 impl Taker for Objects {
@@ -76,79 +83,61 @@ impl Taker for Objects {
     ghost Took = { AreWritten };
 
     fn put(&mut self, rules: &RuleBook, line: Line) -> Result<(), AllocError> {
-        push_item(rules, self.later, &line, &mut self.text)?;
+        self.frame.fit(rules, &line)?;
+        push_object(rules, &self.frame, self.later, &line, &mut self.text)?;
         self.later = true;
         Ok(())
     }
 }
 
-// Appends the object of a line, after a comma where others stand before.
-fn push_item(
+// Appends the object of a line in the frame of its rule, after a comma where others stand before.
+fn push_object(
     rules: &RuleBook,
+    frame: &Frame,
     later: bool,
     line: &Line,
     out: &mut Vec<u8>,
 ) -> Result<(), AllocError>
     requires { IsLineOf rules.now line.now }
-    ensures { OnOk result (out.new.items ≡ out.old.items ++ (comma_if later ++ compact_text (line_data rules.now line.now))) }
-{
-    if later {
-        out.push(b',')?;
-    }
-    push_object(rules, line, out)
-}
-
-// Appends the object of a line.
-fn push_object(rules: &RuleBook, line: &Line, out: &mut Vec<u8>) -> Result<(), AllocError>
-    requires { IsLineOf rules.now line.now }
-    ensures { OnOk result (out.new.items ≡ out.old.items ++ compact_text (line_data rules.now line.now)) }
+    ensures { OnOk result (out.new.items ≡ out.old.items ++ (comma_if later ++ framed_text frame.now.front.items frame.now.back.items (told_of rules.now line.now))) }
 {
     let told = Told::of(rules, line);
-    out.push(b'{')?;
-    push_attr(told.attr, out)?;
-    push_all(&[b"\"kind\":\"", told.kind.as_bytes(), b"\""], out)?;
-    push_partner(told.partner, out)?;
-    push_number(b",\"row\":", told.row, out)?;
-    push_name(b",\"rule\":", told.rule, out)?;
-    push_name(b",\"table\":", told.table, out)?;
-    push_number(b",\"tableau\":", told.number as u64, out)?;
+    out.extend_from_slice(comma(later))?;
+    out.extend_from_slice(frame.front.as_slice())?;
+    push_middle(&told, out)?;
+    out.extend_from_slice(frame.back.as_slice())?;
+    push_number(out, told.number as u64)?;
     out.push(b'}')?;
     Ok(())
 }
 
-fn push_attr(attr: Option<&str>, out: &mut Vec<u8>) -> Result<(), AllocError>
-    ensures { OnOk result (out.new.items ≡ out.old.items ++ attr_piece (option_map (λ name. name.now) attr.entry)) }
+// Appends what stands between the front and the back of a frame.
+fn push_middle(told: &Told<'_>, out: &mut Vec<u8>) -> Result<(), AllocError>
+    ensures { OnOk result (out.new.items ≡ out.old.items ++ middle_text (as_told told.now)) }
 {
-    match attr {
-        Some(attr) => {
-            push_name(b"\"attr\":", attr, out)?;
-            out.push(b',')?;
-            Ok(())
-        }
-        None => Ok(()),
-    }
+    push_all(&[told.kind.as_bytes(), b"\""], out)?;
+    push_partner(told.partner, out)?;
+    push_member(b",\"row\":", told.row, out)
 }
 
 fn push_partner(partner: Option<RowId>, out: &mut Vec<u8>) -> Result<(), AllocError>
     ensures { OnOk result (out.new.items ≡ out.old.items ++ partner_piece partner) }
 {
     match partner {
-        Some(partner) => push_number(b",\"partner\":", partner, out),
+        Some(partner) => push_member(b",\"partner\":", partner, out),
         None => Ok(()),
     }
 }
 
-fn push_number(key: &[u8], number: u64, out: &mut Vec<u8>) -> Result<(), AllocError>
+fn push_member(key: &[u8], number: u64, out: &mut Vec<u8>) -> Result<(), AllocError>
     ensures { OnOk result (out.new.items ≡ out.old.items ++ (key.now ++ decimal number)) }
 {
     let mut digits = Buffer::new();
     push_all(&[key, digits.format(number).as_bytes()], out)
 }
 
-// Appends a name as a JSON string behind its key.
-fn push_name(key: &[u8], name: &str, out: &mut Vec<u8>) -> Result<(), AllocError>
-    ensures { OnOk result (out.new.items ≡ out.old.items ++ (key.now ++ compact_text (string name.now))) }
+fn comma(later: bool) -> &'static [u8]
+    ensures { result.now ≡ comma_if later }
 {
-    let quoted = json!(in *out.allocator(); name)?.to_vec(*out.allocator())?;
-    push_all(&[key, quoted.as_slice()], out)
+    if later { b"," } else { b"" }
 }

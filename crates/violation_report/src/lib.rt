@@ -5,6 +5,7 @@
 mod clean;
 mod counting;
 mod explaining;
+mod frame;
 mod json;
 mod line;
 mod listing;

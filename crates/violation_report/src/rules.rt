@@ -6,7 +6,7 @@ ghost use Rattle.violation_report.specs.RuleNumbers.{IsRuleOf, rule_at, rule_cou
 use bench_core::BenchQueries;
 
 /// A rule, by its number among those of its kind.
-#[derive(Clone, Copy)]
+#[derive(Clone, Copy, PartialEq, Eq)]
 pub(crate) enum Rule {
     Dep(usize),
     Cind(usize),
