@@ -1,10 +1,11 @@
 //! The form `list PROJECT`.
 
-ghost use Rattle.std.specs.Prelude.{IfOk};
+ghost use Rattle.std.specs.Prelude.{◌≡◌, ◌↔◌, IfOk};
 ghost use Rattle.cli_output.specs.Output.{IsWhole};
+ghost use Rattle.cli_output.specs.declared.status.Status.TheVariants as Status;
 ghost use Rattle.project_files.specs.Project.{read_of};
 ghost use Rattle.view_options.specs.declared.options.ListOptions.{ListOptions};
-ghost use Rattle.view_forms.specs.ListForm.{list_of, list_outputs, list_told, told_unless};
+ghost use Rattle.view_forms.specs.ListForm.{AreWantedSatisfied, list_of, list_outputs, list_shown, list_told, told_unless};
 
 use crate::told::{refused, status_of};
 use probe_steps::Steps;
@@ -94,7 +95,8 @@ fn list_told<L: Ledger>(
     options: &ListOptions,
     steps: &mut Steps<L>,
 ) -> Result<Shown, AllocError>
-    ensures told { IfOk result (λ shown. list_told looked.now.bench.rules looked.now.counts looked.now.bench.history.present options.now shown.text.items shown.status) }
+    ensures told { IfOk result (λ shown. list_shown looked.now.bench.rules looked.now.counts looked.now.bench.history.present options.now shown.text.items shown.status) }
+    ensures law { IfOk result (λ shown. shown.status ≡ Status.Clean ↔ AreWantedSatisfied looked.now.bench.rules looked.now.bench.history.present options.now) }
     ensures whole { IfOk result (λ shown. IsWhole shown.status) }
 {
     let rules = looked.bench.rules();
