@@ -44,7 +44,7 @@ none_arranged InOrder size items (x ∷ xs) none is =
     let nothing : x ∷ filter (λ item. size item == size x) xs ≡ [] = sym first ∙ is.each (size x) ∙ ap (filter (λ item. size item == size x)) none in
     absurd (cc)
 
-both_zipped : {X Y : Type 0} (R S : X → Y → Type 0) (xs : List X) (ys : List Y) → AllZip R xs ys → AllZip S xs ys → AllZip (λ x y. R x y × S x y) xs ys
+pub both_zipped : {X Y : Type 0} (R S : X → Y → Type 0) (xs : List X) (ys : List Y) → AllZip R xs ys → AllZip S xs ys → AllZip (λ x y. R x y × S x y) xs ys
 both_zipped R S [] [] one other = tt
 both_zipped R S [] (y ∷ ys) one other = absurd one
 both_zipped R S (x ∷ xs) [] one other = absurd one
@@ -58,7 +58,7 @@ no_zipped R (x ∷ xs) ys none zipped = absurd (cc)
 
 -- a text of parts is empty exactly where each part is
 module _ {X Y : Type 0} (part : X × Y → List ℕ) (P : X → Type 0) (R : X → Y → Type 0) (one : (x : X) (y : Y) → R x y → part (x, y) ≡ [] ↔ P x) where
-  parts_are_empty : (xs : List X) (ys : List Y) → AllZip R xs ys → flat_map part (zip xs ys) ≡ [] ↔ All P xs
+  pub parts_are_empty : (xs : List X) (ys : List Y) → AllZip R xs ys → flat_map part (zip xs ys) ≡ [] ↔ All P xs
   parts_are_empty [] [] zipped = ((λ _. All-nil P), (λ _. refl))
   parts_are_empty [] (y ∷ ys) zipped = absurd zipped
   parts_are_empty (x ∷ xs) [] zipped = absurd zipped
@@ -139,7 +139,7 @@ module _ (rules : Book) (counts : List ℕ) (state : State) (options : ListOptio
         (λ satisfied. ap (λ text. text ++ of_cinds) (deps.1 satisfied.deps) ∙ cinds.1 satisfied.cinds),
       )
 
-clean_is_empty : (text : List ℕ) → status_of text ≡ Clean ↔ text ≡ []
+pub clean_is_empty : (text : List ℕ) → status_of text ≡ Clean ↔ text ≡ []
 clean_is_empty [] = ((λ _. refl), (λ _. refl))
 clean_is_empty (byte ∷ bytes) = ((λ clean. absurd (cc)), (λ empty. absurd (cc)))
 
