@@ -1,9 +1,9 @@
--- Nothing is told of a row exactly where it breaks no rule.
-use Rattle.std.proofs.Common.{◌≡◌, ◌↔◌, ℕ, suc, ◌≤◌, ◌||◌, ◌==◌, Bool, true, false, cond, List, [], ◌∷◌, ◌++◌, map, length, Option, None, Some, refl, ap, sym, ◌∙◌, subst, arith, codes, true≢false}
+-- Nothing is told of a row exactly where the list has no line of it.
+use Rattle.std.proofs.Common.{◌≡◌, ◌↔◌, ℕ, suc, ◌≤◌, ◌==◌, Bool, true, false, cond, List, [], ◌∷◌, ◌++◌, map, length, Option, None, Some, refl, ap, sym, ◌∙◌, subst, arith, codes, true≢false}
 use Rattle.std.specs.Prelude.{⊤, option_and_then, option_map, sum_by}
 use Rattle.std.specs.Cmp.{IsEquivalence, and_equiv, nat_eq_equiv, on_equiv}
 use Rattle.std.specs.Cmp.Lexicographic.{lists_equiv, nat_list_eq_equiv}
-use Rattle.std.specs.List.{All, AllZip, cons_option, filter, filter_map, flat_map, list_any, zip}
+use Rattle.std.specs.List.{All, AllZip, cons_option, filter, filter_map, flat_map, zip}
 use Rattle.std.specs.Str.{bytes_eq}
 use Rattle.std.proofs.lemmas.Bool.Decides.{nat_tests}
 use Rattle.std.proofs.lemmas.List.{append_assoc, append-nil}
@@ -24,6 +24,7 @@ use Rattle.rule_model.specs.declared.dep.Dep.{Dep}
 use Rattle.bench_core.specs.Answers.{cind_orphans, dep_violations, row_texts}
 use Rattle.bench_core.specs.State.{State}
 use Rattle.cli_output.specs.declared.status.Status.TheVariants.{Clean}
+use Rattle.violation_report.specs.Explained.{explained}
 use Rattle.violation_groups.specs.Groups.{AreFindings, AreGroups, AreMissing, HaveAllLines, IsGroup, group_size, missing_of, missing_size, value_rows, value_size}
 use Rattle.violation_groups.specs.Listed.{Shared, Valued, cind_listed, dep_listed, listed_of, listed_orphan_of, same_shared}
 use Rattle.violation_groups.specs.declared.groups.Findings.{Findings}
@@ -35,41 +36,10 @@ use Rattle.schema_core.specs.Lookups.{attrs_at}
 use Rattle.view_list.specs.Groups.{group_text, missing_at, missing_text}
 use Rattle.view_list.specs.Listed.{only_if, read_of}
 use Rattle.view_list.specs.Rows.{cind_groups, cind_of_row, dep_groups, dep_of_row, has_id, row_body, stands_in}
-use Rattle.view_forms.specs.RowForm.{BreaksNone}
 use Rattle.view_forms.specs.Statuses.{status_of}
+use Rattle.view_forms.proofs.Everywhere.{all_mapped, all_same, next, none_passes}
+use Rattle.view_forms.proofs.Lines.{BreaksNone, none_explained}
 use Rattle.view_forms.proofs.Wanted.{both_zipped, clean_is_empty, parts_are_empty}
-
--- ---- of lists
-
-pub next : {A B C : Type 0} → A ↔ B → B ↔ C → A ↔ C
-next one other = ((λ a. other.0 (one.0 a)), (λ c. one.1 (other.1 c)))
-
-module _ {X : Type 0} (P Q : X → Type 0) (each : (x : X) → P x ↔ Q x) where
-  all_same : (xs : List X) → All P xs ↔ All Q xs
-  all_same xs = (All-weaker P Q (λ x. (each x).0) xs, All-weaker Q P (λ x. (each x).1) xs)
-
-module _ {X Y : Type 0} (P : Y → Type 0) (f : X → Y) where
-  all_mapped : (xs : List X) → All P (map f xs) ↔ All (λ x. P (f x)) xs
-  all_mapped [] = ((λ _. All-nil (λ x. P (f x))), (λ _. All-nil P))
-  all_mapped (x ∷ xs) =
-      let rest = all_mapped xs in (
-        (λ all. All-cons (λ x. P (f x)) x xs (All-head P (f x) (map f xs) all) (rest.0 (All-tail P (f x) (map f xs) all))),
-        (λ all. All-cons P (f x) (map f xs) (All-head (λ x. P (f x)) x xs all) (rest.1 (All-tail (λ x. P (f x)) x xs all))),
-      )
-
-neither : (a b : Bool) → (a || b) ≡ false ↔ (a ≡ false) × (b ≡ false)
-neither true b = ((λ is. absurd (true≢false is)), (λ is. absurd (true≢false is.0)))
-neither false b = ((λ is. (refl, is)), (λ is. is.1))
-
-module _ {X : Type 0} (test : X → Bool) where
-  none_passes : (xs : List X) → list_any test xs ≡ false ↔ All (λ x. test x ≡ false) xs
-  none_passes [] = ((λ _. All-nil (λ x. test x ≡ false)), (λ _. refl))
-  none_passes (x ∷ xs) =
-      let both = neither (test x) (list_any test xs) in
-      let rest = none_passes xs in (
-        (λ none. All-cons (λ x. test x ≡ false) x xs (both.0 none).0 (rest.0 (both.0 none).1)),
-        (λ all. both.1 (All-head (λ x. test x ≡ false) x xs all, rest.1 (All-tail (λ x. test x ≡ false) x xs all))),
-      )
 
 -- ---- of an arrangement
 
@@ -318,7 +288,8 @@ module _ (rules : Book) (counts : List ℕ) (state : State) (table row : ℕ) wh
       )
 
 -- the status of what is told of a row
-pub clean_where_none_broken : (rules : Book) (counts : List ℕ) (state : State) (table row : ℕ) (findings : Findings)
-    → AreFindings rules state findings → HaveAllLines rules state findings → status_of (row_body rules counts table row findings) ≡ Clean ↔ BreaksNone rules state table row
-clean_where_none_broken rules counts state table row findings are lines =
-    next (clean_is_empty (row_body rules counts table row findings)) (body_is_empty rules counts state table row findings are lines)
+pub clean_where_none_explained : (rules : Book) (counts : List ℕ) (state : State) (table row : ℕ) (findings : Findings)
+    → AreFindings rules state findings → HaveAllLines rules state findings → status_of (row_body rules counts table row findings) ≡ Clean ↔ explained rules state table row ≡ []
+clean_where_none_explained rules counts state table row findings are lines =
+    next (clean_is_empty (row_body rules counts table row findings))
+    (next (body_is_empty rules counts state table row findings are lines) (none_explained rules state table row))

@@ -1,14 +1,11 @@
 -- The form `row PROJECT TABLE ROW` of `cfdview`: one row, the groups in which it breaks a rule, and how it would be fixed.
-use Rattle.std.specs.Prelude.{◌≡◌, ◌↔◌, ℕ, ◌==◌, true, false, List, [], ◌∷◌, ◌++◌, Option, None, Some, All}
+use Rattle.std.specs.Prelude.{◌≡◌, ◌↔◌, ℕ, List, [], ◌∷◌, ◌++◌, Option, None, Some}
 use Rattle.text_lists.specs.declared.limits.Limits.{Limits}
 use Rattle.schema_core.specs.Schemas.{table_place}
-use Rattle.cfd_semantics.specs.declared.violation.Violation.{Violation}
-use Rattle.rule_model.specs.Books.{Book, book_cinds, book_deps}
-use Rattle.rule_model.specs.declared.cind.Cind.{Cind}
-use Rattle.rule_model.specs.declared.dep.Dep.{Dep}
-use Rattle.bench_core.specs.Answers.{cind_orphans, dep_violations, row_texts}
+use Rattle.rule_model.specs.Books.{Book}
+use Rattle.bench_core.specs.Answers.{row_texts}
 use Rattle.bench_core.specs.History.{History}
-use Rattle.bench_core.specs.State.{State}
+use Rattle.violation_report.specs.Explained.{explained}
 use Rattle.violation_groups.specs.Groups.{AreFindings}
 use Rattle.violation_groups.specs.declared.groups.Findings.{Findings}
 use Rattle.view_options.specs.declared.options.RowOptions.{RowOptions}
@@ -40,22 +37,16 @@ AreReplies rules limits last options replies = (after : History) × IsTranscript
 
 -- ---- a row of a state
 
--- The row breaks no rule: no violation of a dependency of its table is of it, and no orphan of an inclusion with the table on
--- the left is it.
-pub record BreaksNone (rules : Book) (state : State) (table row : ℕ) : Type 0 where
-  pub deps : All (λ (dep : Dep). (dep.table == table) ≡ true → All (λ (found : ℕ × Violation). (found.1.row == row) ≡ false) (dep_violations state dep)) (book_deps rules)
-  pub cinds : All (λ (cind : Cind). (cind.left == table) ≡ true → All (λ (found : ℕ × ℕ). (found.1 == row) ≡ false) (cind_orphans state cind)) (book_cinds rules)
-
 -- a row with these texts, so many rows having been read of each table
 abbrev pub row_shown : Book → Limits → List ℕ → History → RowOptions → ℕ → List (List ℕ) → Outputs
 row_shown rules limits counts last options table texts bytes status =
     (findings : Findings) × AreFindings rules last.present findings × (replies : List ℕ) × AreReplies rules limits last options replies
     × (bytes ≡ row_text rules.schema counts table options.row texts (row_body rules counts table options.row findings) ++ replies) × (status ≡ status_of (row_body rules counts table options.row findings))
 
--- the same; and the status says whether the row breaks a rule
+-- the same; and the status says whether the list has a line of the row
 abbrev pub row_with : Book → Limits → List ℕ → History → RowOptions → ℕ → List (List ℕ) → Outputs
 row_with rules limits counts last options table texts bytes status =
-    row_shown rules limits counts last options table texts bytes status × (status ≡ Clean ↔ BreaksNone rules last.present table options.row)
+    row_shown rules limits counts last options table texts bytes status × (status ≡ Clean ↔ explained rules last.present table options.row ≡ [])
 
 abbrev pub row_in : Book → Limits → List ℕ → History → RowOptions → ℕ → Option (List (List ℕ)) → Outputs
 row_in rules limits counts last options table None = Only (no_row options.table options.row) Refused

@@ -1,13 +1,14 @@
 //! The form `row PROJECT TABLE ROW`.
 
-ghost use Rattle.std.specs.Prelude.{◌≡◌, ◌↔◌, ◌++◌, List, ℕ, IfOk, OnOk};
+ghost use Rattle.std.specs.Prelude.{◌≡◌, ◌↔◌, ◌++◌, List, [], ℕ, IfOk, OnOk};
 ghost use Rattle.schema_core.specs.Schemas.{table_place};
 ghost use Rattle.bench_core.specs.Answers.{row_texts};
 ghost use Rattle.cli_output.specs.Output.{IsWhole};
 ghost use Rattle.cli_output.specs.declared.status.Status.TheVariants as Status;
 ghost use Rattle.project_files.specs.Project.{read_of};
+ghost use Rattle.violation_report.specs.Explained.{explained};
 ghost use Rattle.view_options.specs.declared.options.RowOptions.{RowOptions};
-ghost use Rattle.view_forms.specs.RowForm.{AreReplies, BreaksNone, questions, row_in, row_of, row_outputs, row_shown};
+ghost use Rattle.view_forms.specs.RowForm.{AreReplies, questions, row_in, row_of, row_outputs, row_shown};
 
 use crate::told::{refused, status_of};
 use bench_core::Bench;
@@ -137,7 +138,7 @@ fn row_there<L: Ledger>(
     steps: &mut Steps<L>,
 ) -> Result<Shown, AllocError>
     ensures told { IfOk result (λ shown. row_shown bench.old.rules bench.old.limits counts.now bench.old.history options.now table texts.now shown.text.items shown.status) }
-    ensures law { IfOk result (λ shown. shown.status ≡ Status.Clean ↔ BreaksNone bench.old.rules bench.old.history.present table options.now.row) }
+    ensures law { IfOk result (λ shown. shown.status ≡ Status.Clean ↔ explained bench.old.rules bench.old.history.present table options.now.row ≡ []) }
     ensures whole { IfOk result (λ shown. IsWhole shown.status) }
 {
     let found = findings(alloc, bench, steps)?;

@@ -78,7 +78,7 @@ law_of_length rules state lines long =
 -- ---- numbers in range
 
 -- what is left of a list from a place on begins with the element there
-at_rest : {X : Type 0} (xs : List X) (i : ℕ) (y : X) (ys : List X) → drop i xs ≡ y ∷ ys → (slice_get xs i ≡ Some y) × (drop (i + 1) xs ≡ ys)
+pub at_rest : {X : Type 0} (xs : List X) (i : ℕ) (y : X) (ys : List X) → drop i xs ≡ y ∷ ys → (slice_get xs i ≡ Some y) × (drop (i + 1) xs ≡ ys)
 at_rest xs i y ys rest = elim (cases_lt i (length xs)) [
   | inl within ↦
       let step = drop_more xs i y within in

@@ -1,6 +1,6 @@
 -- The text of a report, piece by piece.
-use Rattle.std.proofs.Common.{◌≡◌, ℕ, true, false, List, [], ◌∷◌, ◌++◌, Option, None, Some, map, length, refl, ap, ◌∙◌, sym, subst, codes}
-use Rattle.std.specs.Prelude.{decimal}
+use Rattle.std.proofs.Common.{◌≡◌, ℕ, true, false, List, [], ◌∷◌, ◌++◌, None, Some, map, length, refl, ap, ◌∙◌, sym, subst, codes}
+use Rattle.std.specs.Prelude.{Bool, decimal, is_some}
 use Rattle.std.specs.List.{concat}
 use Rattle.std.proofs.lemmas.List.{append_assoc, append-nil}
 use Rattle.std.proofs.lemmas.Option.{none-some, same_Some}
@@ -14,7 +14,7 @@ use Rattle.violation_report.specs.Report.{line_data, report_text}
 use Rattle.violation_report.specs.Taking.{Takes}
 use Rattle.violation_report.specs.Text.{Told, dep_attr, told_of}
 use Rattle.violation_report.specs.Told.{attr_piece, partner_piece}
-use Rattle.violation_report.specs.Written.{AreAppended, AreWritten}
+use Rattle.violation_report.specs.Written.{AreAppended, AreWritten, has_lines}
 use Rattle.violation_report.specs.declared.frame.Frame.{Frame}
 use Rattle.violation_report.specs.declared.json.Objects.{Objects}
 use Rattle.violation_report.specs.declared.line.Line.{Line}
@@ -64,18 +64,19 @@ frame_of_none_is_right : (rules : Book) (frame : Frame) → frame.rule ≡ None 
 frame_of_none_is_right rules frame none rule named = absurd (none-some rule (sym none ∙ named))
 
 -- one object more
-pub objects-more : (rules : Book) (line : Line) (start old new : Objects) (before : List Line)
-    → AreAppended rules start before old → IsFrameOf rules (rule_of line) new.frame → new.later ≡ true
-    → new.text.items ≡ old.text.items ++ (comma_if old.later ++ framed_text new.frame.front.items new.frame.back.items (told_of rules line))
+pub objects-more : (rules : Book) (line : Line) (start old new : Objects) (before : List Line) (later : Bool)
+    → AreAppended rules start before old → IsFrameOf rules (rule_of line) new.frame → later ≡ has_lines old
+    → new.text.items ≡ old.text.items ++ (comma_if later ++ framed_text new.frame.front.items new.frame.back.items (told_of rules line))
     → AreAppended rules start (before ++ line ∷ []) new
-objects-more rules line start old new before was fitted later text = record {
+objects-more rules line start old new before later was fitted is text = record {
   objects = λ rest.
       let object = line_data rules in
-      (λ i. (text ∙ ap (λ object. old.text.items ++ (comma_if old.later ++ object)) (framed_object rules line new.frame fitted)) i ++ items_text (later i) (items_of (map object rest)))
-      ∙ append_assoc old.text.items (comma_if old.later ++ compact_text (object line)) (items_text true (items_of (map object rest)))
-      ∙ ap (λ t. old.text.items ++ t) (append_assoc (comma_if old.later) (compact_text (object line)) (items_text true (items_of (map object rest))))
+      (λ i. (text ∙ ap (λ object. old.text.items ++ (comma_if later ++ object)) (framed_object rules line new.frame fitted)) i ++ items_text (is_some (fitted.named i)) (items_of (map object rest)))
+      ∙ append_assoc old.text.items (comma_if later ++ compact_text (object line)) (items_text true (items_of (map object rest)))
+      ∙ ap (λ t. old.text.items ++ t) (append_assoc (comma_if later) (compact_text (object line)) (items_text true (items_of (map object rest))))
+      ∙ ap (λ before. old.text.items ++ items_text before (items_of (map object (line ∷ rest)))) is
       ∙ was.objects (line ∷ rest)
-      ∙ ap (λ lines. start.text.items ++ items_text start.later (items_of (map object lines))) (sym (append_assoc before (line ∷ []) rest));
+      ∙ ap (λ lines. start.text.items ++ items_text (has_lines start) (items_of (map object lines))) (sym (append_assoc before (line ∷ []) rest));
   frame = frame_is_right rules (rule_of line) new.frame fitted;
 }
 
@@ -98,11 +99,11 @@ report_pieces rules lines front out report is then last =
 
 -- the front of a report, the objects, and its end
 pub report_written : (rules : Book) (lines : List Line) (start end : Objects) (report : List ℕ)
-    → start.text.items ≡ concat (codes "{\"count\":" ∷ decimal (length lines) ∷ codes ",\"lines\":[" ∷ []) → start.later ≡ false → start.frame.rule ≡ None
+    → start.text.items ≡ concat (codes "{\"count\":" ∷ decimal (length lines) ∷ codes ",\"lines\":[" ∷ []) → start.frame.rule ≡ None
     → Takes (AreWritten rules) start lines end
     → report ≡ end.text.items ++ codes "]}\n"
     → report ≡ report_text rules lines
-report_written rules lines start end report is first fresh takes last =
+report_written rules lines start end report is fresh takes last =
     let begun = takes start [] (λ right. record { objects = λ rest. refl; frame = right }) (frame_of_none_is_right rules start.frame fresh) in
-    let all = begun.objects [] ∙ (λ i. start.text.items ++ items_text (first i) (items_of (map (line_data rules) (append-nil lines i)))) in
+    let all = begun.objects [] ∙ (λ i. start.text.items ++ items_text (is_some (fresh i)) (items_of (map (line_data rules) (append-nil lines i)))) in
     report_pieces rules lines start.text.items (end.text.items ++ codes "]") report is all (last ∙ sym (append_assoc end.text.items (codes "]") (codes "}\n")))

@@ -39,16 +39,16 @@ none_kept : {X Y : Type 0} (p : Y → Bool) (f : X → Y) (is : (x : X) → p (f
 none_kept p f is [] = refl
 none_kept p f is (x ∷ xs) = rw (is x) (none_kept p f is xs)
 
-and_true : (b : Bool) → (b && true) ≡ b
+pub and_true : (b : Bool) → (b && true) ≡ b
 and_true true = refl
 and_true false = refl
 
-and_false : (b : Bool) → (b && false) ≡ false
+pub and_false : (b : Bool) → (b && false) ≡ false
 and_false true = refl
 and_false false = refl
 
 module _ (rules : Book) (table row n : ℕ) where
-  dep-about : (found : ℕ × Violation) → is_about rules table row (dep_line (n, found)) ≡ (found.1.row == row && dep_is_of rules table n)
+  pub dep-about : (found : ℕ × Violation) → is_about rules table row (dep_line (n, found)) ≡ (found.1.row == row && dep_is_of rules table n)
   dep-about (k, found) = by found.partner
     where
       by : (partner : Option ℕ) → is_about rules table row (dep_line (n, (k, record { row = found.row; partner = partner }))) ≡ (found.row == row && dep_is_of rules table n)

@@ -1,5 +1,5 @@
 -- What takers have written of the lines that were put to them.
-use Rattle.std.specs.Prelude.{◌≡◌, ◌+◌, List, ◌++◌, length, map}
+use Rattle.std.specs.Prelude.{◌≡◌, ◌+◌, Bool, List, ◌++◌, is_some, length, map}
 use Rattle.std.specs.List.{flat_map}
 use Rattle.serde_json.specs.View.{items_of}
 use Rattle.serde_json.specs.Written.{items_text}
@@ -17,11 +17,15 @@ pub record AreTold (rules : Book) (start : Texts) (lines : List Line) (end : Tex
   pub text : end.out.now.items ≡ start.out.now.items ++ flat_map (line_text rules) lines
   pub count : end.lines ≡ start.lines + length lines
 
+-- a line was put before: the frame is that of its rule
+abbrev pub has_lines : Objects → Bool
+has_lines objects = is_some objects.frame.rule
+
 -- their objects: with those of whatever lines are left, there are those of all of them; and the frame still has the pieces of
 -- the rule that it names
 pub record AreAppended (rules : Book) (start : Objects) (lines : List Line) (end : Objects) : Type 0 where
   pub objects : (rest : List Line)
-      → end.text.items ++ items_text end.later (items_of (map (line_data rules) rest)) ≡ start.text.items ++ items_text start.later (items_of (map (line_data rules) (lines ++ rest)))
+      → end.text.items ++ items_text (has_lines end) (items_of (map (line_data rules) rest)) ≡ start.text.items ++ items_text (has_lines start) (items_of (map (line_data rules) (lines ++ rest)))
   pub frame : IsRight rules end.frame
 
 -- the same, where the frame had them at the start

@@ -42,7 +42,6 @@ pub fn json_report<L: Ledger>(
     let text = report_head(alloc, lines)?;
     let mut objects = Objects {
         text,
-        later: false,
         frame: Frame::new(alloc),
     };
     walk(bench, &mut objects, steps)?;
@@ -71,9 +70,7 @@ fn report_head(alloc: Global, lines: usize) -> Result<Vec<u8>, AllocError>
 #[derive(Drop)]
 pub(crate) struct Objects {
     pub text: Vec<u8>,
-    /// whether a line was put before
-    pub later: bool,
-    /// of the rule of the last line
+    /// of the rule of the last line, and of none where no line was put yet
     pub frame: Frame,
 }
 
@@ -83,9 +80,9 @@ impl Taker for Objects {
     ghost Took = { AreWritten };
 
     fn put(&mut self, rules: &RuleBook, line: Line) -> Result<(), AllocError> {
+        let later = self.frame.rule.is_some();
         self.frame.fit(rules, &line)?;
-        push_object(rules, &self.frame, self.later, &line, &mut self.text)?;
-        self.later = true;
+        push_object(rules, &self.frame, later, &line, &mut self.text)?;
         Ok(())
     }
 }
