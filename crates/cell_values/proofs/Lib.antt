@@ -1,5 +1,6 @@
 pub mod Lists
 pub mod Among
+pub mod PlaceFacts
 pub mod FreshTexts
 pub mod Tildes
 pub mod LiteralLists

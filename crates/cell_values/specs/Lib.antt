@@ -7,3 +7,4 @@ pub mod Standing
 pub mod Layout
 pub mod RowClauses
 pub mod Readings
+pub mod Places

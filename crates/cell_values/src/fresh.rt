@@ -4,12 +4,12 @@ ghost use Rattle.std.specs.Prelude.{◌≡◌, IfOk};
 ghost use Rattle.std.specs.String.{string_bytes};
 ghost use Rattle.cell_values.specs.Fresh.{fresh_past, IsFreshPast, tildes};
 
+use crate::value_list::ValueList;
 use schema_core::Text;
 use std::alloc::{AllocError, Global};
-use value_pool::Pool;
 
 /// The shortest text of more than `count` tildes that isn't among the texts.
-pub fn fresh_past(alloc: Global, count: usize, texts: &Pool) -> Result<Text, AllocError>
+pub fn fresh_past(alloc: Global, count: usize, texts: &ValueList) -> Result<Text, AllocError>
     ensures text { IfOk result (λ text. text ≡ fresh_past count texts.now) }
     ensures fresh { IfOk result (IsFreshPast count texts.now) }
 {

@@ -11,6 +11,7 @@ mod readings;
 mod row_clauses;
 mod standing;
 mod table_rules;
+mod value_list;
 mod values;
 pub mod which;
 
@@ -19,5 +20,6 @@ pub use layout::{equal_var, value_var, var_cells};
 pub use readings::tuple_of;
 pub use row_clauses::{alone, no, push_meets_at, push_misses_at, push_misses_left, yes};
 pub use table_rules::{Rule, TableRules, attrs_at};
+pub use value_list::ValueList;
 pub use values::{CellValues, occurring};
 pub use which::{TupleCount, Which};

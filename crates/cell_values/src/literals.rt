@@ -7,18 +7,18 @@ ghost use Rattle.std.specs.Str.{bytes_eq};
 ghost use Rattle.cfd_semantics.specs.Pattern.{matches};
 ghost use Rattle.cell_values.specs.Literals.{literals_where, matches_as, meets, misses};
 
+use crate::value_list::ValueList;
 use case_tree::Literal;
 use cfd_semantics::Pattern;
 use rule_model::Cell;
 use schema_core::Text;
 use std::alloc::AllocError;
-use value_pool::Pool;
 
 /// Appends that the value matches the cell.
 pub fn push_meets(
     clause: &mut Vec<Literal>,
     first: usize,
-    values: &Pool,
+    values: &ValueList,
     cell: &Cell,
 ) -> Result<(), AllocError>
     requires { first + length values.now < 2 ^ 64 }
@@ -34,7 +34,7 @@ pub fn push_meets(
 pub fn push_misses(
     clause: &mut Vec<Literal>,
     first: usize,
-    values: &Pool,
+    values: &ValueList,
     cell: &Cell,
 ) -> Result<(), AllocError>
     requires { first + length values.now < 2 ^ 64 }
@@ -51,7 +51,7 @@ pub fn push_misses(
 fn push_value(
     clause: &mut Vec<Literal>,
     first: usize,
-    values: &Pool,
+    values: &ValueList,
     text: &Text,
     positive: bool,
 ) -> Result<(), AllocError>
@@ -60,7 +60,7 @@ fn push_value(
 {
     if let Some(place) = values.find(text.as_str()) {
         clause.push(Literal {
-            var: first + place as usize,
+            var: first + place,
             positive,
         })?;
     }
@@ -71,7 +71,7 @@ fn push_value(
 fn push_where(
     clause: &mut Vec<Literal>,
     first: usize,
-    values: &Pool,
+    values: &ValueList,
     cell: &Cell,
     matching: bool,
 ) -> Result<(), AllocError>
@@ -79,7 +79,7 @@ fn push_where(
     ensures { OnOk result (clause.new.items ≡ clause.old.items ++ literals_where (matches_as matching cell.now) true first values.now) }
 {
     for place in 0..values.len() {
-        let listed = matches_as(matching, cell, values.text_at(place));
+        let listed = matches_as(matching, cell, values.get(place));
         push_if(listed, clause, first + place)?;
     }
     Ok(())

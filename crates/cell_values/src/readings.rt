@@ -9,18 +9,18 @@ ghost use Rattle.cell_values.specs.Values.{AreFew};
 use crate::fresh::fresh_past;
 use crate::layout::{equal_var, value_var};
 use crate::standing::chosen;
+use crate::value_list::ValueList;
 use crate::values::{CellValues, cell_of};
 use crate::which::Which;
 use schema_core::{Attr, Domain, List, Text, Texts};
 use std::alloc::{AllocError, Global};
-use value_pool::Pool;
 
 fn plain_text(alloc: Global, domain: &Domain) -> Result<Text, AllocError>
     requires { IsValidDomain domain.now }
     ensures { IfOk result (λ text. text ≡ plain_text domain.now) }
 {
     match domain {
-        Domain::AnyText => fresh_past(alloc, 0, &Pool::new(alloc)),
+        Domain::AnyText => fresh_past(alloc, 0, &ValueList::new(alloc)),
         Domain::Finite(values) => values.as_slice()[0].clone(),
     }
 }
@@ -30,7 +30,7 @@ fn new_text(alloc: Global, cell: &CellValues) -> Result<Text, AllocError>
     ensures { IfOk result (λ text. text ≡ new_text cell.now) }
 {
     if cell.constants < cell.values.len() {
-        Text::new(alloc, cell.values.text_at(cell.constants))
+        Text::new(alloc, cell.values.get(cell.constants))
     } else {
         fresh_past(alloc, 0, &cell.values)
     }
@@ -63,7 +63,7 @@ fn text_for(
     ensures { IfOk result (λ text. text ≡ text_for cell.now new place) }
 {
     match place {
-        Some(place) => Text::new(alloc, cell.values.text_at(place)),
+        Some(place) => Text::new(alloc, cell.values.get(place)),
         None => Ok(new),
     }
 }

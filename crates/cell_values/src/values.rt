@@ -11,18 +11,18 @@ ghost use Rattle.cell_values.specs.Values.{AreFew, attrs_before, cell_values, co
 
 use crate::fresh::fresh_past;
 use crate::table_rules::{Rule, TableRules};
+use crate::value_list::ValueList;
 use cfd_semantics::Pattern;
 use rule_model::{Cell, DepRow};
 use schema_core::{Attr, Domain, List, Text};
 use std::alloc::{AllocError, Global};
 use std::slice;
-use value_pool::Pool;
 
 /// The values of an attribute: first its constants, and then at most one that stands for all other texts.
 #[derive(Drop)]
 pub struct CellValues {
     pub attr: usize,
-    pub values: Pool,
+    pub values: ValueList,
     /// How many of them are constants.
     pub constants: usize,
     /// Whether each text that the attribute may have counts as one of the values.
@@ -127,7 +127,7 @@ fn gather_cells(alloc: Global, rules: &TableRules<'_>, attr: usize) -> Result<Ga
     ensures { IfOk result (λ found. found ≡ record { values = once_after [] (flat_map constants_of (cells_at rules.now attr)); other = list_any is_set (cells_at rules.now attr) }) }
 {
     let mut found = Gathered {
-        values: Pool::new(alloc),
+        values: ValueList::new(alloc),
         other: false,
     };
     found.add_cells_at(rules, attr)?;
@@ -138,8 +138,8 @@ fn gather_values(alloc: Global, values: &[Text]) -> Result<Gathered, AllocError>
     requires { AreDistinct values.now }
     ensures { IfOk result (λ found. found ≡ record { values = values.now; other = false }) }
 {
-    let mut found = Pool::new(alloc);
-    intern_all(&mut found, values)?;
+    let mut found = ValueList::new(alloc);
+    add_all(&mut found, values)?;
     Ok(Gathered {
         values: found,
         other: false,
@@ -153,11 +153,11 @@ fn is_finite(domain: &Domain) -> bool
 }
 
 /// Appends the texts that are new.
-fn intern_all(values: &mut Pool, texts: &[Text]) -> Result<(), AllocError>
+fn add_all(values: &mut ValueList, texts: &[Text]) -> Result<(), AllocError>
     ensures { OnOk result (values.new ≡ once_after values.old texts.now) }
 {
     for text in texts {
-        values.intern(text.as_str())?;
+        values.add(text.as_str())?;
     }
     Ok(())
 }
@@ -165,7 +165,7 @@ fn intern_all(values: &mut Pool, texts: &[Text]) -> Result<(), AllocError>
 /// What cells ask of an attribute: the constants that they name, and whether one is a set or a complement.
 #[derive(Drop)]
 struct Gathered {
-    values: Pool,
+    values: ValueList,
     other: bool,
 }
 
@@ -177,7 +177,7 @@ impl Gathered {
     {
         if self.other {
             let other = fresh_past(alloc, 0, &self.values)?;
-            self.values.intern(other.as_str())?;
+            self.values.add(other.as_str())?;
         }
         Ok(())
     }
@@ -225,10 +225,10 @@ impl Gathered {
     {
         match cell {
             Pattern::Any => Ok(()),
-            Pattern::Is(value) => intern_all(&mut self.values, slice::from_ref(value)),
+            Pattern::Is(value) => add_all(&mut self.values, slice::from_ref(value)),
             Pattern::In(values) | Pattern::NotIn(values) => {
                 self.other = true;
-                intern_all(&mut self.values, values.as_slice())
+                add_all(&mut self.values, values.as_slice())
             }
         }
     }

@@ -9,19 +9,18 @@ ghost use Rattle.cert_text.specs.Written.{IsOfKind, IsCellOf, IsVarOf};
 ghost use Rattle.cert_check.specs.Names.{attr_cells, attr_vars, named_cell, value_vars};
 ghost use Rattle.cert_text.specs.declared.answers.Kind.TheVariants.{Implication};
 
-use cell_values::Which;
+use cell_values::{ValueList, Which};
 use cert_text::answers::Kind;
 use cert_text::{push_cell, push_equality, push_value};
 use schema_core::Text;
 use std::alloc::AllocError;
-use value_pool::Pool;
 
 fn push_value_var(
     out: &mut Vec<u8>,
     kind: Kind,
     tuple: Which,
     attr: &Text,
-    values: &Pool,
+    values: &ValueList,
     place: usize,
 ) -> Result<(), AllocError>
     requires kind { IsOfKind kind tuple }
@@ -30,13 +29,13 @@ fn push_value_var(
     ensures text { OnOk result (out.new.items ≡ out.old.items ++ line_text (option_map_or var_parts (slice_get (value_vars tuple attr.now values.now) place) [])) }
     ensures fit { IfSome (slice_get (value_vars tuple attr.now values.now) place) (IsVarOf kind) }
 {
-    push_value(out, tuple, attr, values.text_at(place))
+    push_value(out, tuple, attr, values.get(place))
 }
 
 fn push_pair_var(
     out: &mut Vec<u8>,
     attr: &Text,
-    values: &Pool,
+    values: &ValueList,
     place: usize,
 ) -> Result<(), AllocError>
     requires attr { IsName attr.now }
@@ -68,7 +67,7 @@ pub fn push_var_at(
     out: &mut Vec<u8>,
     kind: Kind,
     attr: &Text,
-    values: &Pool,
+    values: &ValueList,
     place: usize,
 ) -> Result<(), AllocError>
     requires attr { IsName attr.now }
@@ -85,7 +84,7 @@ pub fn push_var_at(
 fn push_pair_cell(
     out: &mut Vec<u8>,
     attr: &Text,
-    values: &Pool,
+    values: &ValueList,
     place: usize,
 ) -> Result<(), AllocError>
     requires attr { IsName attr.now }
@@ -107,7 +106,7 @@ pub fn push_cell_at(
     out: &mut Vec<u8>,
     kind: Kind,
     attr: &Text,
-    values: &Pool,
+    values: &ValueList,
     place: usize,
 ) -> Result<(), AllocError>
     requires attr { IsName attr.now }

@@ -7,11 +7,10 @@ ghost use Rattle.cert_check.specs.Names.{cell_name, value_vars, attr_vars, value
 ghost use Rattle.cert_text.specs.declared.answers.Kind.TheVariants.{Implication};
 ghost use Rattle.cell_values.specs.declared.which.Which.{Which as AnyTuple};
 
-use cell_values::Which;
+use cell_values::{ValueList, Which};
 use cert_text::answers::Kind;
 use cert_text::{CellName, VarName};
 use schema_core::Text;
-use value_pool::Pool;
 
 fn same_tuple(one: Which, other: Which) -> bool
     ensures { result ≡ same_tuple one other }
@@ -30,17 +29,17 @@ fn is_named(cell: &CellName, tuple: Which, attr: &Text) -> bool
 }
 
 /// The place of a text, or the number of texts where it isn't there.
-fn text_place(values: &Pool, text: &Text) -> usize
+fn text_place(values: &ValueList, text: &Text) -> usize
     ensures { result ≡ position_or_len (bytes_eq text.now) values.now }
 {
     match values.find(text.as_str()) {
-        Some(place) => place as usize,
+        Some(place) => place,
         None => values.len(),
     }
 }
 
 /// The place of a variable among those of the values of an attribute in a tuple.
-fn value_place(tuple: Which, attr: &Text, values: &Pool, name: &VarName) -> usize
+fn value_place(tuple: Which, attr: &Text, values: &ValueList, name: &VarName) -> usize
     ensures { result ≡ position_or_len (same_var name.now) (value_vars tuple attr.now values.now) }
 {
     match name {
@@ -66,7 +65,7 @@ fn is_equality(name: &VarName, attr: &Text) -> bool
 }
 
 /// The place of a variable among those of an attribute over two tuples.
-fn pair_place(attr: &Text, values: &Pool, name: &VarName) -> usize
+fn pair_place(attr: &Text, values: &ValueList, name: &VarName) -> usize
     requires { 1 + 2 * length values.now < 2 ^ 64 }
     ensures { result ≡ position_or_len (same_var name.now) (attr_vars Implication attr.now values.now) }
 {
@@ -82,7 +81,7 @@ fn pair_place(attr: &Text, values: &Pool, name: &VarName) -> usize
 }
 
 /// The place of a variable among those of an attribute, or their number.
-pub fn var_place(kind: Kind, attr: &Text, values: &Pool, name: &VarName) -> usize
+pub fn var_place(kind: Kind, attr: &Text, values: &ValueList, name: &VarName) -> usize
     requires { 1 + 2 * length values.now < 2 ^ 64 }
     ensures { result ≡ position_or_len (same_var name.now) (attr_vars kind attr.now values.now) }
 {
@@ -93,7 +92,7 @@ pub fn var_place(kind: Kind, attr: &Text, values: &Pool, name: &VarName) -> usiz
 }
 
 /// How many variables an attribute has.
-pub fn var_count(kind: Kind, values: &Pool) -> usize
+pub fn var_count(kind: Kind, values: &ValueList) -> usize
     requires { 1 + 2 * length values.now < 2 ^ 64 }
     ensures { (attr : List ℕ) → result ≡ length (attr_vars kind attr values.now) }
 {
@@ -104,7 +103,7 @@ pub fn var_count(kind: Kind, values: &Pool) -> usize
 }
 
 /// How many cells the values of an attribute in a tuple are.
-fn value_cell_count(values: &Pool) -> usize
+fn value_cell_count(values: &ValueList) -> usize
     ensures count { (tuple : AnyTuple) (attr : List ℕ) → result ≡ length (value_cells tuple attr values.now) }
     ensures few { result ≤ 1 }
 {
@@ -112,7 +111,7 @@ fn value_cell_count(values: &Pool) -> usize
 }
 
 /// The place of a cell among those of the values of an attribute in a tuple.
-fn value_cell_place(tuple: Which, attr: &Text, values: &Pool, name: &CellName) -> usize
+fn value_cell_place(tuple: Which, attr: &Text, values: &ValueList, name: &CellName) -> usize
     ensures place { result ≡ position_or_len (is_cell name.now) (value_cells tuple attr.now values.now) }
     ensures few { result ≤ 1 }
 {
@@ -124,7 +123,7 @@ fn value_cell_place(tuple: Which, attr: &Text, values: &Pool, name: &CellName) -
 }
 
 /// The place of a cell among those of an attribute over two tuples.
-fn pair_cell_place(attr: &Text, values: &Pool, name: &CellName) -> usize
+fn pair_cell_place(attr: &Text, values: &ValueList, name: &CellName) -> usize
     ensures place { result ≡ position_or_len (is_cell name.now) (attr_cells Implication attr.now values.now) }
     ensures few { result ≤ 3 }
 {
@@ -137,7 +136,7 @@ fn pair_cell_place(attr: &Text, values: &Pool, name: &CellName) -> usize
 }
 
 /// The place of a cell among those of an attribute, or their number.
-pub fn cell_place(kind: Kind, attr: &Text, values: &Pool, name: &CellName) -> usize
+pub fn cell_place(kind: Kind, attr: &Text, values: &ValueList, name: &CellName) -> usize
     ensures place { result ≡ position_or_len (is_cell name.now) (attr_cells kind attr.now values.now) }
     ensures few { result ≤ 3 }
 {
@@ -148,7 +147,7 @@ pub fn cell_place(kind: Kind, attr: &Text, values: &Pool, name: &CellName) -> us
 }
 
 /// How many cells an attribute has.
-pub fn cell_count(kind: Kind, values: &Pool) -> usize
+pub fn cell_count(kind: Kind, values: &ValueList) -> usize
     ensures count { (attr : List ℕ) → result ≡ length (attr_cells kind attr values.now) }
     ensures few { result ≤ 3 }
 {

@@ -6,4 +6,4 @@ mod program;
 
 pub use cli_output::Status;
 pub use program::{run, run_counted, run_in, run_with};
-pub use project_files::Room;
+pub use project_files::Caller;

@@ -10,7 +10,7 @@ use cli_output::{Status, end_with};
 use find_form::find_project;
 use hash_keys::HashKeys;
 use probe_steps::Steps;
-use project_files::Room;
+use project_files::Caller;
 use project_forms::{desk_project, generate_project, report_project, run_project};
 use rule_forms::{check_project, consistent_project, cover_project, implies_project};
 use schema_core::{Limits, Texts};
@@ -55,15 +55,15 @@ pub fn run_with<S: Shelf, O: Sink>(
     // Where nothing is to be fetched, as for `generate`, no failed fetch is told.
     ensures unread { (task_of limits words.now).most_fetches ≡ 0 → result ≢ Status.ReadFault }
 {
-    let mut room = Room::new(HashKeys::fixed());
-    run_in(alloc, &mut room, words, shelf, out, limits)
+    let caller = Caller::staying(HashKeys::fixed());
+    run_in(alloc, caller, words, shelf, out, limits)
 }
 
-/// The same in a room, whose keys are those of the hash by which the texts of tables are looked up. What is written
+/// The same for a caller, whose keys are those of the hash by which the texts of tables are looked up. What is written
 /// doesn't depend on them.
 pub fn run_in<S: Shelf, O: Sink>(
     alloc: Global,
-    room: &mut Room,
+    caller: Caller,
     words: &Texts,
     shelf: &mut S,
     out: &mut O,
@@ -75,13 +75,13 @@ pub fn run_in<S: Shelf, O: Sink>(
     ensures devices { UsesDevices limits (task_of limits words.now) result (S.told shelf.old) (S.told shelf.new) (O.told out.old) (O.told out.new) }
     ensures unread { (task_of limits words.now).most_fetches ≡ 0 → result ≢ Status.ReadFault }
 {
-    run_opened::<S, O, Brand>(alloc, room, words, shelf, out, &limits, Blank::new(1))
+    run_opened::<S, O, Brand>(alloc, caller, words, shelf, out, &limits, Blank::new(1))
 }
 
 /// The same, with a counter that is opened for this call. It takes no bytes, and nothing reads it.
 fn run_opened<S: Shelf, O: Sink, L: Ledger>(
     alloc: Global,
-    room: &mut Room,
+    caller: Caller,
     words: &Texts,
     shelf: &mut S,
     out: &mut O,
@@ -98,13 +98,13 @@ fn run_opened<S: Shelf, O: Sink, L: Ledger>(
     ensures unread { (task_of limits.now words.now).most_fetches ≡ 0 → result ≢ Status.ReadFault }
 {
     let mut steps = Steps::<L>::open(blank);
-    run_counted(alloc, room, words, shelf, out, limits, &mut steps)
+    run_counted(alloc, caller, words, shelf, out, limits, &mut steps)
 }
 
 /// The same, with the counter of index probes of the caller.
 pub fn run_counted<S: Shelf, O: Sink, L: Ledger>(
     alloc: Global,
-    room: &mut Room,
+    caller: Caller,
     words: &Texts,
     shelf: &mut S,
     out: &mut O,
@@ -123,7 +123,7 @@ pub fn run_counted<S: Shelf, O: Sink, L: Ledger>(
 {
     match form_of(alloc, words.as_slice()) {
         Ok(None) => end_with(out, USAGE.as_bytes(), Status::Usage),
-        Ok(Some(form)) => answer(alloc, room, &form, shelf, out, limits, steps),
+        Ok(Some(form)) => answer(alloc, caller, &form, shelf, out, limits, steps),
         Err(AllocError) => Status::Memory,
     }
 }
@@ -131,7 +131,7 @@ pub fn run_counted<S: Shelf, O: Sink, L: Ledger>(
 /// Does what a form asks for.
 fn answer<S: Shelf, O: Sink, L: Ledger>(
     alloc: Global,
-    room: &mut Room,
+    caller: Caller,
     form: &Form,
     shelf: &mut S,
     out: &mut O,
@@ -145,10 +145,12 @@ fn answer<S: Shelf, O: Sink, L: Ledger>(
     ensures unread { (form_task limits.now (Some form.now)).most_fetches ≡ 0 → result ≢ Status.ReadFault }
     ensures probes { IsWhole result → Writes (Output limits.now (counted_form_task steps.old steps.new limits.now (Some form.now)) (S.told shelf.old).holding) result (O.told out.old).written (O.told out.new).written }
 {
-    let keys = room.keys();
+    let keys = caller.keys();
     match form {
-        Form::Run { project } => run_project(alloc, room, project, shelf, out, limits, steps),
-        Form::Report { project } => report_project(alloc, room, project, shelf, out, limits, steps),
+        Form::Run { project } => run_project(alloc, caller, project, shelf, out, limits, steps),
+        Form::Report { project } => report_project(
+            alloc, caller, project, shelf, out, limits, steps,
+        ),
         Form::Consistent {
             project,
             table,
@@ -182,7 +184,7 @@ fn answer<S: Shelf, O: Sink, L: Ledger>(
             limits,
         ),
         Form::Desk { project, events } => {
-            desk_project(alloc, room, project, events, shelf, out, limits, steps)
+            desk_project(alloc, caller, project, events, shelf, out, limits, steps)
         }
         Form::Generate { seed } => generate_project(alloc, *seed, out, steps),
     }

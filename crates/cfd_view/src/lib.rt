@@ -6,5 +6,5 @@ mod program;
 
 pub use cli_output::Status;
 pub use program::{run, run_in, run_with};
-pub use project_files::Room;
+pub use project_files::Caller;
 pub use view_words::fault_text;

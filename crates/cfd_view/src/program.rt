@@ -7,7 +7,7 @@ ghost use Rattle.cfd_view.specs.Asked.{asked_task, form_task, help_task, task_of
 use cli_output::{Status, end_with};
 use hash_keys::HashKeys;
 use probe_steps::Steps;
-use project_files::Room;
+use project_files::Caller;
 use schema_core::{Limits, Texts};
 use shelf_io::{Shelf, Sink};
 use std::alloc::{AllocError, Global};
@@ -46,15 +46,15 @@ pub fn run_with<S: Shelf, O: Sink>(
     // a fault is told only where a device counted one.
     ensures devices { UsesDevices limits (task_of limits words.now) result (S.told shelf.old) (S.told shelf.new) (O.told out.old) (O.told out.new) }
 {
-    let mut room = Room::new(HashKeys::fixed());
-    run_in(alloc, &mut room, words, shelf, out, limits)
+    let caller = Caller::staying(HashKeys::fixed());
+    run_in(alloc, caller, words, shelf, out, limits)
 }
 
-/// The same in a room, whose keys are those of the hash by which the texts of tables are looked up. What is written
+/// The same for a caller, whose keys are those of the hash by which the texts of tables are looked up. What is written
 /// doesn't depend on them.
 pub fn run_in<S: Shelf, O: Sink>(
     alloc: Global,
-    room: &mut Room,
+    caller: Caller,
     words: &Texts,
     shelf: &mut S,
     out: &mut O,
@@ -64,13 +64,13 @@ pub fn run_in<S: Shelf, O: Sink>(
     ensures written { Writes (Output limits (task_of limits words.now) (S.told shelf.old).holding) result (O.told out.old).written (O.told out.new).written }
     ensures devices { UsesDevices limits (task_of limits words.now) result (S.told shelf.old) (S.told shelf.new) (O.told out.old) (O.told out.new) }
 {
-    run_opened::<S, O, Brand>(alloc, room, words, shelf, out, &limits, Blank::new(1))
+    run_opened::<S, O, Brand>(alloc, caller, words, shelf, out, &limits, Blank::new(1))
 }
 
 /// The same, with a counter of index probes that is opened for this call. It takes no bytes, and nothing reads it.
 fn run_opened<S: Shelf, O: Sink, L: Ledger>(
     alloc: Global,
-    room: &mut Room,
+    caller: Caller,
     words: &Texts,
     shelf: &mut S,
     out: &mut O,
@@ -85,13 +85,13 @@ fn run_opened<S: Shelf, O: Sink, L: Ledger>(
     ensures devices { UsesDevices limits.now (task_of limits.now words.now) result (S.told shelf.old) (S.told shelf.new) (O.told out.old) (O.told out.new) }
 {
     let mut steps = Steps::<L>::open(blank);
-    run_counted(alloc, room, words, shelf, out, limits, &mut steps)
+    run_counted(alloc, caller, words, shelf, out, limits, &mut steps)
 }
 
 /// The same, with a counter of the caller.
 fn run_counted<S: Shelf, O: Sink, L: Ledger>(
     alloc: Global,
-    room: &mut Room,
+    caller: Caller,
     words: &Texts,
     shelf: &mut S,
     out: &mut O,
@@ -103,7 +103,7 @@ fn run_counted<S: Shelf, O: Sink, L: Ledger>(
     ensures devices { UsesDevices limits.now (task_of limits.now words.now) result (S.told shelf.old) (S.told shelf.new) (O.told out.old) (O.told out.new) }
 {
     match asked_of(alloc, words.as_slice()) {
-        Ok(asked) => answer(alloc, room, words, &asked, shelf, out, limits, steps),
+        Ok(asked) => answer(alloc, caller, words, &asked, shelf, out, limits, steps),
         Err(AllocError) => Status::Memory,
     }
 }
@@ -111,7 +111,7 @@ fn run_counted<S: Shelf, O: Sink, L: Ledger>(
 /// Does what was asked for by the words.
 fn answer<S: Shelf, O: Sink, L: Ledger>(
     alloc: Global,
-    room: &mut Room,
+    caller: Caller,
     words: &Texts,
     asked: &Asked,
     shelf: &mut S,
@@ -124,7 +124,7 @@ fn answer<S: Shelf, O: Sink, L: Ledger>(
     ensures devices { UsesDevices limits.now (asked_task limits.now asked.now) result (S.told shelf.old) (S.told shelf.new) (O.told out.old) (O.told out.new) }
 {
     match asked {
-        Asked::Form(form) => answer_form(alloc, room, form, shelf, out, limits, steps),
+        Asked::Form(form) => answer_form(alloc, caller, form, shelf, out, limits, steps),
         Asked::Help => help(alloc, words, shelf, out, limits),
         Asked::Nothing => Status::Usage,
     }
@@ -132,7 +132,7 @@ fn answer<S: Shelf, O: Sink, L: Ledger>(
 
 fn answer_form<S: Shelf, O: Sink, L: Ledger>(
     alloc: Global,
-    room: &mut Room,
+    caller: Caller,
     form: &Form,
     shelf: &mut S,
     out: &mut O,
@@ -145,22 +145,24 @@ fn answer_form<S: Shelf, O: Sink, L: Ledger>(
 {
     match form {
         Form::List(options) => {
-            show_project::<ListForm, S, O, L>(alloc, room, options, shelf, out, limits, steps)
+            show_project::<ListForm, S, O, L>(alloc, caller, options, shelf, out, limits, steps)
         }
         Form::Row(options) => {
-            show_project::<RowForm, S, O, L>(alloc, room, options, shelf, out, limits, steps)
+            show_project::<RowForm, S, O, L>(alloc, caller, options, shelf, out, limits, steps)
         }
-        Form::Check { project } => look_at_project(alloc, room, project, shelf, out, limits, steps),
+        Form::Check { project } => look_at_project(
+            alloc, caller, project, shelf, out, limits, steps,
+        ),
         Form::Schema { files } => draft_schema(
             alloc,
-            room.keys(),
+            caller.keys(),
             files.as_slice(),
             shelf,
             out,
             limits,
         ),
         Form::Page(options) => {
-            show_project::<PageForm, S, O, L>(alloc, room, options, shelf, out, limits, steps)
+            show_project::<PageForm, S, O, L>(alloc, caller, options, shelf, out, limits, steps)
         }
     }
 }

@@ -3,13 +3,12 @@
 #![tactic(auto)]
 
 use buffered_sink::BufferedSink;
-use cfd_cli::{Room, Status, run_in};
+use cfd_cli::{Caller, Status, run_in};
 use hash_keys::HashKeys;
 use shelf_io::{FolderShelf, PutFailed, Sink, StdSink};
 use std::alloc::AllocError;
 use std::env;
 use std::io::ErrorKind;
-use std::mem::forget;
 use std::process::ExitCode;
 use std::rt::{Env, Files};
 use text_lists::{Limits, List, Text, Texts};
@@ -56,12 +55,11 @@ fn main(rt: HostRuntime) -> ExitCode {
         Ok(words) => {
             let mut shelf = FolderShelf::new(alloc, rt);
             let mut out = BufferedSink::new(alloc, StdSink::new(rt));
-            let mut room = Room::new(HashKeys::drawn(&rt));
+            let caller = Caller::exiting(HashKeys::drawn(&rt));
             let limits = Limits::standard();
-            let status = run_in(alloc, &mut room, &words, &mut shelf, &mut out, limits);
+            let status = run_in(alloc, caller, &words, &mut shelf, &mut out, limits);
             let status = flushed(&mut out, status);
             tell(rt, status, &shelf);
-            forget(room);
             status
         }
         Err(AllocError) => Status::Memory,

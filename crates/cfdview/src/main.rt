@@ -5,12 +5,11 @@
 mod told_shelf;
 
 use crate::told_shelf::ToldShelf;
-use cfd_view::{Room, Status, fault_text, run_in};
+use cfd_view::{Caller, Status, fault_text, run_in};
 use hash_keys::HashKeys;
 use shelf_io::{FolderShelf, StdSink};
 use std::alloc::AllocError;
 use std::io::ErrorKind;
-use std::mem::forget;
 use std::process::ExitCode;
 use std::rt::{Env, Files};
 use std::{env, io};
@@ -59,11 +58,10 @@ fn main(rt: HostRuntime) -> ExitCode {
         Ok(words) => {
             let mut shelf = ToldShelf::new(FolderShelf::new(alloc, rt), rt);
             let mut out = StdSink::new(rt);
-            let mut room = Room::new(HashKeys::drawn(&rt));
+            let caller = Caller::exiting(HashKeys::drawn(&rt));
             let limits = Limits::standard();
-            let status = run_in(alloc, &mut room, &words, &mut shelf, &mut out, limits);
+            let status = run_in(alloc, caller, &words, &mut shelf, &mut out, limits);
             tell(rt, &words, status, shelf.within());
-            forget(room);
             status
         }
         Err(AllocError) => Status::Memory,

@@ -16,7 +16,7 @@ use cli_output::{
 use desk::{Desk, DeskFault, Event, EventCause, EventFault, parse_events, serve_desk};
 use hash_keys::HashKeys;
 use probe_steps::Steps;
-use project_files::{Room, fetch_bench};
+use project_files::{Caller, fetch_bench, release};
 use schema_core::{Limits, List, Text};
 use shelf_io::{Shelf, Sink};
 use std::alloc::Global;
@@ -32,7 +32,7 @@ pub struct DeskFiles {
 /// Answers the events of a file over the tables of a project.
 pub fn desk_project<S: Shelf, O: Sink, L: Ledger>(
     alloc: Global,
-    room: &mut Room,
+    caller: Caller,
     project: &Text,
     events: &Text,
     shelf: &mut S,
@@ -48,11 +48,11 @@ pub fn desk_project<S: Shelf, O: Sink, L: Ledger>(
     ensures probes { IsWhole result → Writes (Output limits.now (counted_desk_task steps.old steps.new limits.now project.now events.now) (S.told shelf.old).holding) result (O.told out.old).written (O.told out.new).written }
 {
     let mut left = limits.all_bytes;
-    let keys = room.keys();
+    let keys = caller.keys();
     match fetch_desk(
         alloc, keys, shelf, project, events, limits, &mut left, steps,
     ) {
-        Ok(files) => answer(alloc, room, files, out, limits.last_id, steps),
+        Ok(files) => answer(alloc, caller, files, out, limits.last_id, steps),
         Err(stop) => end_by(alloc, &stop, out),
     }
 }
@@ -118,10 +118,10 @@ fn flaw_of(cause: EventCause) -> LineFlaw
     }
 }
 
-/// Answers the events at a desk that is opened for them, and leaves its bench in the room.
+/// Answers the events at a desk that is opened for them, and gives up its bench.
 fn answer<O: Sink, L: Ledger>(
     alloc: Global,
-    room: &mut Room,
+    caller: Caller,
     files: DeskFiles,
     out: &mut O,
     last: u64,
@@ -134,7 +134,7 @@ fn answer<O: Sink, L: Ledger>(
     let DeskFiles { bench, events } = files;
     let mut desk = Desk::open(alloc, bench, last);
     let status = answer_events(alloc, &mut desk, &events, out, steps);
-    room.keep(desk.into_bench());
+    release(caller, desk.into_bench());
     status
 }
 

@@ -10,7 +10,7 @@ use crate::run_form::status_of;
 use bench_core::Bench;
 use cli_output::{Status, end_by, end_with};
 use probe_steps::Steps;
-use project_files::{Project, Room, fetch_project};
+use project_files::{Caller, Project, fetch_project, release};
 use schema_core::{Limits, Text};
 use session::perform;
 use shelf_io::{Shelf, Sink};
@@ -21,7 +21,7 @@ use violation_report::json_report;
 /// Tells what the script of a project leads to.
 pub fn report_project<S: Shelf, O: Sink, L: Ledger>(
     alloc: Global,
-    room: &mut Room,
+    caller: Caller,
     project: &Text,
     shelf: &mut S,
     out: &mut O,
@@ -37,8 +37,16 @@ pub fn report_project<S: Shelf, O: Sink, L: Ledger>(
     ensures probes { IsWhole result → Writes (Output limits.now (counted_report_task steps.old steps.new limits.now project.now) (S.told shelf.old).holding) result (O.told out.old).written (O.told out.new).written }
 {
     let mut left = limits.all_bytes;
-    match fetch_project(alloc, room.keys(), shelf, project, limits, &mut left, steps) {
-        Ok(project) => report(alloc, room, project, out, steps),
+    match fetch_project(
+        alloc,
+        caller.keys(),
+        shelf,
+        project,
+        limits,
+        &mut left,
+        steps,
+    ) {
+        Ok(project) => report(alloc, caller, project, out, steps),
         Err(stop) => end_by(alloc, &stop, out),
     }
 }
@@ -46,7 +54,7 @@ pub fn report_project<S: Shelf, O: Sink, L: Ledger>(
 /// Answers the script with no one listening, and tells the list of its last state.
 fn report<O: Sink, L: Ledger>(
     alloc: Global,
-    room: &mut Room,
+    caller: Caller,
     project: Project,
     out: &mut O,
     steps: &mut Steps<L>,
@@ -61,7 +69,7 @@ fn report<O: Sink, L: Ledger>(
     match perform(alloc, &mut bench, &commands, steps) {
         Ok(()) => {
             let status = tell(alloc, &bench, out, steps);
-            room.keep(bench);
+            release(caller, bench);
             status
         }
         Err(AllocError) => Status::Memory,

@@ -10,7 +10,7 @@ ghost use Rattle.project_forms.specs.Transcripts.{found_status};
 use bench_core::Bench;
 use cli_output::{Status, end_by};
 use probe_steps::Steps;
-use project_files::{Project, Room, fetch_project};
+use project_files::{Caller, Project, fetch_project, release};
 use schema_core::{Limits, Text};
 use session::{ServeFault, serve};
 use shelf_io::{Shelf, Sink};
@@ -21,7 +21,7 @@ use violation_report::is_clean;
 /// Answers the script of a project.
 pub fn run_project<S: Shelf, O: Sink, L: Ledger>(
     alloc: Global,
-    room: &mut Room,
+    caller: Caller,
     project: &Text,
     shelf: &mut S,
     out: &mut O,
@@ -36,10 +36,18 @@ pub fn run_project<S: Shelf, O: Sink, L: Ledger>(
     ensures probes { IsWhole result → Writes (Output limits.now (counted_run_task steps.old steps.new limits.now project.now) (S.told shelf.old).holding) result (O.told out.old).written (O.told out.new).written }
 {
     let mut left = limits.all_bytes;
-    match fetch_project(alloc, room.keys(), shelf, project, limits, &mut left, steps) {
+    match fetch_project(
+        alloc,
+        caller.keys(),
+        shelf,
+        project,
+        limits,
+        &mut left,
+        steps,
+    ) {
         Ok(mut project) => {
             let status = answer(alloc, &mut project, out, steps);
-            room.keep(project.bench);
+            release(caller, project.bench);
             status
         }
         Err(stop) => end_by(alloc, &stop, out),

@@ -11,7 +11,7 @@ use crate::fetching::{Off, Seen, fetch_seen};
 use bench_core::Bench;
 use cli_output::{Status, Stop, end_by, end_with};
 use probe_steps::Steps;
-use project_files::{Project, Room};
+use project_files::{Caller, Project, release};
 use project_flaws::{Counts, told_on};
 use schema_core::{Limits, Text};
 use shelf_io::{Shelf, Sink};
@@ -21,11 +21,11 @@ use view_refusal::off_text;
 
 /// Tells what is off in a project before anything is asked: of each table how many rows were read, and what is odd in
 /// them, and what of the rules can't work; or why a file of the project is refused, its script among them, and what stands
-/// where the refusal points. The script isn't run. Values are looked up by a hash with the room's keys, and the
-/// bench is left in the room. Nothing reads the counter of index probes.
+/// where the refusal points. The script isn't run. Values are looked up by a hash with the caller's keys, and the
+/// bench is given up. Nothing reads the counter of index probes.
 pub fn look_at_project<S: Shelf, O: Sink, L: Ledger>(
     alloc: Global,
-    room: &mut Room,
+    caller: Caller,
     project: &Text,
     shelf: &mut S,
     out: &mut O,
@@ -37,15 +37,23 @@ pub fn look_at_project<S: Shelf, O: Sink, L: Ledger>(
     ensures devices { UsesDevices limits.now (check_task limits.now project.now) result (S.told shelf.old) (S.told shelf.new) (O.told out.old) (O.told out.new) }
 {
     let mut left = limits.all_bytes;
-    match fetch_seen(alloc, room.keys(), shelf, project, limits, &mut left, steps) {
-        Ok(seen) => answer(alloc, room, limits, seen, out),
+    match fetch_seen(
+        alloc,
+        caller.keys(),
+        shelf,
+        project,
+        limits,
+        &mut left,
+        steps,
+    ) {
+        Ok(seen) => answer(alloc, caller, limits, seen, out),
         Err(stop) => end_by(alloc, &stop, out),
     }
 }
 
 fn answer<O: Sink>(
     alloc: Global,
-    room: &mut Room,
+    caller: Caller,
     limits: &Limits,
     seen: Seen,
     out: &mut O,
@@ -53,7 +61,7 @@ fn answer<O: Sink>(
     ensures { Ends (check_outputs limits.now (seen_of seen)) result (O.told out.old) (O.told out.new) }
 {
     match seen {
-        Seen::Whole(project) => tell_whole(alloc, room, project, out),
+        Seen::Whole(project) => tell_whole(alloc, caller, project, out),
         Seen::Off(off) => tell_off(alloc, limits, &off, out),
     }
 }
@@ -67,11 +75,11 @@ fn tell_off<O: Sink>(alloc: Global, limits: &Limits, off: &Off, out: &mut O) -> 
     }
 }
 
-fn tell_whole<O: Sink>(alloc: Global, room: &mut Room, project: Project, out: &mut O) -> Status
+fn tell_whole<O: Sink>(alloc: Global, caller: Caller, project: Project, out: &mut O) -> Status
     ensures { Ends (read_outputs (read_of project)) result (O.told out.old) (O.told out.new) }
 {
     let status = tell_bench(alloc, &project.bench, out);
-    room.keep(project.bench);
+    release(caller, project.bench);
     status
 }
 

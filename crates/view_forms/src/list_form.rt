@@ -9,7 +9,7 @@ ghost use Rattle.view_forms.specs.ListForm.{AreWantedSatisfied, list_of, list_ou
 
 use crate::told::{refused, status_of};
 use probe_steps::Steps;
-use project_files::{Project, Room};
+use project_files::{Caller, Project, release};
 use schema_core::Text;
 use std::alloc::{AllocError, Global};
 use std::sync::ledger::Ledger;
@@ -34,18 +34,18 @@ impl ProjectForm for ListForm {
 
     fn show<L: Ledger>(
         alloc: Global,
-        room: &mut Room,
+        caller: Caller,
         options: &ListOptions,
         project: Project,
         steps: &mut Steps<L>,
     ) -> Result<Shown, AllocError> {
-        list(alloc, room, options, project, steps)
+        list(alloc, caller, options, project, steps)
     }
 }
 
 fn list<L: Ledger>(
     alloc: Global,
-    room: &mut Room,
+    caller: Caller,
     options: &ListOptions,
     project: Project,
     steps: &mut Steps<L>,
@@ -55,7 +55,7 @@ fn list<L: Ledger>(
 {
     let looked = look(alloc, project, options.loaded, steps)?;
     let shown = list_shown(alloc, &looked, options, steps)?;
-    room.keep(looked.bench);
+    release(caller, looked.bench);
     Ok(shown)
 }
 

@@ -13,7 +13,7 @@ ghost use Rattle.view_forms.specs.RowForm.{AreReplies, questions, row_in, row_of
 use crate::told::{refused, status_of};
 use bench_core::Bench;
 use probe_steps::Steps;
-use project_files::{Project, Room};
+use project_files::{Caller, Project, release};
 use schema_core::{List, Text, Texts};
 use session::{Command, serve};
 use shelf_io::MemorySink;
@@ -45,18 +45,18 @@ impl ProjectForm for RowForm {
 
     fn show<L: Ledger>(
         alloc: Global,
-        room: &mut Room,
+        caller: Caller,
         options: &RowOptions,
         project: Project,
         steps: &mut Steps<L>,
     ) -> Result<Shown, AllocError> {
-        row(alloc, room, options, project, steps)
+        row(alloc, caller, options, project, steps)
     }
 }
 
 fn row<L: Ledger>(
     alloc: Global,
-    room: &mut Room,
+    caller: Caller,
     options: &RowOptions,
     project: Project,
     steps: &mut Steps<L>,
@@ -67,7 +67,7 @@ fn row<L: Ledger>(
     let looked = look(alloc, project, options.loaded, steps)?;
     let Looked { mut bench, counts } = looked;
     let shown = row_shown(alloc, &mut bench, counts.as_slice(), options, steps)?;
-    room.keep(bench);
+    release(caller, bench);
     Ok(shown)
 }
 

@@ -11,7 +11,7 @@ use bench_core::Bench;
 use cli_output::Status;
 use page_text::{Options, RowCounts, page_text};
 use probe_steps::Steps;
-use project_files::{Project, Room};
+use project_files::{Caller, Project, release};
 use std::alloc::{AllocError, Global};
 use std::sync::ledger::Ledger;
 use text_lists::{List, Text};
@@ -37,18 +37,18 @@ impl ProjectForm for PageForm {
 
     fn show<L: Ledger>(
         alloc: Global,
-        room: &mut Room,
+        caller: Caller,
         options: &PageOptions,
         project: Project,
         steps: &mut Steps<L>,
     ) -> Result<Shown, AllocError> {
-        page(alloc, room, options, project, steps)
+        page(alloc, caller, options, project, steps)
     }
 }
 
 fn page<L: Ledger>(
     alloc: Global,
-    room: &mut Room,
+    caller: Caller,
     options: &PageOptions,
     project: Project,
     steps: &mut Steps<L>,
@@ -68,7 +68,7 @@ fn page<L: Ledger>(
         checked.as_slice(),
         steps,
     )?;
-    room.keep(bench);
+    release(caller, bench);
     Ok(shown)
 }
 

@@ -9,7 +9,7 @@ ghost use Rattle.view_project.specs.ProjectTask.{project_task};
 use crate::shown::Shown;
 use cli_output::{Status, end_by, end_with};
 use probe_steps::Steps;
-use project_files::{Project, Room, fetch_project};
+use project_files::{Caller, Project, fetch_project};
 use schema_core::{Limits, Text};
 use shelf_io::{Shelf, Sink};
 use std::alloc::{AllocError, Global};
@@ -27,10 +27,10 @@ pub trait ProjectForm {
     fn project(options: &Self::Options) -> &Text
         ensures { result.now ≡ name options.now };
 
-    /// What is written for a project, whose bench is left in the room. Nothing reads the counter of index probes.
+    /// What is written for a project, whose bench is given up. Nothing reads the counter of index probes.
     fn show<L: Ledger>(
         alloc: Global,
-        room: &mut Room,
+        caller: Caller,
         options: &Self::Options,
         project: Project,
         steps: &mut Steps<L>,
@@ -39,10 +39,10 @@ pub trait ProjectForm {
         ensures whole { IfOk result (λ shown. IsWhole shown.status) };
 }
 
-/// Fetches a project, and writes what the form shows of it. Its texts are looked up by a hash with the room's keys.
+/// Fetches a project, and writes what the form shows of it. Its texts are looked up by a hash with the caller's keys.
 pub fn show_project<F: ProjectForm, S: Shelf, O: Sink, L: Ledger>(
     alloc: Global,
-    room: &mut Room,
+    caller: Caller,
     options: &F::Options,
     shelf: &mut S,
     out: &mut O,
@@ -55,7 +55,7 @@ pub fn show_project<F: ProjectForm, S: Shelf, O: Sink, L: Ledger>(
 {
     show_named::<F, S, O, L>(
         alloc,
-        room,
+        caller,
         options,
         F::project(options),
         shelf,
@@ -68,7 +68,7 @@ pub fn show_project<F: ProjectForm, S: Shelf, O: Sink, L: Ledger>(
 /// The same, with the name of the project.
 fn show_named<F: ProjectForm, S: Shelf, O: Sink, L: Ledger>(
     alloc: Global,
-    room: &mut Room,
+    caller: Caller,
     options: &F::Options,
     name: &Text,
     shelf: &mut S,
@@ -81,15 +81,15 @@ fn show_named<F: ProjectForm, S: Shelf, O: Sink, L: Ledger>(
     ensures devices { UsesDevices limits.now (project_task limits.now name.now (F.outputs options.now)) result (S.told shelf.old) (S.told shelf.new) (O.told out.old) (O.told out.new) }
 {
     let mut left = limits.all_bytes;
-    match fetch_project(alloc, room.keys(), shelf, name, limits, &mut left, steps) {
-        Ok(project) => show_fetched::<F, O, L>(alloc, room, options, project, out, steps),
+    match fetch_project(alloc, caller.keys(), shelf, name, limits, &mut left, steps) {
+        Ok(project) => show_fetched::<F, O, L>(alloc, caller, options, project, out, steps),
         Err(stop) => end_by(alloc, &stop, out),
     }
 }
 
 fn show_fetched<F: ProjectForm, O: Sink, L: Ledger>(
     alloc: Global,
-    room: &mut Room,
+    caller: Caller,
     options: &F::Options,
     project: Project,
     out: &mut O,
@@ -97,7 +97,7 @@ fn show_fetched<F: ProjectForm, O: Sink, L: Ledger>(
 ) -> Status
     ensures { Ends (F.outputs options.now (read_of project)) result (O.told out.old) (O.told out.new) }
 {
-    match F::show(alloc, room, options, project, steps) {
+    match F::show(alloc, caller, options, project, steps) {
         Ok(shown) => end_with(out, &shown.text, shown.status),
         Err(AllocError) => Status::Memory,
     }

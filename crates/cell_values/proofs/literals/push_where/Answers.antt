@@ -11,10 +11,10 @@ loop-place-preserved c =
     let test : List ℕ → Bool = matches_as c.args.matching c.args.cell.now in
     let values = c.args.values.now in
     let place = c.loop-place.place in
-    let text = c.text_at.result.now in
+    let text = c.get.result.now in
     let var = c.args.first + place in
     let within : place < length values = omega (arith, c.len-place-end.ensures.len, c.loop-place-test.true) in
-    let more = literals_where-more test true c.args.first values place text var within (get_or_from_slice_get values place text text c.text_at.ensures) refl in
+    let more = literals_where-more test true c.args.first values place text var within (get_or_from_slice_get values place text text c.get.ensures) refl in
     let front = literals_where test true c.args.first (take place values) in
     let here : List Literal = cond (test text) (literal var true ∷ []) [] in
     c.in_ok-push_if.ensures

@@ -9,8 +9,8 @@ made values = record { values = values; other = false }
 
 pub returns : goal.returns
 returns c =
-    let found : c.intern_all.new.values ≡ c.args.values.now =
-    c.in_ok-intern_all.ensures
+    let found : c.add_all.new.values ≡ c.args.values.now =
+    c.in_ok-add_all.ensures
     ∙ ap (λ (before : List (List ℕ)). once_after before c.args.values.now) c.new-found.ensures
     ∙ once_distinct [] c.args.values.now c.requires
     in

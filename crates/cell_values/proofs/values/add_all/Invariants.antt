@@ -1,6 +1,6 @@
 use Rattle.std.proofs.Common.{◌≡◌, drop}
 use Rattle.cell_values.specs.Values.{once_after}
-use Rattle.cell_values.proofs.values.intern_all.Given as goal
+use Rattle.cell_values.proofs.values.add_all.Given as goal
 
 -- what is left leads to the same
 abbrev pub invariant-loop-text : goal.invariant-loop-text
