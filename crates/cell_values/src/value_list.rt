@@ -1,6 +1,6 @@
 //! Distinct values in the order in which they came.
 
-ghost use Rattle.std.specs.Prelude.{◌≡◌, ◌<◌, [], length, IfSome, IfNone, OnOk};
+ghost use Rattle.std.specs.Prelude.{◌≡◌, ◌<◌, [], length, IfSome, IfNone, OnOk, OnErr};
 ghost use Rattle.value_pool.specs.Pool.{HasId, HaveOneId, Interns, IsNew};
 
 use hash_keys::HashKeys;
@@ -54,6 +54,7 @@ impl ValueList {
     /// Adds a value where it is new.
     pub fn add(&mut self, text: &str) -> Result<(), AllocError>
         ensures interned { OnOk result (Interns self.old text.now self.new) }
+        ensures err { OnErr result (self.new ≡ self.old) }
     {
         let None = self.find(text) else {
             return Ok(());
